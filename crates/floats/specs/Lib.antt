@@ -1,0 +1,3 @@
+-- What the contracts of `floats` cite.
+pub mod Binary64
+pub mod Number
