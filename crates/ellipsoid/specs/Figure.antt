@@ -2,7 +2,9 @@
 -- Each formula is a sequence of single roundings, in the order that it is written here.
 use Prim.Native.Nat.{ℕ, zero, suc}
 use mathlib.Core.List.{List, [], _∷_}
-use lib.ListN.{getD}
+use mathlib.Core.Bool.{Bool, false, cond}
+use lib.Dec.{leb}
+use lib.ListN.{getD, length}
 use lib.Ieee.{Float, nan}
 use Rattle.floats.specs.Binary64.{_⊕_, _⊖_, _⊗_, _⊘_, bits}
 use Rattle.floats.specs.Number.{squareOf}
@@ -52,6 +54,10 @@ noAxes = record { a = nan; rf = nan }
 abbrev pub axesOf : ℕ → Axes
 axesOf zero = noAxes
 axesOf (suc n) = getD table n noAxes
+
+-- whether the table has this number
+abbrev pub existsOf : ℕ → Bool
+existsOf n = cond (leb 1 n) (leb n (length table)) false
 
 unfoldable pub namedOf : ℕ → Ellipsoid
 namedOf n = ellipsoidOf (axesOf n .a) (axesOf n .rf)

@@ -4,7 +4,7 @@
 // The radii and the geocentric latitude take the sine (and cosine) of the latitude, not the latitude: a step that has the pair already does not work it
 // out again, and the numbers are those that the latitude itself would give. Used by geocart, cart, Molodensky, permtide and deformation.
 ghost use mathlib.Core.Path.{_≡_};
-ghost use Rattle.ellipsoid.specs.Figure.{ellipsoidOf, namedOf, wOf, primeVerticalOf, meridianOf, radiiOf, geocentricOf};
+ghost use Rattle.ellipsoid.specs.Figure.{ellipsoidOf, namedOf, existsOf, wOf, primeVerticalOf, meridianOf, radiiOf, geocentricOf};
 
 pub struct Ellipsoid {
     pub a: f64,
@@ -48,6 +48,13 @@ impl Ellipsoid {
             5 => Ellipsoid::new(6378245.0, 298.3),
             _ => Ellipsoid::new(0.0 / 0.0, 0.0 / 0.0),
         }
+    }
+
+    // Whether the table has this number.
+    pub fn exists(number: u32) -> bool
+        ensures { λ r. ⌜ r ≡ existsOf number ⌝ }
+    {
+        if 1 <= number { number <= 5 } else { false }
     }
 
     fn w(self, sinphi: f64) -> f64

@@ -11,7 +11,7 @@ use Rattle.hypot.specs.Hypot.{hypotOf}
 use Rattle.tuple.specs.declared.Tuple.{Tuple}
 use Rattle.ellipsoid.specs.declared.Ellipsoid.{Ellipsoid}
 use Rattle.ellipsoid.specs.Figure.{one, primeVerticalOf}
-use Rattle.geocart.specs.declared.Meridian.{Meridian}
+use Rattle.geocart.specs.declared.Legs.{Legs}
 
 -- ---- geographic to cartesian
 
@@ -44,7 +44,7 @@ poleHeightOf e Z = absOf Z ⊖ e .b
 
 -- A point of the meridian plane, p from the axis and Z above the equator, off the axis.
 -- phi_num and phi_denom: the latitude is the angle that they make
-unfoldable pub bowringOf : Ellipsoid → Float → Float → Meridian
+unfoldable pub bowringOf : Ellipsoid → Float → Float → Legs
 bowringOf e p Z =
     let T = Z ⊗ e .a ⊘ (p ⊗ e .b) in
     let c = one ⊘ sqrtOf (one ⊕ T ⊗ T) in
@@ -52,7 +52,7 @@ bowringOf e p Z =
     record { num = Z ⊕ e .eps ⊗ e .b ⊗ cubeOf s; denom = p ⊖ e .es ⊗ e .a ⊗ cubeOf c }
 
 -- the height, Bowring (1985)
-unfoldable pub bowringHeightOf : Ellipsoid → Float → Float → Meridian → Float
+unfoldable pub bowringHeightOf : Ellipsoid → Float → Float → Legs → Float
 bowringHeightOf e p Z m =
     let lenphi = hypotOf (m .num) (m .denom) in
     let sinphi = m .num ⊘ lenphi in

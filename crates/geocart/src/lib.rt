@@ -11,7 +11,7 @@ use tuple::Tuple;
 const FRAC_PI_2: f64 = 1.5707963267948966;
 
 // The legs of the latitude's angle: phi_num and phi_denom of the Rust.
-pub struct Meridian {
+pub struct Legs {
     pub num: f64,
     pub denom: f64,
 }
@@ -49,20 +49,20 @@ pub fn pole_height(ellps: Ellipsoid, z: f64) -> f64
     floats::abs(z) - ellps.b
 }
 
-fn bowring(ellps: Ellipsoid, p: f64, z: f64) -> Meridian
+fn bowring(ellps: Ellipsoid, p: f64, z: f64) -> Legs
     ensures { λ r. ⌜ r ≡ bowringOf ellps p z ⌝ }
 {
     let t = z * ellps.a / (p * ellps.b);
     let c = 1.0 / root::sqrt(1.0 + t * t);
     let s = c * t;
-    Meridian {
+    Legs {
         num: z + ellps.eps * ellps.b * floats::cube(s),
         denom: p - ellps.es * ellps.a * floats::cube(c),
     }
 }
 
 // Bowring (1985), as quoted by Burtch (2006): more accurate than h = p / cosphi - N.
-fn bowring_height(ellps: Ellipsoid, p: f64, z: f64, m: Meridian) -> f64
+fn bowring_height(ellps: Ellipsoid, p: f64, z: f64, m: Legs) -> f64
     ensures { λ r. ⌜ r ≡ bowringHeightOf ellps p z m ⌝ }
 {
     let lenphi = hypot::hypot(m.num, m.denom);

@@ -12,6 +12,12 @@ pub struct Tuple {
     pub t: f64,
 }
 
+// What a step makes of a tuple, and whether the step's count takes it in.
+pub struct Shifted {
+    pub tuple: Tuple,
+    pub counted: bool,
+}
+
 impl Tuple {
     pub fn nan() -> Self
         ensures { λ r. ⌜ r ≡ nanTuple ⌝ }
