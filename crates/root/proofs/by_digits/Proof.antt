@@ -44,16 +44,16 @@ loop-holds c =
     (omega arith, omega arith, small, omega arith, one)
 
 mul-r-2 : tie.Need-mul-r-2 Inv-loop μ-loop
-mul-r-2 c = omega (arith, small (c .before .loop .i) (c  .loop-test .taken))
+mul-r-2 c = omega (arith, small (c .before .loop .i) (c .loop-test .taken))
 
 mul-q : tie.Need-mul-q Inv-loop μ-loop
-mul-q c = omega (arith, small (c .before .loop .i) (c  .loop-test .taken))
+mul-q c = omega (arith, small (c .before .loop .i) (c .loop-test .taken))
 
 add-i : tie.Need-add-i Inv-loop μ-loop
 add-i c = omega arith
 
 mul-if1 : tie.Need-mul-if1 Inv-loop μ-loop
-mul-if1 c = omega (arith, small (c .before .loop .i) (c  .loop-test .taken))
+mul-if1 c = omega (arith, small (c .before .loop .i) (c .loop-test .taken))
 
 mul-r-3 : tie.Need-mul-r-3 Inv-loop μ-loop
 mul-r-3 c = omega (arith, small (c .before .before .loop .i) (c .before .loop-test .taken))
