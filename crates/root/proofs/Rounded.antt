@@ -8,12 +8,13 @@ use lib.IntN.{ℤ, pos, negsuc}
 use lib.Dec.{T, eqb, leb, ltb, leb→le, ltb→lt, nleb→lt, nltb→le}
 use lib.Pow.{pow-add, pow-pos, pow-mono, pow-lt, shl-lt}
 use lib.Ieee.{Float, nan, inf, fin, binary64, fits, ofBits, toBits, size, odd, up, down}
-use lib.Ieee.Bits.{ofBits-toBits}
+use lib.Ieee.Bits.{ofBits-toBits, ofBits-fits}
 use lib.Ieee.Digits.{size-lt, size-le, size-reaches, back}
 use lib.Ieee.Exact.{HasValue, odd-sign}
 use lib.Ieee.Fits.{down-pos, up-pos, odd-fits, and-l, and-r}
 use Rattle.root.specs.Sqrt.{CorrectRoot, RoundedRoot, sq, wholeRoot, nearestRoot, rootOf, sqrtOf}
 use Rattle.root.specs.Whole.{WholeRoot, NearestRoot}
+use Rattle.root.proofs.Patterns.{normal-value}
 use Rattle.root.proofs.Squares.{sq-one, sq-double, sq-lt, sq-scale, few, nearest-root}
 
 -- ---- from whole numbers to binary64: a root of 53 digits, scaled by 2 ^ k
@@ -33,6 +34,23 @@ scaled a k q r lo hi near value held =
       value = value;
       held = held;
     }
+
+-- the nearest root has 53 digits
+pub root-range : (a q : ℕ) → 4503599627370496 ≤ a → a < 18014398509481983 → NearestRoot (a * 4503599627370496) q → (4503599627370496 ≤ q) × (q < 9007199254740992)
+root-range a q lo hi near =
+    let l : 9007199254740992 < 2 * q + 1 = sq-lt 9007199254740992 (2 * q + 1) (omega (arith, near .below)) in
+    let h : 2 * q - 1 < 18014398509481983 = sq-lt (2 * q - 1) 18014398509481983 (omega (arith, near .above)) in
+    (omega arith, omega arith)
+
+-- so the pattern of q and k is a normal number's, and it is the rounded root
+pub put-rounded : (a k q : ℕ) → 4503599627370496 ≤ a → a < 18014398509481983 → k < 2000 → NearestRoot (a * 4503599627370496) q → RoundedRoot (a * 4503599627370496 * (2 ^ k * 2 ^ k)) (ofBits binary64 (k * 4503599627370496 + q))
+put-rounded a k q lo hi k-lt near =
+    let b : ℕ = k * 4503599627370496 + q in
+    let r = root-range a q lo hi near in
+    let d : 4503599627370496 + b % 4503599627370496 ≡ q = omega arith in
+    let f : b / 4503599627370496 - 1 ≡ k = omega arith in
+    let v : HasValue (ofBits binary64 b) false (q * 2 ^ k) (2 ^ 1074) = rw (d, f) at (normal-value b (omega arith) (omega arith)) in
+    scaled (a * 4503599627370496) k q (ofBits binary64 b) (omega arith) (omega arith) near v (ofBits-fits binary64 b)
 
 -- ---- the definitions on whole numbers
 

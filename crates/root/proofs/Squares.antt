@@ -59,56 +59,67 @@ pow-step a i =
     let g : a * (4 * (P * P)) ≡ 4 * (a * (P * P)) = mul-left-comm a 4 (P * P) in
     e ∙ f ∙ g
 
--- ---- the guess g, cut into h and l at 27 bits
-pub cut : (h l : ℕ) → (h * 134217728 + l) * (h * 134217728 + l) ≡ h * h * 18014398509481984 + (h * l * 268435456 + l * l)
+-- ---- the guess g, cut into h and l at 26 bits
+
+cut : (h l : ℕ) → (h * 67108864 + l) * (h * 67108864 + l) ≡ h * h * 4503599627370496 + (h * l * 134217728 + l * l)
 cut h l =
-    let s = sq-add (h * 134217728) l in
-    let p : h * 134217728 * (h * 134217728) ≡ h * h * 18014398509481984 = simp (mul-assoc, mul-comm, mul-left-comm) (omega arith) in
-    let q : h * 134217728 * l ≡ h * l * 134217728 = simp (mul-assoc, mul-comm, mul-left-comm) refl in
+    let s = sq-add (h * 67108864) l in
+    let p : h * 67108864 * (h * 67108864) ≡ h * h * 4503599627370496 = simp (mul-assoc, mul-comm, mul-left-comm) (omega arith) in
+    let q : h * 67108864 * l ≡ h * l * 67108864 = simp (mul-assoc, mul-comm, mul-left-comm) refl in
     omega arith
 
--- the residual: a * 2 ^ 52 - g² is x - y
-pub balance : (a g : ℕ) → 4 * (g / 134217728) * (g / 134217728) ≤ a → 2 * (g / 134217728) * (g % 134217728) ≤ (a - 4 * (g / 134217728) * (g / 134217728)) * 33554432 + 17179869184
-    → a * 4503599627370496 + (g % 134217728 * (g % 134217728) + 2305843009213693952)
-    ≡ g * g + ((a - 4 * (g / 134217728) * (g / 134217728)) * 33554432 + 17179869184 - 2 * (g / 134217728) * (g % 134217728)) * 134217728
-balance a g i j =
-    let h : ℕ = g / 134217728 in
-    let l : ℕ = g % 134217728 in
-    let e : h * 134217728 + l ≡ g = div-add-mod' g 134217728 in
-    let f : (h * 134217728 + l) * (h * 134217728 + l) ≡ g * g = ap (λ (z : ℕ). z * z) e in
-    let k = cut h l in
-    let m = mul-assoc 4 h h in
-    let n = mul-assoc 2 h l in
+-- the residual a * 2 ^ 52 - g² is v - 2 g, where d, w and v are what is left, step by step
+pub balance : (a g d w v : ℕ) → d + g / 67108864 * (g / 67108864) ≡ a
+    → w + 2 * (g / 67108864) * (g % 67108864) ≡ d * 67108864 + 17179869184
+    → v + (g % 67108864 * (g % 67108864) + 1152921504606846976) ≡ w * 67108864 + 2 * g
+    → a * 4503599627370496 + 2 * g ≡ g * g + v
+balance a g d w v i j k =
+    let h : ℕ = g / 67108864 in
+    let l : ℕ = g % 67108864 in
+    let e : h * 67108864 + l ≡ g = div-add-mod' g 67108864 in
+    let f : (h * 67108864 + l) * (h * 67108864 + l) ≡ g * g = ap (λ (z : ℕ). z * z) e in
+    let c = cut h l in
+    let m = mul-assoc 2 h l in
     omega arith
+
+-- the guess moved by at most one
+pub pick : (n g v u d : ℕ) → 3 ≤ g → n + 2 * g ≡ g * g + v → v < 4 * g
+    → ((u ≡ 1) × (3 * g < v)) ⊎ ((u ≡ 0) × (v ≤ 3 * g)) → ((d ≡ 1) × (v ≤ g)) ⊎ ((d ≡ 0) × (g < v)) → NearestRoot n (g + u - d)
+pick n g v u d three e lt (inl p) (inl q) = absurd (omega arith)
+pick n g v u d three e lt (inl p) (inr q) =
+    let r : g + 1 ≡ g + u - d = omega arith in
+    let f = sq-one g in
+    subst (NearestRoot n) r (nearest-root n (g + 1) (omega arith) (omega arith) (omega arith))
+pick n g v u d three e lt (inr p) (inl q) =
+    let r : g - 1 ≡ g + u - d = omega arith in
+    let k : g - 1 + 1 ≡ g = omega arith in
+    let o : (g - 1 + 1) * (g - 1 + 1) ≡ g * g = ap (λ (z : ℕ). z * z) k in
+    let f = sq-one (g - 1) in
+    subst (NearestRoot n) r (nearest-root n (g - 1) (omega arith) (omega arith) (omega arith))
+pick n g v u d three e lt (inr p) (inr q) =
+    let r : g ≡ g + u - d = omega arith in
+    subst (NearestRoot n) r (nearest-root n g (omega arith) (omega arith) (omega arith))
 
 -- ---- scaled by a power of two
 pub sq-scale : (x y : ℕ) → (x * y) * (x * y) ≡ x * x * (y * y)
 sq-scale x y = simp (mul-assoc, mul-comm, mul-left-comm) refl
 
-pub pow-bit : (o : ℕ) → o < 2 → 2 ^ o ≡ o + 1
+pow-bit : (o : ℕ) → o < 2 → 2 ^ o ≡ o + 1
 pow-bit zero h = refl
 pow-bit (suc zero) h = refl
 pow-bit (suc (suc o)) h = absurd (omega arith)
 
-pub spread : (m o k : ℕ) → o < 2 → m * 2 ^ (52 + (o + (k + k))) ≡ m * (o + 1) * 4503599627370496 * (2 ^ k * 2 ^ k)
-spread m o k h =
+-- p is 52, a bit and an even number
+pub spread : (m p : ℕ) → 52 ≤ p → m * 2 ^ p ≡ m * (p % 2 + 1) * 4503599627370496 * (2 ^ ((p - 52) / 2) * 2 ^ ((p - 52) / 2))
+spread m p h =
+    let o : ℕ = p % 2 in
+    let k : ℕ = (p - 52) / 2 in
+    let d : p ≡ 52 + (o + (k + k)) = omega arith in
     let e : 2 ^ (52 + (o + (k + k))) ≡ 2 ^ 52 * (2 ^ o * (2 ^ k * 2 ^ k)) = pow-add 2 52 (o + (k + k)) ∙ ap (λ (z : ℕ). 2 ^ 52 * z) (pow-add 2 o (k + k) ∙ ap (λ (z : ℕ). 2 ^ o * z) (pow-add 2 k k)) in
-    let f : m * 2 ^ (52 + (o + (k + k))) ≡ m * (2 ^ 52 * ((o + 1) * (2 ^ k * 2 ^ k))) = ap (λ (z : ℕ). m * z) e ∙ ap (λ (z : ℕ). m * (2 ^ 52 * (z * (2 ^ k * 2 ^ k)))) (pow-bit o h) in
-    f ∙ regroup m 4503599627370496 (o + 1) (2 ^ k * 2 ^ k)
+    ap (λ (z : ℕ). m * 2 ^ z) d ∙ ap (λ (z : ℕ). m * z) e ∙ ap (λ (z : ℕ). m * (2 ^ 52 * (z * (2 ^ k * 2 ^ k)))) (pow-bit o (omega arith)) ∙ regroup m 4503599627370496 (o + 1) (2 ^ k * 2 ^ k)
   where
     regroup : (m c o s : ℕ) → m * (c * (o * s)) ≡ m * o * c * s
     regroup m c o s = simp (mul-assoc, mul-comm, mul-left-comm) refl
-
--- the nearest root has 53 digits
-pub root-high : (n q : ℕ) → NearestRoot n q → n ≤ 18014398509481982 * 4503599627370496 → q < 9007199254740992
-root-high n q r h =
-    let l = sq-lt (2 * q - 1) 18014398509481983 (omega (arith, r .above)) in
-    omega arith
-
-pub root-low : (n q : ℕ) → NearestRoot n q → 4503599627370496 * 4503599627370496 ≤ n → 4503599627370496 ≤ q
-root-low n q r h =
-    let l = sq-lt 9007199254740992 (2 * q + 1) (omega (arith, r .below)) in
-    omega arith
 
 -- ---- a significand brought up to 53 digits
 pub halve : (m p : ℕ) → 1 ≤ p → m * 2 * 2 ^ (p - 1) ≡ m * 2 ^ p
@@ -127,21 +138,3 @@ few j m i h k = go (decLe i j)
     go : Dec (i ≤ j) → j < i
     go (yes l) = let e : 2 ^ i ≤ 2 ^ j = pow-mono l in absurd (omega arith)
     go (no f) = lt-of-not-le f
-
--- ---- the guess moved by at most one: n - g² is x - y
-pub pick : (n g x y u d : ℕ) → 2 ≤ g → n + y ≡ g * g + x → x ≤ y + 3 * g + 2 → y + 2 < x + 3 * g
-    → ((u ≡ 1) × (y + g < x)) ⊎ ((u ≡ 0) × (x ≤ y + g)) → ((d ≡ 1) × (x + g ≤ y)) ⊎ ((d ≡ 0) × (y < x + g)) → NearestRoot n (g + u - d)
-pick n g x y u d two e hi lo (inl p) (inl q) = absurd (omega arith)
-pick n g x y u d two e hi lo (inl p) (inr q) =
-    let r : g + 1 ≡ g + u - d = omega arith in
-    let f = sq-one g in
-    subst (λ (z : ℕ). NearestRoot n z) r (nearest-root n (g + 1) (omega arith) (omega arith) (omega arith))
-pick n g x y u d two e hi lo (inr p) (inl q) =
-    let r : g - 1 ≡ g + u - d = omega arith in
-    let k : g - 1 + 1 ≡ g = omega arith in
-    let o : (g - 1 + 1) * (g - 1 + 1) ≡ g * g = ap (λ (z : ℕ). z * z) k in
-    let f = sq-one (g - 1) in
-    subst (λ (z : ℕ). NearestRoot n z) r (nearest-root n (g - 1) (omega arith) (omega arith) (omega arith))
-pick n g x y u d two e hi lo (inr p) (inr q) =
-    let r : g ≡ g + u - d = omega arith in
-    subst (λ (z : ℕ). NearestRoot n z) r (nearest-root n g (omega arith) (omega arith) (omega arith))

@@ -1,5 +1,9 @@
--- Roots of whole numbers.
-use Prim.Native.Nat.{ℕ, _+_, _-_, _*_, _<_, _≤_}
+-- What the functions inside promise one another: roots of whole numbers, and the digits of a number.
+use mathlib.Core.Path.{_≡_}
+use mathlib.Core.Bool.{false}
+use Prim.Native.Nat.{ℕ, _+_, _-_, _*_, _^_, _<_, _≤_}
+use lib.Ieee.{binary64, ofBits}
+use lib.Ieee.Exact.{HasValue}
 
 -- r is the whole part of the root of n
 pub record WholeRoot (n r : ℕ) : Type 0 where
@@ -11,3 +15,13 @@ pub record WholeRoot (n r : ℕ) : Type 0 where
 pub record NearestRoot (n r : ℕ) : Type 0 where
   pub above : (2 * r - 1) * (2 * r - 1) < 4 * n
   pub below : 4 * n < (2 * r + 1) * (2 * r + 1)
+
+-- The number with the bits b is n units of 2 ^ -1074, which are m * 2 ^ p units of 2 ^ -2148, and m has 53 digits.
+pub record Significand (b m p : ℕ) : Type 0 where
+  pub n : ℕ
+  pub value : HasValue (ofBits binary64 b) false n (2 ^ 1074)
+  pub same : m * 2 ^ p ≡ n * 2 ^ 1074
+  pub low : 2 ^ 52 ≤ m
+  pub high : m < 2 ^ 53
+  pub least : 1022 ≤ p
+  pub most : p < 3120

@@ -1,99 +1,99 @@
--- `root::positive` meets its contract. Assumes nothing.
-use mathlib.Core.Path.{_≡_, sym, ap, _∙_, subst}
-use mathlib.Core.Bool.{false}
-use Prim.Native.Nat.{ℕ, _+_, _-_, _*_, _/_, _%_, _^_, _≤_, _<_}
-use native.Mathlib.Nat.{lt-of-le-of-lt, mul-le-mul, mul-le-mul-right}
+-- `root::positive` meets its contract: m * 2 ^ p is a * 2 ^ 52 * 4 ^ k. Assumes nothing.
+use mathlib.Core.Path.{sym, subst}
+use Prim.Native.Nat.{ℕ, _+_, _-_, _*_, _/_, _%_, _≤_, _<_}
+use native.Mathlib.Nat.{mul-le-mul}
 use native.Mathlib.Omega.{arith}
-use lib.Ieee.{Float, binary64, ofBits}
-use lib.Ieee.Bits.{ofBits-fits}
-use lib.Ieee.Exact.{HasValue}
+use lib.Dec.{T}
+use lib.Ieee.{binary64, ofBits}
 use mir.Facts.{fits-below}
-use Rattle.root.specs.Whole.{NearestRoot}
 use Rattle.root.specs.Sqrt.{RoundedRoot}
-use Rattle.root.proofs.Squares.{spread, root-high, root-low}
-use Rattle.root.proofs.Patterns.{no-nan, normal-value}
-use Rattle.root.proofs.Rounded.{scaled}
+use Rattle.root.proofs.Patterns.{no-nan, le-no-nan}
+use Rattle.root.proofs.Squares.{spread}
 use borrow.Author.Needs.{needs}
 use Rattle.root.proofs.positive.Statement.{statement}
 use Rattle.root.proofs.positive.Tie as tie
 use Rattle.root.proofs.positive.Reads as reads
 use Rattle.root.proofs.positive.Lts as lts
-use Rattle.root.proofs.guess.Reads as guess-reads
+use Rattle.root.proofs.approximate.Reads as approximate-reads
 use Rattle.root.proofs.nearest.Reads as nearest-reads
+use Rattle.root.proofs.slow.Reads as slow-reads
 
--- m or 2 m
+-- a is m or 2 m
 a-high : (m p : ℕ) → m < 9007199254740992 → m * (p % 2 + 1) ≤ 18014398509481982
 a-high m p h = mul-le-mul {n₂ = 9007199254740991} {m₂ = 2} (omega arith) (omega arith)
 
 a-low : (m p : ℕ) → 4503599627370496 ≤ m → 4503599627370496 ≤ m * (p % 2 + 1)
 a-low m p h = mul-le-mul {n₁ = 4503599627370496} {m₁ = 1} h (omega arith)
 
-module _ (m p q : ℕ) (pre : (4503599627370496 ≤ m) × (m < 9007199254740992) × (1022 ≤ p) × (p < 3120)) (near : NearestRoot (m * (p % 2 + 1) * 4503599627370496) q) where
-  q-high : q < 9007199254740992
-  q-high = root-high (m * (p % 2 + 1) * 4503599627370496) q near (mul-le-mul-right 4503599627370496 (a-high m p (pre .1)))
+add-a : tie.Need-add-a
+add-a c = search needs
 
-  q-low : 4503599627370496 ≤ q
-  q-low = root-low (m * (p % 2 + 1) * 4503599627370496) q near (mul-le-mul-right 4503599627370496 (a-low m p (pre .0)))
+mul-a : tie.Need-mul-a
+mul-a c = fits-below {n = 18014398509481982} tt (a-high (c .args .m) (c .args .p) (c .pre .1))
 
-  bits-lt : (p - 52) / 2 * 4503599627370496 + q < 9218868437227405312
-  bits-lt = omega (arith, q-high)
+sub-k : tie.Need-sub-k
+sub-k c = search needs
 
-  rounded : RoundedRoot (m * 2 ^ p) (ofBits binary64 ((p - 52) / 2 * 4503599627370496 + q))
-  rounded =
-      let k : ℕ = (p - 52) / 2 in
-      let o : ℕ = p % 2 in
-      let a : ℕ = m * (o + 1) * 4503599627370496 in
-      let e : p ≡ 52 + (o + (k + k)) = omega arith in
-      let n-is : m * 2 ^ p ≡ a * (2 ^ k * 2 ^ k) = ap (λ (z : ℕ). m * 2 ^ z) e ∙ spread m o k (omega arith) in
-      let B : ℕ = k * 4503599627370496 + q in
-      let l = q-low in
-      let h = q-high in
-      let d : 4503599627370496 + B % 4503599627370496 ≡ q = omega arith in
-      let f : B / 4503599627370496 - 1 ≡ k = omega arith in
-      let v : HasValue (ofBits binary64 B) false (q * 2 ^ k) (2 ^ 1074) = subst (λ (z : ℕ). HasValue (ofBits binary64 B) false (z * 2 ^ k) (2 ^ 1074)) d (subst (λ (z : ℕ). HasValue (ofBits binary64 B) false ((4503599627370496 + B % 4503599627370496) * 2 ^ z) (2 ^ 1074)) f (normal-value B (omega arith) bits-lt)) in
-      subst (λ (z : ℕ). RoundedRoot z (ofBits binary64 B)) (sym n-is)
-      (scaled a k q (ofBits binary64 B) (mul-le-mul-right 4503599627370496 (a-low m p (pre .0))) (lt-of-le-of-lt (mul-le-mul-right 4503599627370496 (a-high m p (pre .1))) (omega arith)) near v (ofBits-fits binary64 B))
+sub-b : tie.Need-sub-b
+sub-b c = search needs
+
+mul-b : tie.Need-mul-b
+mul-b c = search needs
+
+add-b : tie.Need-add-b
+add-b c = search needs
+
+float-from-bits-approximate : tie.Need-float-from-bits-approximate
+float-from-bits-approximate c = no-nan (c .args .m + (1022 - c .args .p % 2) * 4503599627370496) (omega arith)
+
+sub-approximate : tie.Need-sub-approximate
+sub-approximate c = search needs
+
+float-from-bits-approximate-2 : tie.Need-float-from-bits-approximate-2
+float-from-bits-approximate-2 c = no-nan (6910421784479137792 - (c .args .m + (1022 - c .args .p % 2) * 4503599627370496) / 2) (omega arith)
+
+approximate-requires : tie.Need-approximate-requires
+approximate-requires c κs = search needs
+
+float-to-bits-nearest : tie.Need-float-to-bits-nearest
+float-to-bits-nearest c = le-no-nan (ofBits binary64 4602678819172646912) (c .before .approximate .result) (subst T (sym (c .if1 .taken)) tt)
 
 add-nearest : tie.Need-add-nearest
 add-nearest c = search needs
 
-mul-nearest : tie.Need-mul-nearest
-mul-nearest c = fits-below {n = 18014398509481982} tt (a-high (c .args .m) (c .args .p) (c .pre .1))
-
-guess-requires : tie.Need-guess-requires
-guess-requires c κs = search needs
-
 nearest-requires : tie.Need-nearest-requires
 nearest-requires c κs =
-    let h = a-high (c .before .args .m) (c .before .args .p) (c .before .pre .1) in
-    let l = a-low (c .before .args .m) (c .before .args .p) (c .before .pre .0) in
-    (l, omega arith, omega arith, omega arith)
+    let h = a-high (c .before .before .args .m) (c .before .before .args .p) (c .before .before .pre .1) in
+    (a-low (c .before .before .args .m) (c .before .before .args .p) (c .before .before .pre .0), omega arith, omega arith, omega arith, omega arith)
 
-sub-result : tie.Need-sub-result
-sub-result c = search needs
-
-mul-result : tie.Need-mul-result
-mul-result c = search needs
-
-add-result : tie.Need-add-result
-add-result c = omega (arith, bits-lt (c .before .before .args .m) (c .before .before .args .p) (c .nearest .result) (c .before .before .pre) (c .nearest .ensures))
-
-float-from-bits-result : tie.Need-float-from-bits-result
-float-from-bits-result c = no-nan ((c .before .before .args .p - 52) / 2 * 4503599627370496 + c .nearest .result) (bits-lt (c .before .before .args .m) (c .before .before .args .p) (c .nearest .result) (c .before .before .pre) (c .nearest .ensures))
+slow-requires : tie.Need-slow-requires
+slow-requires c κs =
+    let h = a-high (c .before .before .args .m) (c .before .before .args .p) (c .before .before .pre .1) in
+    (a-low (c .before .before .args .m) (c .before .before .args .p) (c .before .before .pre .0), omega arith, omega arith)
 
 returns : tie.Need-returns
-returns c = rounded (c .before .before .args .m) (c .before .before .args .p) (c .nearest .result) (c .before .before .pre) (c .nearest .ensures)
+returns c = subst (λ (z : ℕ). RoundedRoot z (c .nearest .result)) (sym (spread (c .before .before .before .args .m) (c .before .before .before .args .p) (omega arith))) (c .nearest .ensures)
+
+returns-2 : tie.Need-returns-2
+returns-2 c = subst (λ (z : ℕ). RoundedRoot z (c .slow .result)) (sym (spread (c .before .before .before .args .m) (c .before .before .before .args .p) (omega arith))) (c .slow .ensures)
 
 pub positive-spec : {M : Type 1} → statement M
 positive-spec =
     tie.close
     (tie.spec
+    add-a
+    mul-a
+    sub-k
+    sub-b
+    mul-b
+    add-b
+    float-from-bits-approximate
+    sub-approximate
+    float-from-bits-approximate-2
+    approximate-requires
+    float-to-bits-nearest
     add-nearest
-    mul-nearest
-    guess-requires
     nearest-requires
-    sub-result
-    mul-result
-    add-result
-    float-from-bits-result
-    returns)
+    slow-requires
+    returns
+    returns-2)

@@ -12,16 +12,18 @@ use lib.Ieee.Bits.{ofBits-toBits, toBits-lt}
 use lib.Ieee.Compare.{differs-from-itself}
 use lib.Ieee.Exact.{HasValue}
 use lib.Ieee.Fits.{down-pos}
+use lib.Ieee.Positive.{first-pos}
 use Rattle.root.specs.Sqrt.{CorrectRoot, RoundedRoot, sqrtOf}
-use Rattle.root.proofs.Patterns.{no-nan-of, normal-value, subnormal-value, Below, infinite, none, some, negative-patterns, top-patterns}
+use Rattle.root.specs.Whole.{Significand}
+use Rattle.root.proofs.Patterns.{no-nan-of, Below, infinite, none, some, negative-patterns, top-patterns}
 use Rattle.root.proofs.Rounded.{definition-is-correct, no-choice}
 use borrow.Author.Needs.{needs}
 use Rattle.root.proofs.sqrt.Statement.{statement}
 use Rattle.root.proofs.sqrt.Tie as tie
 use Rattle.root.proofs.sqrt.Reads as reads
 use Rattle.root.proofs.sqrt.Lts as lts
+use Rattle.root.proofs.digits.Reads as digits-reads
 use Rattle.root.proofs.positive.Reads as positive-reads
-use Rattle.root.proofs.subnormal.Reads as subnormal-reads
 
 -- zero by zero
 no-number : div binary64 (ofBits binary64 0) (ofBits binary64 0) ≡ nan
@@ -64,11 +66,6 @@ of-nan : (x : Float) → ne x x ≡ true → x ≡ sqrtOf x
 unfolding sqrtOf
 of-nan x e = let n : x ≡ nan = differs-from-itself x (subst T (sym e) tt) in n ∙ sym (ap sqrtOf n)
 
-raise : (m e : ℕ) → 1 ≤ e → m * 2 ^ (e + 1073) ≡ m * 2 ^ (e - 1) * 2 ^ 1074
-raise m e h =
-    let f : e + 1073 ≡ e - 1 + 1074 = omega arith in
-    ap (λ (z : ℕ). m * 2 ^ z) f ∙ ap (λ (z : ℕ). m * z) (pow-add 2 (e - 1) 1074) ∙ sym (mul-assoc m (2 ^ (e - 1)) (2 ^ 1074))
-
 -- what every test shows: a number that meets the statement is the definition's
 module _ (x : Float) (held : T (fits binary64 x)) where
   back : ofBits binary64 (toBits binary64 x) ≡ x
@@ -77,22 +74,10 @@ module _ (x : Float) (held : T (fits binary64 x)) where
   is-root : (r : Float) → CorrectRoot x r → r ≡ sqrtOf x
   is-root r w = no-choice x r (sqrtOf x) w (definition-is-correct x held)
 
-  at-normal : (r : Float) → 4503599627370496 ≤ toBits binary64 x → toBits binary64 x < 9218868437227405312
-      → RoundedRoot ((toBits binary64 x % 4503599627370496 + 4503599627370496) * 2 ^ (toBits binary64 x / 4503599627370496 + 1073)) r → r ≡ sqrtOf x
-  at-normal r h k w =
-      let b : ℕ = toBits binary64 x in
-      let m : ℕ = 4503599627370496 + b % 4503599627370496 in
-      let e : ℕ = b / 4503599627370496 in
-      let v : HasValue x false (m * 2 ^ (e - 1)) (2 ^ 1074) = subst (λ (y : Float). HasValue y false (m * 2 ^ (e - 1)) (2 ^ 1074)) back (normal-value b h k) in
-      is-root r
-      (of-positive x r (m * 2 ^ (e - 1)) v (mul-pos (omega arith) (pow-pos (e - 1)))
-      (subst (λ (z : ℕ). RoundedRoot z r) (ap (λ (z : ℕ). z * 2 ^ (e + 1073)) (add-comm (b % 4503599627370496) 4503599627370496) ∙ raise m e (omega arith)) w))
-
-  at-subnormal : (r : Float) → 0 < toBits binary64 x → toBits binary64 x < 4503599627370496 → RoundedRoot (toBits binary64 x * 2 ^ 1074) r → r ≡ sqrtOf x
-  at-subnormal r h k w =
-      let b : ℕ = toBits binary64 x in
-      let v : HasValue x false b (2 ^ 1074) = subst (λ (y : Float). HasValue y false b (2 ^ 1074)) back (subnormal-value b k) in
-      is-root r (of-positive x r b v h w)
+  at-number : (r : Float) (m p : ℕ) → Significand (toBits binary64 x) m p → RoundedRoot (m * 2 ^ p) r → r ≡ sqrtOf x
+  at-number r m p d w =
+      let n-pos : 0 < d .n = first-pos (d .n) (2 ^ 1074) (lt-of-lt-of-le (mul-pos {m = m} (omega (arith, d .low)) (pow-pos p)) (le-of-eq (d .same))) in
+      is-root r (of-positive x r (d .n) (subst (λ (y : Float). HasValue y false (d .n) (2 ^ 1074)) back (d .value)) n-pos (subst (λ (z : ℕ). RoundedRoot z r) (d .same) w))
 
   at-top : 9218868437227405312 ≤ toBits binary64 x → toBits binary64 x ≤ 9223372036854775808 → x ≡ sqrtOf x
   at-top h k = subst (λ (y : Float). y ≡ sqrtOf y) back (of-top (toBits binary64 x) h k)
@@ -113,32 +98,23 @@ returns c = of-nan (c .before .args .x) (c .if1 .taken)
 float-to-bits-b : tie.Need-float-to-bits-b
 float-to-bits-b c = no-nan-of (c .before .args .x) (c .if1 .left)
 
-add-positive : tie.Need-add-positive
-add-positive c = search needs
+returns-2 : tie.Need-returns-2
+returns-2 c = at-top (c .before .before .before .args .x) (held (c .before .before .before)) (c .before .if2 .taken) (c .if3 .taken)
 
-add-positive-2 : tie.Need-add-positive-2
-add-positive-2 c = search needs
+returns-3 : tie.Need-returns-3
+returns-3 c = at-negative (c .before .before .before .args .x) (held (c .before .before .before)) (c .if3 .left)
+
+returns-4 : tie.Need-returns-4
+returns-4 c = at-zero (c .before .before .before .args .x) (held (c .before .before .before)) (c .if4 .taken)
+
+digits-requires : tie.Need-digits-requires
+digits-requires c κs = search needs
 
 positive-requires : tie.Need-positive-requires
 positive-requires c κs = search needs
 
-returns-2 : tie.Need-returns-2
-returns-2 c = at-normal (c .before .before .before .before .args .x) (held (c .before .before .before .before)) (c .positive .result) (omega arith) (omega arith) (c .positive .ensures)
-
-returns-3 : tie.Need-returns-3
-returns-3 c = at-top (c .before .before .before .before .args .x) (held (c .before .before .before .before)) (omega arith) (omega arith)
-
-returns-4 : tie.Need-returns-4
-returns-4 c = at-negative (c .before .before .before .before .args .x) (held (c .before .before .before .before)) (omega arith)
-
 returns-5 : tie.Need-returns-5
-returns-5 c = at-zero (c .before .before .before .args .x) (held (c .before .before .before)) (c .if5 .taken)
-
-subnormal-requires : tie.Need-subnormal-requires
-subnormal-requires c κs = search needs
-
-returns-6 : tie.Need-returns-6
-returns-6 c = at-subnormal (c .before .before .before .before .args .x) (held (c .before .before .before .before)) (c .subnormal .result) (omega arith) (omega arith) (c .subnormal .ensures)
+returns-5 c = at-number (c .before .before .before .before .before .args .x) (held (c .before .before .before .before .before)) (c .positive .result) (c .before .digits .result .m) (c .before .digits .result .p) (c .before .digits .ensures) (c .positive .ensures)
 
 pub sqrt-spec : {M : Type 1} → statement M
 sqrt-spec =
@@ -146,12 +122,9 @@ sqrt-spec =
     (tie.spec
     returns
     float-to-bits-b
-    add-positive
-    add-positive-2
-    positive-requires
     returns-2
     returns-3
     returns-4
-    returns-5
-    subnormal-requires
-    returns-6)
+    digits-requires
+    positive-requires
+    returns-5)
