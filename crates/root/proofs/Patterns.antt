@@ -10,7 +10,7 @@ use lib.IntN.{ℤ, pos}
 use lib.Pow.{pow-pos}
 use lib.Ieee.{Float, nan, inf, fin, binary64, odd, ofFields, ofBits, nanBits, isNan, le, ne, up, down}
 use lib.Ieee.Compare.{nan-differs}
-use lib.Ieee.Bits.{is-false, is-true, cond-no, nanBits-is, nanBits-above}
+use lib.Ieee.Bits.{is-false, is-true, cond-no, nanBits-above}
 use lib.Ieee.Exact.{HasValue, odd-sign}
 use lib.Ieee.Fits.{down-pos}
 

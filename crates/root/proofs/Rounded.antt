@@ -2,7 +2,7 @@
 use mathlib.Core.Path.{_≡_, refl, sym, ap, _∙_, subst}
 use mathlib.Core.Bool.{Bool, true, false, not, _&&_, cond}
 use Prim.Native.Nat.{ℕ, zero, suc, _+_, _-_, _*_, _/_, _%_, _^_, _≤_, _<_}
-use native.Mathlib.Nat.{le-refl, le-antisymm, le-trans, le-of-eq, lt-of-le-of-lt, lt-of-lt-of-le, lt-of-mul-lt-mul-right, le-of-mul-le-mul-right, mul-div-cancel, eq-of-mul-eq-mul-right, mul-pos, mul-assoc, mul-one, one-mul, div-one, mul-le-mul, mul-le-mul-right, mul-lt-mul-of-pos-right, pow-succ'}
+use native.Mathlib.Nat.{le-antisymm, le-trans, le-of-eq, lt-of-le-of-lt, lt-of-lt-of-le, lt-of-mul-lt-mul-right, le-of-mul-le-mul-right, mul-div-cancel, eq-of-mul-eq-mul-right, mul-pos, mul-assoc, mul-one, one-mul, div-one, mul-le-mul, mul-le-mul-right, mul-lt-mul-of-pos-right, pow-succ'}
 use native.Mathlib.Omega.{arith}
 use lib.IntN.{ℤ, pos, negsuc}
 use lib.Dec.{T, eqb, leb, ltb, leb→le, ltb→lt, nleb→lt, nltb→le}
@@ -128,7 +128,7 @@ root-rounded m i m-pos m-lt i-ge i-lt =
 
 -- ---- a positive binary64 number is m * 2 ^ j units of 2 ^ -1074, for an m of at most 53 digits
 
-pub record Units (m : ℕ) (e : ℤ) : Type 0 where
+record Units (m : ℕ) (e : ℤ) : Type 0 where
   pub j : ℕ
   pub small : m < 2 ^ 53
   pub range : j < 2098

@@ -1,20 +1,19 @@
--- Squares and products of natural numbers, for `omega` to use as facts. Assumes nothing.
+-- Squares and powers of two of whole numbers: what `omega` takes as facts in the proofs of the functions. Assumes nothing.
 use mathlib.Core.Path.{_≡_, refl, sym, ap, _∙_, subst}
 use mathlib.Core.Logic.{_⊎_, inl, inr}
 use Prim.Native.Nat.{ℕ, zero, suc, _+_, _-_, _*_, _/_, _%_, _^_, _≤_, _<_}
-use native.Mathlib.Nat.{le-trans, le-of-eq, le-of-lt, lt-of-le-of-lt, lt-of-lt-of-le, mul-le-mul, mul-le-mul-left, mul-le-mul-right, add-comm, add-assoc, add-left-comm, mul-comm, mul-assoc, mul-left-comm, mul-add, add-mul}
+use native.Mathlib.Nat.{lt-of-not-le, mul-le-mul, add-comm, add-assoc, add-left-comm, mul-comm, mul-assoc, mul-left-comm, mul-add, add-mul, div-add-mod'}
+use native.Mathlib.Decide.{decLe}
 use native.Mathlib.Omega.{arith}
 use lib.Pow.{pow-add, pow-mono}
-use native.Mathlib.Decide.{decLe}
-use native.Mathlib.Nat.{lt-of-not-le, div-add-mod'}
-use Rattle.root.specs.Whole.{NearestRoot, WholeRoot}
+use Rattle.root.specs.Whole.{NearestRoot}
 
 pub sq-mono : {x y : ℕ} → x ≤ y → x * x ≤ y * y
 sq-mono h = mul-le-mul h h
 
 -- (x + y)²
-pub sq-add : (x y : ℕ) → (x + y) * (x + y) ≡ x * x + (x * y + (x * y + y * y))
-sq-add x y = simp (mul-add, add-mul, mul-comm, add-assoc, add-comm, add-left-comm) refl
+sq-add : (x y : ℕ) → (x + y) * (x + y) ≡ x * x + (x * y + (x * y + y * y))
+sq-add x y = simp (mul-add, add-mul, mul-comm, add-assoc) refl
 
 pub sq-one : (x : ℕ) → (x + 1) * (x + 1) ≡ x * x + (x + x + 1)
 sq-one x = omega (arith, sq-add x 1)
@@ -26,14 +25,14 @@ pub sq-double' : (x : ℕ) → (x * 2) * (x * 2) ≡ 4 * (x * x)
 sq-double' x = simp (mul-assoc, mul-comm, mul-left-comm) (omega arith)
 
 -- (2 r - 1)², for r above 0
-pub sq-odd : (r : ℕ) → 1 ≤ r → (2 * r - 1) * (2 * r - 1) + 4 * r ≡ 4 * (r * r) + 1
+sq-odd : (r : ℕ) → 1 ≤ r → (2 * r - 1) * (2 * r - 1) + 4 * r ≡ 4 * (r * r) + 1
 sq-odd r h =
     let k : ℕ = 2 * r - 1 in
     let e : k + 1 ≡ 2 * r = omega arith in
     let f : (k + 1) * (k + 1) ≡ (2 * r) * (2 * r) = ap (λ (z : ℕ). z * z) e in
     omega (arith, sq-one k, sq-double r)
 
--- n between r² - r and r² + r is nearest r²
+-- n above r² - r and up to r² + r has r as its nearest root
 pub nearest-root : (n r : ℕ) → 1 ≤ r → r * r < n + r → n ≤ r * r + r → NearestRoot n r
 nearest-root n r p h k = record {
   above = omega (arith, sq-odd r p);

@@ -7,14 +7,16 @@ use lib.Dec.{T, leb, ltb}
 use lib.Ieee.{Float, nan, inf, fin, binary64, fits, size, odd, up, down}
 use lib.Ieee.Exact.{HasValue}
 
+-- the square of a whole number
 abbrev pub sq : ℕ → ℕ
 sq n = n * n
 
 -- ---- the statement
 
 -- r is the binary64 number nearest to the root of n units of 2 ^ -2148.
--- The root lies from 2 ^ 52 to 2 ^ 53 steps of 2 ^ k units of 2 ^ -1074: there the binary64 numbers are the whole numbers of steps. r is q steps, and the root lies
--- strictly between the midpoints of q and its neighbours: n lies between the squares of q - 1/2 and of q + 1/2 steps, all taken four times. No root is a midpoint, so there is no tie.
+-- The root lies from 2 ^ 52 to below 2 ^ 53 steps of 2 ^ k units of 2 ^ -1074 (`from`, `to`): there the binary64 numbers are the whole numbers of steps.
+-- r is q steps (`value`: with no minus sign, and q * 2 ^ k / 2 ^ 1074 in size). The root lies strictly between q - 1/2 and q + 1/2 steps, the midpoints to its
+-- neighbours, so n lies between their squares, all taken four times (`above`, `below`). No root is a midpoint, so there is no tie. And r is a binary64 number (`held`).
 pub record RoundedRoot (n : ℕ) (r : Float) : Type 0 where
   pub k : ℕ
   pub q : ℕ
@@ -47,12 +49,12 @@ unfoldable pub nearestRoot : ℕ → ℕ
 unfolding wholeRoot
 nearestRoot n = let q = wholeRoot 53 n in cond (ltb (sq (2 * q + 1)) (4 * n)) (q + 1) q
 
--- the rounded root of n units of 2 ^ -2148, which is a whole number of steps of 2 ^ k units of 2 ^ -1074: k is what leaves 53 digits
+-- the rounded root of n units of 2 ^ -2148: as many steps of 2 ^ k units of 2 ^ -1074 as have 53 digits. Nothing is lost in n / 4 ^ k where n is a binary64 number's.
 unfoldable pub rootOf : ℕ → Float
 unfolding nearestRoot
 rootOf n = let k = (size n - 105) / 2 in odd 54 false (nearestRoot (n / 4 ^ k)) k 1074
 
--- the square root of x
+-- the square root of x: x itself where it is a zero or +inf, NaN where it is a NaN or below zero, else the rounded root of its n * 2 ^ 1074 units of 2 ^ -2148
 unfoldable pub sqrtOf : Float → Float
 unfolding rootOf
 sqrtOf nan = nan

@@ -83,11 +83,11 @@ fn nearest(a: u64, g: u64, k: u64) -> f64
     let h = g / 67108864;
     let l = g % 67108864;
     let d = std::num::wrapping_sub_u64(a, h * h);
-    if 1073741824 < d {
+    if 1073741824 <= d {
         return slow(a, k);
     }
     let w = std::num::wrapping_sub_u64(d * 67108864 + 17179869184, 2 * h * l);
-    if 34359738368 < w {
+    if 34359738368 <= w {
         return slow(a, k);
     }
     let v = std::num::wrapping_sub_u64(w * 67108864 + 2 * g, l * l + 1152921504606846976);
@@ -104,7 +104,9 @@ fn approximate(t: f64, y: f64) -> f64 {
     let s0 = t * y;
     let u = s0 * y;
     let v = u * u;
-    let p = 2.7275847559490614 - u * 4.613752980236236 + v * (5.616590911856275 - u * 4.068103179103127) + v * v * (1.6035218163339007 - u * 0.2658413245865824);
+    let p = 2.7275847559490614 - u * 4.613752980236236
+        + v * (5.616590911856275 - u * 4.068103179103127)
+        + v * v * (1.6035218163339007 - u * 0.2658413245865824);
     let s = s0 * p;
     s + (t - s * s) * (0.5 * y * p)
 }
@@ -119,7 +121,10 @@ fn positive(m: u64, p: u64) -> f64
     let a = m * (o + 1);
     let k = (p - 52) / 2;
     let b = m + (1022 - o) * 4503599627370496;
-    let s = approximate(f64::from_bits(b), f64::from_bits(0x5fe6_c000_0000_0000 - b / 2));
+    let s = approximate(
+        f64::from_bits(b),
+        f64::from_bits(0x5fe6_c000_0000_0000 - b / 2),
+    );
     if 0.5 <= s {
         nearest(a, f64::to_bits(s) % 4503599627370496 + 4503599627370496, k)
     } else {
@@ -133,7 +138,10 @@ fn digits(b: u64) -> Scaled
     ensures { λ r. ⌜ Significand b (r .m) (r .p) ⌝ }
 {
     if 4503599627370496 <= b {
-        return Scaled { m: b % 4503599627370496 + 4503599627370496, p: b / 4503599627370496 + 1073 };
+        return Scaled {
+            m: b % 4503599627370496 + 4503599627370496,
+            p: b / 4503599627370496 + 1073,
+        };
     }
     let mut m = b;
     let mut p: u64 = 1074;

@@ -99,10 +99,10 @@ float-to-bits-b : tie.Need-float-to-bits-b
 float-to-bits-b c = no-nan-of (c .before .args .x) (c .if1 .left)
 
 returns-2 : tie.Need-returns-2
-returns-2 c = at-top (c .before .before .before .args .x) (held (c .before .before .before)) (c .before .if2 .taken) (c .if3 .taken)
+returns-2 c = at-top (c .before .before .before .args .x) (held (c .before .before .before)) (omega arith) (omega arith)
 
 returns-3 : tie.Need-returns-3
-returns-3 c = at-negative (c .before .before .before .args .x) (held (c .before .before .before)) (c .if3 .left)
+returns-3 c = at-negative (c .before .before .before .args .x) (held (c .before .before .before)) (omega arith)
 
 returns-4 : tie.Need-returns-4
 returns-4 c = at-zero (c .before .before .before .args .x) (held (c .before .before .before)) (c .if4 .taken)
