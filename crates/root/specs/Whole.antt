@@ -1,0 +1,27 @@
+-- What the functions inside promise one another: roots of whole numbers, and the digits of a number.
+use mathlib.Core.Path.{_≡_}
+use mathlib.Core.Bool.{false}
+use Prim.Native.Nat.{ℕ, _+_, _-_, _*_, _^_, _<_, _≤_}
+use lib.Ieee.{binary64, ofBits}
+use lib.Ieee.Exact.{HasValue}
+
+-- r is the whole part of the root of n
+pub record WholeRoot (n r : ℕ) : Type 0 where
+  pub low : r * r ≤ n
+  pub high : n < (r + 1) * (r + 1)
+
+-- r is the whole number nearest to the root of n: n lies strictly between the squares of the midpoints r - 1/2 and r + 1/2, all taken four times.
+-- No root of a whole number is a midpoint, since (2 r + 1)² is odd: there are no ties.
+pub record NearestRoot (n r : ℕ) : Type 0 where
+  pub above : (2 * r - 1) * (2 * r - 1) < 4 * n
+  pub below : 4 * n < (2 * r + 1) * (2 * r + 1)
+
+-- The number with the bits b is n units of 2 ^ -1074, which are m * 2 ^ p units of 2 ^ -2148, and m has 53 digits.
+pub record Significand (b m p : ℕ) : Type 0 where
+  pub n : ℕ
+  pub value : HasValue (ofBits binary64 b) false n (2 ^ 1074)
+  pub same : m * 2 ^ p ≡ n * 2 ^ 1074
+  pub low : 2 ^ 52 ≤ m
+  pub high : m < 2 ^ 53
+  pub least : 1022 ≤ p
+  pub most : p < 3120

@@ -1,0 +1,174 @@
+// The square root of a binary64 number, correctly rounded: the number nearest to the exact root, as IEEE 754 asks.
+//
+// By a float guess that an exact residual in whole numbers corrects. The guess: one over the root from the bits of the number (the start of the fast inverse
+// square root of Quake III Arena), mended by one polynomial of six coefficients and one step of Newton's method. It is off by one unit in the last place for one
+// number in eight, and was never seen off by more; but nothing is proved of it and nothing rests on it. What is returned has passed a test: the number lies between
+// the squares of the midpoints on either side of the root. Where the guess is too far off for the test to tell, the root is worked out a digit at a time.
+//
+// Exact: proved correctly rounded for every binary64 number, subnormal ones included (`sqrt-is-correctly-rounded` in proofs/Laws.antt).
+// The curvature radii of the ellipsoids, the inverses of cart and the length of a deformation call it.
+ghost use mathlib.Core.Path.{_≡_};
+ghost use Prim.Native.Nat.{_+_, _-_, _*_, _^_, _≤_, _<_};
+ghost use lib.Ieee.{binary64, ofBits};
+ghost use Rattle.root.specs.Whole.{WholeRoot, NearestRoot, Significand};
+ghost use Rattle.root.specs.Sqrt.{RoundedRoot, sqrtOf};
+
+// A positive number as m * 2^p units of 2^-2148, with all 53 digits in m.
+struct Scaled {
+    m: u64,
+    p: u64,
+}
+
+// The whole part of the root of a, a binary digit at a time from the top.
+fn whole(a: u64) -> u64
+    requires { ⌜ a < 2 ^ 54 ⌝ }
+    ensures { λ r. ⌜ WholeRoot a r ⌝ }
+{
+    let mut q: u64 = 0;
+    let mut bit: u64 = 134217728;
+    while 1 < bit {
+        let half = bit / 2;
+        bit = bit - half;
+        let t = q + half;
+        if t * t <= a {
+            q = t;
+        }
+    }
+    q
+}
+
+// The root of a * 2^52, rounded to the nearest: the whole part of a's root and 26 digits more, one at a time.
+fn by_digits(a: u64) -> u64
+    requires { ⌜ (2 ^ 52 ≤ a) × (a < 2 ^ 54) ⌝ }
+    ensures { λ r. ⌜ NearestRoot (a * 2 ^ 52) r ⌝ }
+{
+    let mut q = whole(a);
+    let mut r = a - q * q;
+    let mut i: u64 = 0;
+    while i < 26 {
+        r = r * 4;
+        q = q * 2;
+        i = i + 1;
+        if 2 * q < r {
+            r = r - 2 * q - 1;
+            q = q + 1;
+        }
+    }
+    if q < r { q + 1 } else { q }
+}
+
+// q * 2^k units of 2^-1074, q having 53 digits: the leading one adds one to the exponent's field.
+fn put(q: u64, k: u64) -> f64
+    requires { ⌜ (2 ^ 52 ≤ q) × (q < 2 ^ 53) × (k < 2000) ⌝ }
+    ensures { λ r. ⌜ r ≡ ofBits binary64 (k * 2 ^ 52 + q) ⌝ }
+{
+    f64::from_bits(k * 4503599627370496 + q)
+}
+
+// The root of a * 2^52 * 4^k units of 2^-2148, a digit at a time.
+fn slow(a: u64, k: u64) -> f64
+    requires { ⌜ (2 ^ 52 ≤ a) × (a < 2 ^ 54 - 1) × (k < 2000) ⌝ }
+    ensures { λ r. ⌜ RoundedRoot (a * 2 ^ 52 * (2 ^ k * 2 ^ k)) r ⌝ }
+{
+    put(by_digits(a), k)
+}
+
+// The same from any guess g at the root of a * 2^52, of which the answer is the nearest whole number. The square of g has 106 bits, so g is cut into h * 2^26 + l.
+// The residual a * 2^52 - g^2 is v - 2 g: the answer is g where it lies above -g and is at most g, and one more or one less up to 2 g. The differences wrap, and the
+// test after each sends those that did the slow way.
+fn nearest(a: u64, g: u64, k: u64) -> f64
+    requires { ⌜ (2 ^ 52 ≤ a) × (a < 2 ^ 54 - 1) × (2 ^ 52 ≤ g) × (g < 2 ^ 53) × (k < 2000) ⌝ }
+    ensures { λ r. ⌜ RoundedRoot (a * 2 ^ 52 * (2 ^ k * 2 ^ k)) r ⌝ }
+{
+    let h = g / 67108864;
+    let l = g % 67108864;
+    let d = std::num::wrapping_sub_u64(a, h * h);
+    if 1073741824 <= d {
+        return slow(a, k);
+    }
+    let w = std::num::wrapping_sub_u64(d * 67108864 + 17179869184, 2 * h * l);
+    if 34359738368 <= w {
+        return slow(a, k);
+    }
+    let v = std::num::wrapping_sub_u64(w * 67108864 + 2 * g, l * l + 1152921504606846976);
+    if 4 * g <= v {
+        return slow(a, k);
+    }
+    let up: u64 = if 3 * g < v { 1 } else { 0 };
+    let down: u64 = if v <= g { 1 } else { 0 };
+    put(g + up - down, k)
+}
+
+// The root of t, nearly, from y, which is within 4 parts in 100 of one over it. u = t * y^2 lies from 0.9218 to 1.0523, and there p is 1 / sqrt(u) within 2^-30.6.
+fn approximate(t: f64, y: f64) -> f64 {
+    let s0 = t * y;
+    let u = s0 * y;
+    let v = u * u;
+    let p = 2.7275847559490614 - u * 4.613752980236236
+        + v * (5.616590911856275 - u * 4.068103179103127)
+        + v * v * (1.6035218163339007 - u * 0.2658413245865824);
+    let s = s0 * p;
+    s + (t - s * s) * (0.5 * y * p)
+}
+
+// The root of m * 2^p units of 2^-2148. t is m * 2^-52 or, for an odd p, half of it, so that its root has the same digits; b is its bits. Halving b halves the exponent:
+// the constant less that is nearly the bits of one over the root.
+fn positive(m: u64, p: u64) -> f64
+    requires { ⌜ (2 ^ 52 ≤ m) × (m < 2 ^ 53) × (1022 ≤ p) × (p < 3120) ⌝ }
+    ensures { λ r. ⌜ RoundedRoot (m * 2 ^ p) r ⌝ }
+{
+    let o = p % 2;
+    let a = m * (o + 1);
+    let k = (p - 52) / 2;
+    let b = m + (1022 - o) * 4503599627370496;
+    let s = approximate(
+        f64::from_bits(b),
+        f64::from_bits(0x5fe6_c000_0000_0000 - b / 2),
+    );
+    if 0.5 <= s {
+        nearest(a, f64::to_bits(s) % 4503599627370496 + 4503599627370496, k)
+    } else {
+        slow(a, k)
+    }
+}
+
+// The positive number with the bits b. A subnormal one is brought up to 53 digits.
+fn digits(b: u64) -> Scaled
+    requires { ⌜ (0 < b) × (b < 2047 * 2 ^ 52) ⌝ }
+    ensures { λ r. ⌜ Significand b (r .m) (r .p) ⌝ }
+{
+    if 4503599627370496 <= b {
+        return Scaled {
+            m: b % 4503599627370496 + 4503599627370496,
+            p: b / 4503599627370496 + 1073,
+        };
+    }
+    let mut m = b;
+    let mut p: u64 = 1074;
+    while m < 4503599627370496 {
+        m = m * 2;
+        p = p - 1;
+    }
+    Scaled { m: m, p: p }
+}
+
+// The square root of x. -0 gives -0, +inf gives +inf, a negative number and NaN give NaN.
+pub fn sqrt(x: f64) -> f64
+    ensures { λ r. ⌜ r ≡ sqrtOf x ⌝ }
+{
+    if x != x {
+        return x;
+    }
+    let b = f64::to_bits(x);
+    if 9218868437227405312 <= b {
+        if b <= 9223372036854775808 {
+            return x;
+        }
+        return 0.0 / 0.0;
+    }
+    if b == 0 {
+        return x;
+    }
+    let c = digits(b);
+    positive(c.m, c.p)
+}
