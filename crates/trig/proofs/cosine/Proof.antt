@@ -1,0 +1,27 @@
+-- `trig::cosine` meets its contract. Assumes nothing.
+use borrow.Author.Needs.{needs}
+use Rattle.trig.specs.Trig.{cosineOf}
+use Rattle.trig.proofs.cosine.Statement.{statement}
+use Rattle.trig.proofs.cosine.Tie as tie
+
+reduce-requires : tie.Need-reduce-requires
+reduce-requires c κs = search needs
+
+look-up-requires : tie.Need-look-up-requires
+look-up-requires c κs = search needs
+
+look-up-requires-2 : tie.Need-look-up-requires-2
+look-up-requires-2 c κs = search needs
+
+bend-requires : tie.Need-bend-requires
+bend-requires c κs = search needs
+
+cosine-sum-requires : tie.Need-cosine-sum-requires
+cosine-sum-requires c κs = search needs
+
+returns : tie.Need-returns
+unfolding cosineOf
+returns c = rw (c .cosine-sum .ensures, c .before .bend .ensures, c .before .before .look-up2 .ensures, c .before .before .before .look-up .ensures, c .before .before .before .before .reduce .ensures)
+
+pub cosine-spec : {M : Type 1} → statement M
+cosine-spec = tie.close (tie.spec reduce-requires look-up-requires look-up-requires-2 bend-requires cosine-sum-requires returns)
