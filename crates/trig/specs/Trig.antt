@@ -1,15 +1,15 @@
 -- Sine and cosine, each a sequence of single roundings. An angle's magnitude a is k·π/32 + r with a whole k and a small r; the table has sine and cosine
 -- of k·π/32, two short polynomials those of r, and the theorems of addition join them.
-use Prim.Native.Nat.{ℕ, _+_, _%_}
+use Prim.Native.Nat.{ℕ}
 use mathlib.Core.Bool.{Bool, cond}
 use lib.Ieee.{Float, nan, binary64, toBits, neg, eq, lt, le}
 use Rattle.floats.specs.Binary64.{_⊕_, _⊖_, _⊗_, bits}
 use Rattle.floats.specs.Number.{signOf, absOf}
 use Rattle.trig.specs.declared.SinCos.{SinCos}
-use Rattle.trig.specs.declared.Entry.{Entry}
+use Rattle.trig.specs.declared.Row.{Row}
 use Rattle.trig.specs.declared.Reduced.{Reduced}
 use Rattle.trig.specs.declared.Bends.{Bends}
-use Rattle.trig.specs.Table.{entryOf}
+use Rattle.trig.specs.Table.{rowOf}
 
 abbrev pub zero : Float
 zero = bits 0
@@ -39,16 +39,15 @@ step₂ = bits 0xbd32_e7b9_6767_4000
 abbrev pub step₃ : Float
 step₃ = bits 0x3aa8_a2e0_3707_344a
 
--- The reduction: k, the steps in a to the nearest; where the table has the sine and the cosine of k steps; a less k steps, and what rounding took from that.
+-- The reduction: k, the steps in a to the nearest, in the last bits of `step`; a less k steps; and what rounding took from that.
 unfoldable pub reducedOf : Float → Reduced
 reducedOf a =
     let t = a ⊗ steps ⊕ whole in
-    let k = toBits binary64 t % 64 in
     let n = t ⊖ whole in
     let w = a ⊖ n ⊗ step₁ in
     let v = n ⊗ step₂ in
     let r = w ⊖ v in
-    record { sine = k; cosine = k + 16; rest = r; tail = w ⊖ r ⊖ v ⊖ n ⊗ step₃ }
+    record { step = toBits binary64 t; rest = r; tail = w ⊖ r ⊖ v ⊖ n ⊗ step₃ }
 
 -- The two polynomials: sin r - r with the tail added, and cos r - 1. Their coefficients from r³ and r² on:
 abbrev pub s₁ : Float
@@ -87,25 +86,23 @@ atMostOne r = cond (lt r one) r one
 unfoldable pub clampOf : Float → Float
 clampOf r = cond (lt (neg one) (atMostOne r)) (atMostOne r) (neg one)
 
--- The theorems of addition, s and c being sine and cosine of the step, b what sine and cosine of r have beyond r and beyond 1:
--- sin A·cos r + cos A·sin r
-unfoldable pub sineSum : Entry → Entry → Float → Bends → Float
-sineSum s c r b = clampOf (s .0 ⊕ (c .0 ⊗ r ⊕ (c .0 ⊗ b .sine ⊕ (s .0 ⊗ b .cosine ⊕ s .1))))
+-- The theorems of addition for both: f(A + r) = f(A)·cos r + f'(A)·sin r, where f(A) is high + low, f'(A) is slope, and b is what sine and cosine of r
+-- have beyond r and beyond 1.
+unfoldable pub sumOf : Float → Float → Float → Float → Bends → Float
+sumOf high low slope r b = clampOf (high ⊕ (slope ⊗ r ⊕ (slope ⊗ b .sine ⊕ (high ⊗ b .cosine ⊕ low))))
 
--- cos A·cos r - sin A·sin r
-unfoldable pub cosineSum : Entry → Entry → Float → Bends → Float
-cosineSum s c r b = clampOf (c .0 ⊕ (c .0 ⊗ b .cosine ⊕ c .1 ⊖ s .0 ⊗ b .sine ⊖ s .0 ⊗ r))
-
--- sine and cosine of a magnitude in reach
+-- sine and cosine of a magnitude in reach: the slope of the sine is the cosine, that of the cosine the sine turned
 unfoldable pub sineOf : Float → Float
 sineOf a =
     let g = reducedOf a in
-    sineSum (entryOf (g .sine)) (entryOf (g .cosine)) (g .rest) (bendOf (g .rest) (g .tail))
+    let w = rowOf (g .step) in
+    sumOf (w .0) (w .1) (w .2) (g .rest) (bendOf (g .rest) (g .tail))
 
 unfoldable pub cosineOf : Float → Float
 cosineOf a =
     let g = reducedOf a in
-    cosineSum (entryOf (g .sine)) (entryOf (g .cosine)) (g .rest) (bendOf (g .rest) (g .tail))
+    let w = rowOf (g .step) in
+    sumOf (w .2) (w .3) (neg (w .0)) (g .rest) (bendOf (g .rest) (g .tail))
 
 abbrev pub pairOf : Float → SinCos
 pairOf a = record { s = sineOf a; c = cosineOf a }
@@ -123,5 +120,5 @@ unfoldable pub cosOf : Float → Float
 cosOf x = cond (eq x zero) one (cond (le (absOf x) reach) (cosineOf (absOf x)) nan)
 
 -- both
-unfoldable pub sinCosOf : Float → SinCos
+abbrev pub sinCosOf : Float → SinCos
 sinCosOf x = record { s = sinOf x; c = cosOf x }

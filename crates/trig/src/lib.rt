@@ -9,8 +9,8 @@
 // exactly where the angle is NaN or beyond ±1024. Measured: within 0.59·2^-53 for |x| up to 8, and within 1.3 units in the last place for every
 // angle in reach. Every step of a shift that meets a latitude or an exact rotation uses the pair.
 ghost use mathlib.Core.Path.{_≡_};
-ghost use Rattle.trig.specs.Table.{entryOf};
-ghost use Rattle.trig.specs.Trig.{reducedOf, bendOf, atMostOne, clampOf, sineSum, cosineSum, sineOf, cosineOf, pairOf, signedOf, sinOf, cosOf, sinCosOf};
+ghost use Rattle.trig.specs.Table.{rowOf};
+ghost use Rattle.trig.specs.Trig.{reducedOf, bendOf, atMostOne, clampOf, sumOf, pairOf, signedOf, sinOf, cosOf, sinCosOf};
 use floats::abs;
 use floats::negative;
 use floats::to_bits;
@@ -20,13 +20,12 @@ pub struct SinCos {
     pub c: f64,
 }
 
-// A value of the table: the number nearest to it, and what that leaves.
-struct Entry(f64, f64);
+// Sine and cosine of a step of the circle, each as the number nearest to it and what that leaves: sine, its rest, cosine, its rest.
+struct Row(f64, f64, f64, f64);
 
-// An angle as a step of the circle and a small rest: where the table has the step's sine and its cosine, the rest, and what rounding took from the rest.
+// An angle as a step of the circle, counted in the last six bits, a small rest, and what rounding took from the rest.
 struct Reduced {
-    sine: u64,
-    cosine: u64,
+    step: u64,
     rest: f64,
     tail: f64,
 }
@@ -62,75 +61,136 @@ const C3: f64 = -0.0013888888865422283;
 
 const C4: f64 = 2.4800157947443464e-5;
 
-// sin(2πk/64). One `match` with constants becomes a table in read-only memory, where an array would be built anew at each call.
-fn look_up(k: u64) -> Entry
-    ensures { λ r. ⌜ r ≡ entryOf k ⌝ }
+// sin(2πj/64) for j from 1 to 15: the number nearest to it, and what that leaves
+const H1: f64 = 0.0980171403295606;
+
+const L1: f64 = -1.634582362244256e-18;
+
+const H2: f64 = 0.19509032201612828;
+
+const L2: f64 = -7.991079068461731e-18;
+
+const H3: f64 = 0.2902846772544624;
+
+const L3: f64 = -1.892797870777425e-17;
+
+const H4: f64 = 0.3826834323650898;
+
+const L4: f64 = -1.0050772696461588e-17;
+
+const H5: f64 = 0.47139673682599764;
+
+const L5: f64 = 6.516678136069013e-18;
+
+const H6: f64 = 0.5555702330196022;
+
+const L6: f64 = 4.709410940561677e-17;
+
+const H7: f64 = 0.6343932841636455;
+
+const L7: f64 = 1.0420901929280035e-17;
+
+const H8: f64 = 0.7071067811865476;
+
+const L8: f64 = -4.833646656726457e-17;
+
+const H9: f64 = 0.773010453362737;
+
+const L9: f64 = -3.256590703364977e-17;
+
+const H10: f64 = 0.8314696123025452;
+
+const L10: f64 = 1.4073856984728024e-18;
+
+const H11: f64 = 0.881921264348355;
+
+const L11: f64 = -1.9843248405890562e-17;
+
+const H12: f64 = 0.9238795325112867;
+
+const L12: f64 = 1.7645047084336677e-17;
+
+const H13: f64 = 0.9569403357322088;
+
+const L13: f64 = 4.05538698618757e-17;
+
+const H14: f64 = 0.9807852804032304;
+
+const L14: f64 = 1.8546939997825006e-17;
+
+const H15: f64 = 0.9951847266721969;
+
+const L15: f64 = -4.248691367830441e-17;
+
+// The row of a step. One `match` with constants becomes a table in read-only memory, where an array would be built anew at each call.
+fn look_up(k: u64) -> Row
+    ensures { λ r. ⌜ r ≡ rowOf k ⌝ }
 {
     match k % 64 {
-        0 => Entry(0.0, 0.0),
-        1 => Entry(0.0980171403295606, -1.634582362244256e-18),
-        2 => Entry(0.19509032201612828, -7.991079068461731e-18),
-        3 => Entry(0.2902846772544624, -1.892797870777425e-17),
-        4 => Entry(0.3826834323650898, -1.0050772696461588e-17),
-        5 => Entry(0.47139673682599764, 6.516678136069013e-18),
-        6 => Entry(0.5555702330196022, 4.709410940561677e-17),
-        7 => Entry(0.6343932841636455, 1.0420901929280035e-17),
-        8 => Entry(0.7071067811865476, -4.833646656726457e-17),
-        9 => Entry(0.773010453362737, -3.256590703364977e-17),
-        10 => Entry(0.8314696123025452, 1.4073856984728024e-18),
-        11 => Entry(0.881921264348355, -1.9843248405890562e-17),
-        12 => Entry(0.9238795325112867, 1.7645047084336677e-17),
-        13 => Entry(0.9569403357322088, 4.05538698618757e-17),
-        14 => Entry(0.9807852804032304, 1.8546939997825006e-17),
-        15 => Entry(0.9951847266721969, -4.248691367830441e-17),
-        16 => Entry(1.0, 0.0),
-        17 => Entry(0.9951847266721969, -4.248691367830441e-17),
-        18 => Entry(0.9807852804032304, 1.8546939997825006e-17),
-        19 => Entry(0.9569403357322088, 4.05538698618757e-17),
-        20 => Entry(0.9238795325112867, 1.7645047084336677e-17),
-        21 => Entry(0.881921264348355, -1.9843248405890562e-17),
-        22 => Entry(0.8314696123025452, 1.4073856984728024e-18),
-        23 => Entry(0.773010453362737, -3.256590703364977e-17),
-        24 => Entry(0.7071067811865476, -4.833646656726457e-17),
-        25 => Entry(0.6343932841636455, 1.0420901929280035e-17),
-        26 => Entry(0.5555702330196022, 4.709410940561677e-17),
-        27 => Entry(0.47139673682599764, 6.516678136069013e-18),
-        28 => Entry(0.3826834323650898, -1.0050772696461588e-17),
-        29 => Entry(0.2902846772544624, -1.892797870777425e-17),
-        30 => Entry(0.19509032201612828, -7.991079068461731e-18),
-        31 => Entry(0.0980171403295606, -1.634582362244256e-18),
-        32 => Entry(0.0, 0.0),
-        33 => Entry(-0.0980171403295606, 1.634582362244256e-18),
-        34 => Entry(-0.19509032201612828, 7.991079068461731e-18),
-        35 => Entry(-0.2902846772544624, 1.892797870777425e-17),
-        36 => Entry(-0.3826834323650898, 1.0050772696461588e-17),
-        37 => Entry(-0.47139673682599764, -6.516678136069013e-18),
-        38 => Entry(-0.5555702330196022, -4.709410940561677e-17),
-        39 => Entry(-0.6343932841636455, -1.0420901929280035e-17),
-        40 => Entry(-0.7071067811865476, 4.833646656726457e-17),
-        41 => Entry(-0.773010453362737, 3.256590703364977e-17),
-        42 => Entry(-0.8314696123025452, -1.4073856984728024e-18),
-        43 => Entry(-0.881921264348355, 1.9843248405890562e-17),
-        44 => Entry(-0.9238795325112867, -1.7645047084336677e-17),
-        45 => Entry(-0.9569403357322088, -4.05538698618757e-17),
-        46 => Entry(-0.9807852804032304, -1.8546939997825006e-17),
-        47 => Entry(-0.9951847266721969, 4.248691367830441e-17),
-        48 => Entry(-1.0, 0.0),
-        49 => Entry(-0.9951847266721969, 4.248691367830441e-17),
-        50 => Entry(-0.9807852804032304, -1.8546939997825006e-17),
-        51 => Entry(-0.9569403357322088, -4.05538698618757e-17),
-        52 => Entry(-0.9238795325112867, -1.7645047084336677e-17),
-        53 => Entry(-0.881921264348355, 1.9843248405890562e-17),
-        54 => Entry(-0.8314696123025452, -1.4073856984728024e-18),
-        55 => Entry(-0.773010453362737, 3.256590703364977e-17),
-        56 => Entry(-0.7071067811865476, 4.833646656726457e-17),
-        57 => Entry(-0.6343932841636455, -1.0420901929280035e-17),
-        58 => Entry(-0.5555702330196022, -4.709410940561677e-17),
-        59 => Entry(-0.47139673682599764, -6.516678136069013e-18),
-        60 => Entry(-0.3826834323650898, 1.0050772696461588e-17),
-        61 => Entry(-0.2902846772544624, 1.892797870777425e-17),
-        62 => Entry(-0.19509032201612828, 7.991079068461731e-18),
-        _ => Entry(-0.0980171403295606, 1.634582362244256e-18),
+        0 => Row(0.0, 0.0, 1.0, 0.0),
+        1 => Row(H1, L1, H15, L15),
+        2 => Row(H2, L2, H14, L14),
+        3 => Row(H3, L3, H13, L13),
+        4 => Row(H4, L4, H12, L12),
+        5 => Row(H5, L5, H11, L11),
+        6 => Row(H6, L6, H10, L10),
+        7 => Row(H7, L7, H9, L9),
+        8 => Row(H8, L8, H8, L8),
+        9 => Row(H9, L9, H7, L7),
+        10 => Row(H10, L10, H6, L6),
+        11 => Row(H11, L11, H5, L5),
+        12 => Row(H12, L12, H4, L4),
+        13 => Row(H13, L13, H3, L3),
+        14 => Row(H14, L14, H2, L2),
+        15 => Row(H15, L15, H1, L1),
+        16 => Row(1.0, 0.0, 0.0, 0.0),
+        17 => Row(H15, L15, -H1, -L1),
+        18 => Row(H14, L14, -H2, -L2),
+        19 => Row(H13, L13, -H3, -L3),
+        20 => Row(H12, L12, -H4, -L4),
+        21 => Row(H11, L11, -H5, -L5),
+        22 => Row(H10, L10, -H6, -L6),
+        23 => Row(H9, L9, -H7, -L7),
+        24 => Row(H8, L8, -H8, -L8),
+        25 => Row(H7, L7, -H9, -L9),
+        26 => Row(H6, L6, -H10, -L10),
+        27 => Row(H5, L5, -H11, -L11),
+        28 => Row(H4, L4, -H12, -L12),
+        29 => Row(H3, L3, -H13, -L13),
+        30 => Row(H2, L2, -H14, -L14),
+        31 => Row(H1, L1, -H15, -L15),
+        32 => Row(0.0, 0.0, -1.0, -0.0),
+        33 => Row(-H1, -L1, -H15, -L15),
+        34 => Row(-H2, -L2, -H14, -L14),
+        35 => Row(-H3, -L3, -H13, -L13),
+        36 => Row(-H4, -L4, -H12, -L12),
+        37 => Row(-H5, -L5, -H11, -L11),
+        38 => Row(-H6, -L6, -H10, -L10),
+        39 => Row(-H7, -L7, -H9, -L9),
+        40 => Row(-H8, -L8, -H8, -L8),
+        41 => Row(-H9, -L9, -H7, -L7),
+        42 => Row(-H10, -L10, -H6, -L6),
+        43 => Row(-H11, -L11, -H5, -L5),
+        44 => Row(-H12, -L12, -H4, -L4),
+        45 => Row(-H13, -L13, -H3, -L3),
+        46 => Row(-H14, -L14, -H2, -L2),
+        47 => Row(-H15, -L15, -H1, -L1),
+        48 => Row(-1.0, -0.0, 0.0, 0.0),
+        49 => Row(-H15, -L15, H1, L1),
+        50 => Row(-H14, -L14, H2, L2),
+        51 => Row(-H13, -L13, H3, L3),
+        52 => Row(-H12, -L12, H4, L4),
+        53 => Row(-H11, -L11, H5, L5),
+        54 => Row(-H10, -L10, H6, L6),
+        55 => Row(-H9, -L9, H7, L7),
+        56 => Row(-H8, -L8, H8, L8),
+        57 => Row(-H7, -L7, H9, L9),
+        58 => Row(-H6, -L6, H10, L10),
+        59 => Row(-H5, -L5, H11, L11),
+        60 => Row(-H4, -L4, H12, L12),
+        61 => Row(-H3, -L3, H13, L13),
+        62 => Row(-H2, -L2, H14, L14),
+        _ => Row(-H1, -L1, H15, L15),
     }
 }
 
@@ -138,14 +198,12 @@ fn reduce(a: f64) -> Reduced
     ensures { λ r. ⌜ r ≡ reducedOf a ⌝ }
 {
     let t = a * STEPS + WHOLE;
-    let k = to_bits(t) % 64;
     let n = t - WHOLE;
     let w = a - n * STEP_1;
     let v = n * STEP_2;
     let r = w - v;
     Reduced {
-        sine: k,
-        cosine: k + 16,
+        step: to_bits(t),
         rest: r,
         tail: ((w - r) - v) - n * STEP_3,
     }
@@ -175,54 +233,22 @@ fn clamp(r: f64) -> f64
     if -1.0 < u { u } else { -1.0 }
 }
 
-// sin(A + r) = sin A·cos r + cos A·sin r, summed from the smallest part to the largest
-fn sine_sum(s: Entry, c: Entry, r: f64, b: Bends) -> f64
-    ensures { λ q. ⌜ q ≡ sineSum s c r b ⌝ }
+// f(A + r) = f(A)·cos r + f'(A)·sin r for sine and cosine alike, summed from the smallest part to the largest
+fn sum(high: f64, low: f64, slope: f64, r: f64, b: Bends) -> f64
+    ensures { λ q. ⌜ q ≡ sumOf high low slope r b ⌝ }
 {
-    clamp(s.0 + (c.0 * r + (c.0 * b.sine + (s.0 * b.cosine + s.1))))
-}
-
-// cos(A + r) = cos A·cos r - sin A·sin r, likewise
-fn cosine_sum(s: Entry, c: Entry, r: f64, b: Bends) -> f64
-    ensures { λ q. ⌜ q ≡ cosineSum s c r b ⌝ }
-{
-    clamp(c.0 + (((c.0 * b.cosine + c.1) - s.0 * b.sine) - s.0 * r))
-}
-
-fn sine(a: f64) -> f64
-    ensures { λ q. ⌜ q ≡ sineOf a ⌝ }
-{
-    let g = reduce(a);
-    sine_sum(
-        look_up(g.sine),
-        look_up(g.cosine),
-        g.rest,
-        bend(g.rest, g.tail),
-    )
-}
-
-fn cosine(a: f64) -> f64
-    ensures { λ q. ⌜ q ≡ cosineOf a ⌝ }
-{
-    let g = reduce(a);
-    cosine_sum(
-        look_up(g.sine),
-        look_up(g.cosine),
-        g.rest,
-        bend(g.rest, g.tail),
-    )
+    clamp(high + (slope * r + (slope * b.sine + (high * b.cosine + low))))
 }
 
 fn pair(a: f64) -> SinCos
     ensures { λ q. ⌜ q ≡ pairOf a ⌝ }
 {
     let g = reduce(a);
-    let s = look_up(g.sine);
-    let c = look_up(g.cosine);
+    let w = look_up(g.step);
     let b = bend(g.rest, g.tail);
     SinCos {
-        s: sine_sum(s, c, g.rest, b),
-        c: cosine_sum(s, c, g.rest, b),
+        s: sum(w.0, w.1, w.2, g.rest, b),
+        c: sum(w.2, w.3, -w.0, g.rest, b),
     }
 }
 
@@ -233,31 +259,6 @@ fn signed(s: f64, x: f64) -> f64
     if negative(x) { -s } else { s }
 }
 
-pub fn sin(x: f64) -> f64
-    ensures { λ r. ⌜ r ≡ sinOf x ⌝ }
-{
-    if x == 0.0 {
-        return x;
-    }
-    let a = abs(x);
-    if a <= 1024.0 {
-        signed(sine(a), x)
-    } else {
-        0.0 / 0.0
-    }
-}
-
-pub fn cos(x: f64) -> f64
-    ensures { λ r. ⌜ r ≡ cosOf x ⌝ }
-{
-    if x == 0.0 {
-        return 1.0;
-    }
-    let a = abs(x);
-    if a <= 1024.0 { cosine(a) } else { 0.0 / 0.0 }
-}
-
-// Both at the cost of little more than one.
 pub fn sin_cos(x: f64) -> SinCos
     ensures { λ r. ⌜ r ≡ sinCosOf x ⌝ }
 {
@@ -275,4 +276,16 @@ pub fn sin_cos(x: f64) -> SinCos
         let none = 0.0 / 0.0;
         SinCos { s: none, c: none }
     }
+}
+
+pub fn sin(x: f64) -> f64
+    ensures { λ r. ⌜ r ≡ sinOf x ⌝ }
+{
+    sin_cos(x).s
+}
+
+pub fn cos(x: f64) -> f64
+    ensures { λ r. ⌜ r ≡ cosOf x ⌝ }
+{
+    sin_cos(x).c
 }

@@ -1,11 +1,9 @@
--- `trig::look_up` meets its contract: arm k has the table's entry k, which the checker sees by computing both, and the arm for the rest is met at 63 alone,
+-- `trig::look_up` meets its contract: arm i has row i, which the checker sees by computing it, and the arm for the rest is met at 63 alone,
 -- the number below 64 that is none of 0 to 62. Assumes nothing.
 use mathlib.Core.Path.{_≡_, refl}
 use native.Mathlib.Omega.{arith}
 use Prim.Native.Nat.{ℕ, zero, suc, _%_, _≤_, _<_}
-use lib.Ieee.{ofBits, neg, ofFields, odd}
-use lib.ListN.{getD}
-use Rattle.trig.specs.Table.{entry, table, entryOf}
+use Rattle.trig.specs.Table.{rowAt, rowOf}
 use Rattle.trig.proofs.look_up.Statement.{statement}
 use Rattle.trig.proofs.look_up.Tie as tie
 
@@ -22,11 +20,11 @@ apart (suc n) i h = omega (arith, apart n i (h .0), h .1)
 last : (k : ℕ) → Apart 63 (k % 64) → k % 64 ≡ 63
 last k h = omega (arith, apart 63 (k % 64) h)
 
-at : {m i : ℕ} → m ≡ i → getD table i (entry 0 0) ≡ getD table m (entry 0 0)
+at : {m i : ℕ} → m ≡ i → rowAt i ≡ rowAt m
 at h = rw h refl
 
 pub look-up-spec : {M : Type 1} → statement M
-unfolding entryOf ofBits neg ofFields odd Apart
+unfolding rowOf Apart
 look-up-spec =
     tie.close
     (tie.spec

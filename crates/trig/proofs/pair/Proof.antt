@@ -10,21 +10,27 @@ reduce-requires c κs = search needs
 look-up-requires : tie.Need-look-up-requires
 look-up-requires c κs = search needs
 
-look-up-requires-2 : tie.Need-look-up-requires-2
-look-up-requires-2 c κs = search needs
-
 bend-requires : tie.Need-bend-requires
 bend-requires c κs = search needs
 
-sine-sum-requires : tie.Need-sine-sum-requires
-sine-sum-requires c κs = search needs
+sum-requires : tie.Need-sum-requires
+sum-requires c κs = search needs
 
-cosine-sum-requires : tie.Need-cosine-sum-requires
-cosine-sum-requires c κs = search needs
+sum-requires-2 : tie.Need-sum-requires-2
+sum-requires-2 c κs = search needs
 
 returns : tie.Need-returns
 unfolding sineOf cosineOf
-returns c = rw (c .cosine-sum .ensures, c .before .sine-sum .ensures, c .before .before .bend .ensures, c .before .before .before .look-up2 .ensures, c .before .before .before .before .look-up .ensures, c .before .before .before .before .before .reduce .ensures)
+returns c =
+    rw (
+      c .sum2 .ensures,
+      c .before .before .sum .ensures,
+      c .before .before .before .bend .ensures,
+      c .before .before .before .before .look-up .ensures,
+      c .before .before .before .before .before .reduce .ensures,
+    )
 
 pub pair-spec : {M : Type 1} → statement M
-pair-spec = tie.close (tie.spec reduce-requires look-up-requires look-up-requires-2 bend-requires sine-sum-requires cosine-sum-requires returns)
+pair-spec =
+    tie.close
+    (tie.spec reduce-requires look-up-requires bend-requires sum-requires sum-requires-2 returns)

@@ -7,12 +7,9 @@ use Rattle.trig.proofs.reduce.Tie as tie
 to-bits-requires : tie.Need-to-bits-requires
 to-bits-requires c κs = search needs
 
-add-t9 : tie.Need-add-t9
-add-t9 c = search needs
-
 returns : tie.Need-returns
 unfolding reducedOf
 returns c = rw (c .to-bits .ensures)
 
 pub reduce-spec : {M : Type 1} → statement M
-reduce-spec = tie.close (tie.spec to-bits-requires add-t9 returns)
+reduce-spec = tie.close (tie.spec to-bits-requires returns)
