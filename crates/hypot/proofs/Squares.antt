@@ -1,10 +1,12 @@
 -- Squares, their sum and its two orders; infinite parts. Assumes nothing.
-use mathlib.Core.Path.{_≡_, refl, sym, ap, _∙_}
+use mathlib.Core.Path.{_≡_, refl, sym, ap, _∙_, subst}
 use Prim.Native.Nat.{ℕ, zero, suc, _+_, _*_, _-_, _/_, _%_, _^_, compare}
 use native.Mathlib.Nat.{add-comm, mul-comm}
 use mathlib.Core.Bool.{Bool, true, false, cond, _&&_, _||_, true≢false}
 use lib.Dec.{ltb}
-use lib.Ieee.{Float, nan, inf, fin, binary64, ofBits, add, mul, div, neg, lt, eq, round, units, odd, sum, up, down, low, size, nearest}
+use lib.Ieee.{Float, nan, inf, fin, binary64, ofBits, add, mul, div, neg, lt, eq, round, units, odd, sum, up, down, minus, size, nearest, isNan}
+use lib.IntN.{ℤ, pos}
+use lib.Count.{trailingZeros}
 use lib.Ieee.Fits.{round-is}
 use Rattle.floats.specs.Binary64.{_⊕_, _⊗_, _⊘_, bits}
 use Rattle.floats.specs.Number.{signOf, absOf}
@@ -31,25 +33,34 @@ square-of-magnitude (inf false) = refl
 square-of-magnitude (fin true m e) = refl
 square-of-magnitude (fin false m e) = refl
 
--- what is rounded keeps its sign
-odd-sign : (s : Bool) (q j : ℕ) → signOf (odd 54 s q j 1074) ≡ s
-unfolding odd signOf
-odd-sign s zero j = refl
-odd-sign s (suc q) j = refl
+-- what holds of the infinity and of every finite number of a sign holds of what is rounded with that sign
+module _ (P : Float → Type 0) (s : Bool) (infinity : P (inf s)) (finite : (m : ℕ) (e : ℤ) → P (fin s m e)) where
+  of-odd : (q j : ℕ) → P (odd 54 s q j 1074)
+  unfolding odd
+  of-odd zero j = finite zero (pos zero)
+  of-odd (suc q) j = let t = trailingZeros 54 (suc q) in finite (suc q / 2 ^ t) (minus (j + t) 1074)
 
-units-sign : (s : Bool) (q j : ℕ) → signOf (units binary64 s q j) ≡ s
-unfolding units signOf
-units-sign s q j = go (ltb (q * 2 ^ j) (2 ^ 2098))
-  where
-    go : (t : Bool) → signOf (cond t (odd 54 s q j 1074) (inf s)) ≡ s
-    go true = odd-sign s q j
-    go false = refl
+  of-units : (q j : ℕ) → P (units binary64 s q j)
+  unfolding units
+  of-units q j = go (ltb (q * 2 ^ j) (2 ^ 2098))
+    where
+      go : (t : Bool) → P (cond t (odd 54 s q j 1074) (inf s))
+      go true = of-odd q j
+      go false = infinity
+
+  pub of-rounded : (n d : ℕ) → P (round binary64 s n d)
+  of-rounded n d =
+      let w = n * 2 ^ 1074 in
+      let k = size (w / d) - 53 in
+      subst P (sym (round-is binary64 s n d)) (of-units (nearest (w / (d * 2 ^ k)) (compare (w % (d * 2 ^ k) * 2) (d * 2 ^ k))) k)
 
 pub sign-of-rounded : (s : Bool) (n d : ℕ) → signOf (round binary64 s n d) ≡ s
-sign-of-rounded s n d =
-    let w = n * 2 ^ low binary64 in
-    let k = size (w / d) - 53 in
-    ap signOf (round-is binary64 s n d) ∙ units-sign s (nearest (w / (d * 2 ^ k)) (compare (w % (d * 2 ^ k) * 2) (d * 2 ^ k))) k
+unfolding signOf
+sign-of-rounded s = of-rounded (λ (v : Float). signOf v ≡ s) s refl (λ m e. refl)
+
+pub rounded-is-no-nan : (s : Bool) (n d : ℕ) → isNan (round binary64 s n d) ≡ false
+unfolding isNan
+rounded-is-no-nan s = of-rounded (λ (v : Float). isNan v ≡ false) s refl (λ m e. refl)
 
 pub square-is-not-negative : (x : Float) → signOf (x ⊗ x) ≡ false
 unfolding mul signOf
@@ -79,8 +90,10 @@ squares-of-parts x y = rw (square-of-magnitude x, square-of-magnitude y) (go (lt
   where
     a : Float
     a = absOf x
+
     b : Float
     b = absOf y
+
     go : (t : Bool) → a ⊗ a ⊕ b ⊗ b ≡ cond t b a ⊗ cond t b a ⊕ cond t a b ⊗ cond t a b
     go true = sum-in-either-order (a ⊗ a) (b ⊗ b) (square-is-not-negative a) (square-is-not-negative b)
     go false = refl

@@ -1,7 +1,7 @@
 -- hypot: the length √(x² + y²), as a sequence of single roundings.
 use Prim.Native.Nat.{_-_, _/_, _%_}
 use mathlib.Core.Bool.{Bool, true, false, cond, _&&_, _||_}
-use lib.Ieee.{Float, nan, inf, fin, binary64, toBits, lt, le}
+use lib.Ieee.{Float, nan, inf, fin, binary64, toBits, lt}
 use Rattle.floats.specs.Binary64.{_⊕_, _⊖_, _⊗_, bits}
 use Rattle.floats.specs.Number.{absOf}
 
@@ -72,7 +72,7 @@ lengthOf a b = cond (ordinary (squaresOf a b)) (rootOf (squaresOf a b) a b) (res
 
 -- A length is at most the sum of its parts and at least the larger of them. Rounding keeps both, so this changes no good answer; it is NaN exactly where a or b is.
 unfoldable pub boundedOf : Float → Float → Float → Float
-boundedOf a b length = cond (le length (a ⊕ b)) (cond (le a length) length a) (a ⊕ b)
+boundedOf a b length = cond (lt length (a ⊕ b)) (cond (lt a length) length a) (a ⊕ b)
 
 -- the length of a pair whose larger magnitude is a
 abbrev pub pairOf : Float → Float → Float

@@ -9,20 +9,29 @@ ghost use Rattle.hypot.specs.Hypot.{larger, smaller, guessOf, reciprocal
 
 // 2^-900 and 2^1000: a sum of squares between them lost nothing by overflow or underflow
 const LEAST: f64 = 1.1830521861667747e-271;
+
 const MOST: f64 = 1.0715086071862673e301;
 
 const UP: f64 = 4.149515568880993e180;
+
 const DOWN: f64 = 2.409919865102884e-181;
 
 const C2: f64 = 0.3749978568724811;
+
 const C3: f64 = 0.31249761099198886;
+
 const C4: f64 = 0.27491143844841626;
+
 const C5: f64 = 0.24756060687689005;
 
 fn is_ordinary(squares: f64) -> bool
     ensures { λ r. ⌜ r ≡ ordinary squares ⌝ }
 {
-    if squares > LEAST { squares < MOST } else { false }
+    if squares > LEAST {
+        squares < MOST
+    } else {
+        false
+    }
 }
 
 fn larger_of(a: f64, b: f64) -> f64
@@ -87,8 +96,8 @@ fn bounded(a: f64, b: f64, length: f64) -> f64
     ensures { λ r. ⌜ r ≡ boundedOf a b length ⌝ }
 {
     let sum = a + b;
-    if length <= sum {
-        if a <= length { length } else { a }
+    if length < sum {
+        if a < length { length } else { a }
     } else {
         sum
     }
