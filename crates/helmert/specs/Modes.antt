@@ -112,12 +112,18 @@ ownEpochStepOf shift inv v =
 
 -- ---- the step: the mode that the shift calls for
 
-abbrev pub stayOf : State → Tuple → Stepped
-stayOf state v = record { state = state; tuple = v }
+-- dynamic and not fixed; a static or fixed sheet ignores the own-epoch flag
+abbrev pub timeVaryingOf : Shift → Bool
+timeVaryingOf shift = shift .dynamic && not (shift .fixed)
 
--- A static or fixed sheet ignores the own-epoch flag. Only running changes the state.
+abbrev pub isOwnEpochOf : Shift → Bool
+isOwnEpochOf shift = timeVaryingOf shift && shift .«own_epoch»
+
+abbrev pub isRunningOf : Shift → Bool
+isRunningOf shift = timeVaryingOf shift && not (shift .«own_epoch»)
+
+-- Only running changes the state.
 unfoldable pub stepOf : Shift → Bool → State → Tuple → Stepped
 stepOf shift inv state v =
-    cond (shift .dynamic && not (shift .fixed))
-    (cond (shift .«own_epoch») (stayOf state (ownEpochStepOf shift inv v)) (runningOf shift inv state v))
-    (stayOf state (fixedStepOf shift inv v))
+    cond (isRunningOf shift) (runningOf shift inv state v)
+    (record { state = state; tuple = cond (isOwnEpochOf shift) (ownEpochStepOf shift inv v) (fixedStepOf shift inv v) })

@@ -11,7 +11,7 @@ ghost use Rattle.helmert.specs.Units.{linearScaleOf, angularScaleOf, win
 ghost use Rattle.helmert.specs.Rules.{someOf, rotatedOf, dynamicOf, finite3Of, timeOf, vectorsFiniteOf, scalesFiniteOf, fieldsInRuleOf, lacksConventionOf, lacksEpochOf};
 ghost use Rattle.helmert.specs.Matrix.{sinesOf, smallOf, firstOrderOf, secondOrderOf, rowsOf, rotationMatrixOf};
 ghost use Rattle.helmert.specs.Apply.{rotateOf, rotateBackOf, offsetOf, deoffsetOf, forwardOf, inverseOf, applyOf};
-ghost use Rattle.helmert.specs.Modes.{observedOf, prepareOf, grownOf, scaleAtOf, shiftedOf, fixedStepOf, startOf, nextOf, runningOf, ownTimeOf, ownEpochStepOf, stepOf};
+ghost use Rattle.helmert.specs.Modes.{observedOf, prepareOf, grownOf, scaleAtOf, shiftedOf, fixedStepOf, startOf, nextOf, runningOf, ownTimeOf, ownEpochStepOf, isOwnEpochOf, isRunningOf, stepOf};
 use tuple::Tuple;
 
 const PI: f64 = 3.141592653589793;
@@ -668,19 +668,33 @@ pub fn own_epoch_step(shift: Shift, inv: bool, v: Tuple) -> Tuple
     )
 }
 
+// Dynamic and not fixed, with the own-epoch flag.
+pub fn is_own_epoch(shift: Shift) -> bool
+    ensures { λ r. ⌜ r ≡ isOwnEpochOf shift ⌝ }
+{
+    shift.dynamic & !shift.fixed & shift.own_epoch
+}
+
+// Dynamic and not fixed, without it.
+pub fn is_running(shift: Shift) -> bool
+    ensures { λ r. ⌜ r ≡ isRunningOf shift ⌝ }
+{
+    shift.dynamic & !shift.fixed & !shift.own_epoch
+}
+
 // One tuple by the mode that the shift calls for.
 pub fn step(shift: Shift, inv: bool, state: State, v: Tuple) -> Stepped
     ensures { λ r. ⌜ r ≡ stepOf shift inv state v ⌝ }
 {
-    if shift.dynamic & !shift.fixed {
-        if shift.own_epoch {
-            let w = own_epoch_step(shift, inv, v);
-            return Stepped {
-                state: state,
-                tuple: w,
-            };
-        }
+    if is_running(shift) {
         return running(shift, inv, state, v);
+    }
+    if is_own_epoch(shift) {
+        let w = own_epoch_step(shift, inv, v);
+        return Stepped {
+            state: state,
+            tuple: w,
+        };
     }
     let w = fixed_step(shift, inv, v);
     Stepped {
