@@ -7,7 +7,8 @@ use Rattle.tuple.specs.declared.Tuple.{Tuple}
 use Rattle.helmert.specs.declared.Vec3.{Vec3}
 use Rattle.helmert.specs.declared.Shift.{Shift}
 use Rattle.helmert.specs.declared.State.{State}
-use Rattle.helmert.specs.Apply.{forwardOf, inverseOf, applyOf}
+use mathlib.Core.List.{[], _∷_}
+use Rattle.helmert.specs.Apply.{at, forwardOf, inverseOf, applyOf}
 use Rattle.helmert.specs.Matrix.{Matrix, rowsOf, rotationMatrixOf}
 use Rattle.helmert.specs.Modes.{fixedStepOf, grownOf, nextOf, runningOf, ownEpochStepOf, timeVaryingOf, isOwnEpochOf, isRunningOf, stepOf}
 
@@ -50,3 +51,55 @@ state-from-time shift inv back state v w h = go (isRunningOf shift) refl
 pub same-in-same-out : (shift : Shift) (inv : Bool) (state other : State) (v w : Tuple) → state ≡ other → v ≡ w
     → stepOf shift inv state v ≡ stepOf shift inv other w
 same-in-same-out shift inv state other v w hs hv = rw (hs, hv)
+
+-- ---- time
+
+applied-time-stays : (inv : Bool) (t : Vec3) (s : Float) (rotated : Bool) (m : Matrix) (v : Tuple) → applyOf inv t s rotated m v .t ≡ v .t
+unfolding forwardOf inverseOf
+applied-time-stays true t s rotated m v = refl
+applied-time-stays false t s rotated m v = refl
+
+-- in every mode, both ways, a fix keeps its time
+pub time-stays : (shift : Shift) (inv : Bool) (state : State) (v : Tuple) → stepOf shift inv state v .tuple .t ≡ v .t
+unfolding stepOf runningOf ownEpochStepOf fixedStepOf
+time-stays shift inv state v = go (isRunningOf shift) (isOwnEpochOf shift) refl refl
+  where
+    go : (a b : Bool) → isRunningOf shift ≡ a → isOwnEpochOf shift ≡ b → stepOf shift inv state v .tuple .t ≡ v .t
+    go true b e f = rw e (applied-time-stays inv _ _ _ _ v)
+    go false true e f = rw (e, f) (applied-time-stays inv _ _ _ _ v)
+    go false false e f = rw (e, f) (applied-time-stays inv _ _ _ _ v)
+
+-- ---- one NaN time spoils T for the rest
+
+pub nothing3 : Vec3
+nothing3 = record { x = nan; y = nan; z = nan }
+
+plus-nan : (x : Float) → x ⊕ nan ≡ nan
+unfolding add
+plus-nan nan = refl
+plus-nan (inf s) = refl
+plus-nan (fin s m e) = refl
+
+pub nan-time-spoils : (shift : Shift) (state : State) → nextOf shift state nan .t ≡ nothing3
+unfolding nextOf grownOf ne eq sub add mul nothing3
+nan-time-spoils shift state = rw (plus-nan (state .t .x), plus-nan (state .t .y), plus-nan (state .t .z))
+
+pub spoilt-stays-spoilt : (shift : Shift) (state : State) (time : Float) → state .t ≡ nothing3 → nextOf shift state time .t ≡ nothing3
+unfolding nextOf grownOf add nothing3
+spoilt-stays-spoilt shift state time h = go (ne time (state .last)) refl
+  where
+    go : (b : Bool) → ne time (state .last) ≡ b → nextOf shift state time .t ≡ nothing3
+    go true e = rw (e, h)
+    go false e = rw (e, h)
+
+-- ---- the matrix
+
+-- rows become columns, of three rows of three
+pub transposed : Matrix → Matrix
+transposed m =
+    (at m 0 0 ∷ at m 1 0 ∷ at m 2 0 ∷ []) ∷ (at m 0 1 ∷ at m 1 1 ∷ at m 2 1 ∷ []) ∷ (at m 0 2 ∷ at m 1 2 ∷ at m 2 2 ∷ []) ∷ []
+
+-- the position vector matrix is the transpose of the coordinate frame's, for any angles, small or exact
+pub position-vector-is-transpose : (r : Vec3) (exact : Bool) → rotationMatrixOf r exact true ≡ transposed (rotationMatrixOf r exact false)
+unfolding rotationMatrixOf rowsOf transposed
+position-vector-is-transpose r exact = refl
