@@ -4,10 +4,9 @@ use mathlib.Core.Bool.{Bool, true, false, not, cond, _&&_}
 use mathlib.Core.List.{List, [], _∷_}
 use Prim.Native.Nat.{ℕ}
 use lib.Ieee.{Float, nan, binary64, ofBits, add, sub, mul, div, neg, eq, ne, isNan}
-use lib.Ieee.Scale.{finite}
 use Rattle.floats.specs.Binary64.{bits}
 use Rattle.tuple.specs.declared.Tuple.{Tuple}
-use Rattle.helmert.specs.declared.Vec3.{Vec3}
+use Rattle.rotation.specs.declared.Vec3.{Vec3}
 use Rattle.helmert.specs.declared.Helmert.{Helmert}
 use Rattle.helmert.specs.declared.Shift.{Shift}
 use Rattle.helmert.specs.declared.State.{State}
@@ -15,8 +14,8 @@ use Rattle.helmert.specs.declared.Stepped.{Stepped}
 use Rattle.helmert.specs.Record.{zero3, blankHelmert}
 use Rattle.helmert.specs.Units.{winnerOf, lengthsOf, anglesOf, parametersOf}
 use Rattle.helmert.specs.Rules.{someOf, rotatedOf, dynamicOf, finite3Of, timeOf, vectorsFiniteOf, scalesFiniteOf, fieldsInRuleOf, lacksConventionOf, lacksEpochOf}
-use Rattle.helmert.specs.Matrix.{firstOrderOf, secondOrderOf, rowsOf, rotationMatrixOf}
-use Rattle.helmert.specs.Apply.{rotateOf, rotateBackOf, offsetOf, deoffsetOf, forwardOf, inverseOf}
+use Rattle.rotation.specs.Matrix.{firstOrderOf, secondOrderOf, rowsOf, rotationMatrixOf}
+use Rattle.helmert.specs.Apply.{offsetOf, deoffsetOf, forwardOf, inverseOf}
 use Rattle.helmert.specs.Modes.{observedOf, prepareOf, grownOf, scaleAtOf, fixedStepOf, startOf, nextOf, runningOf, ownTimeOf, ownEpochStepOf, stepOf}
 
 -- ---- records to look at
@@ -107,7 +106,7 @@ rules :
     -- a rate of 2^-1074 mm a year scales to zero, and is no rate; in metres it is one
     × (lacksEpochOf (sheet 4 (bits 1) (bits 0) (bits 0) nan nan) ≡ false)
     × (lacksEpochOf (sheet 0 (bits 1) (bits 0) (bits 0) nan nan) ≡ true)
-unfolding one along-x sheet blankHelmert fieldsInRuleOf vectorsFiniteOf scalesFiniteOf finite3Of timeOf finite isNan lacksConventionOf lacksEpochOf parametersOf winnerOf lengthsOf anglesOf rotatedOf dynamicOf someOf ofBits add mul div eq ne
+unfolding one along-x sheet blankHelmert fieldsInRuleOf vectorsFiniteOf scalesFiniteOf finite3Of timeOf isNan lacksConventionOf lacksEpochOf parametersOf winnerOf lengthsOf anglesOf rotatedOf dynamicOf someOf ofBits add mul div eq ne
 rules = (refl, refl, refl, refl, refl, refl, refl)
 
 -- ---- the listed difference of t_obs

@@ -4,12 +4,11 @@ use mathlib.Core.Bool.{Bool, true, false, not, cond, _&&_}
 use lib.Ieee.{Float, nan, inf, fin, binary64, add, sub, mul, eq, ne}
 use Rattle.floats.specs.Binary64.{_⊕_, _⊖_, _⊗_}
 use Rattle.tuple.specs.declared.Tuple.{Tuple}
-use Rattle.helmert.specs.declared.Vec3.{Vec3}
+use Rattle.rotation.specs.declared.Vec3.{Vec3}
 use Rattle.helmert.specs.declared.Shift.{Shift}
 use Rattle.helmert.specs.declared.State.{State}
-use mathlib.Core.List.{[], _∷_}
-use Rattle.helmert.specs.Apply.{at, forwardOf, inverseOf, applyOf}
-use Rattle.helmert.specs.Matrix.{Matrix, rowsOf, rotationMatrixOf}
+use Rattle.helmert.specs.Apply.{forwardOf, inverseOf, applyOf}
+use Rattle.rotation.specs.Matrix.{Matrix}
 use Rattle.helmert.specs.Modes.{fixedStepOf, grownOf, nextOf, runningOf, ownEpochStepOf, timeVaryingOf, isOwnEpochOf, isRunningOf, stepOf}
 
 -- ---- what a step carries
@@ -91,15 +90,3 @@ spoilt-stays-spoilt shift state time h = go (ne time (state .last)) refl
     go : (b : Bool) → ne time (state .last) ≡ b → nextOf shift state time .t ≡ nothing3
     go true e = rw (e, h)
     go false e = rw (e, h)
-
--- ---- the matrix
-
--- rows become columns, of three rows of three
-pub transposed : Matrix → Matrix
-transposed m =
-    (at m 0 0 ∷ at m 1 0 ∷ at m 2 0 ∷ []) ∷ (at m 0 1 ∷ at m 1 1 ∷ at m 2 1 ∷ []) ∷ (at m 0 2 ∷ at m 1 2 ∷ at m 2 2 ∷ []) ∷ []
-
--- the position vector matrix is the transpose of the coordinate frame's, for any angles, small or exact
-pub position-vector-is-transpose : (r : Vec3) (exact : Bool) → rotationMatrixOf r exact true ≡ transposed (rotationMatrixOf r exact false)
-unfolding rotationMatrixOf rowsOf transposed
-position-vector-is-transpose r exact = refl

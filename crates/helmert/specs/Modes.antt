@@ -5,7 +5,7 @@ use lib.Dec.{eqb}
 use lib.Ieee.{Float, nan, isNan, ne}
 use Rattle.floats.specs.Binary64.{_⊕_, _⊖_, _⊗_}
 use Rattle.tuple.specs.declared.Tuple.{Tuple}
-use Rattle.helmert.specs.declared.Vec3.{Vec3}
+use Rattle.rotation.specs.declared.Vec3.{Vec3}
 use Rattle.helmert.specs.declared.Helmert.{Helmert}
 use Rattle.helmert.specs.declared.Parameters.{Parameters}
 use Rattle.helmert.specs.declared.Shift.{Shift}
@@ -14,7 +14,7 @@ use Rattle.helmert.specs.declared.Stepped.{Stepped}
 use Rattle.helmert.specs.Record.{exactOf, ownEpochOf}
 use Rattle.helmert.specs.Units.{parametersOf}
 use Rattle.helmert.specs.Rules.{rotatedOf, dynamicOf}
-use Rattle.helmert.specs.Matrix.{rotationMatrixOf}
+use Rattle.rotation.specs.Matrix.{rotationMatrixOf}
 use Rattle.helmert.specs.Apply.{applyOf}
 
 -- ---- the prepared shift

@@ -4,7 +4,7 @@ use mathlib.Core.Bool.{Bool}
 use lib.Dec.{eqb}
 use lib.Ieee.{Float, nan}
 use Rattle.floats.specs.Binary64.{bits}
-use Rattle.helmert.specs.declared.Vec3.{Vec3}
+use Rattle.rotation.specs.declared.Vec3.{Vec3}
 use Rattle.helmert.specs.declared.Helmert.{Helmert}
 
 -- ---- flags: 1 exact, 2 uas, 4 mm, 8 own-epoch

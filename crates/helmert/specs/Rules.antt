@@ -3,7 +3,7 @@ use mathlib.Core.Bool.{Bool, _&&_, _||_}
 use lib.Dec.{ltb, eqb}
 use lib.Ieee.{Float, isNan, ne}
 use lib.Ieee.Scale.{finite}
-use Rattle.helmert.specs.declared.Vec3.{Vec3}
+use Rattle.rotation.specs.declared.Vec3.{Vec3}
 use Rattle.helmert.specs.declared.Helmert.{Helmert}
 use Rattle.helmert.specs.declared.Parameters.{Parameters}
 use Rattle.helmert.specs.Units.{zero, parametersOf}

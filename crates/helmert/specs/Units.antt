@@ -2,7 +2,7 @@
 use mathlib.Core.Bool.{Bool, cond}
 use lib.Ieee.{Float, ne}
 use Rattle.floats.specs.Binary64.{_⊕_, _⊗_, _⊘_, bits}
-use Rattle.helmert.specs.declared.Vec3.{Vec3}
+use Rattle.rotation.specs.declared.Vec3.{Vec3}
 use Rattle.helmert.specs.declared.Helmert.{Helmert}
 use Rattle.helmert.specs.declared.Parameters.{Parameters}
 use Rattle.helmert.specs.Record.{uasOf, mmOf}

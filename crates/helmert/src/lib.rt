@@ -9,18 +9,12 @@ ghost use mathlib.Core.Path.{_≡_};
 ghost use Rattle.helmert.specs.Record.{exactOf, uasOf, mmOf, ownEpochOf, blankHelmert};
 ghost use Rattle.helmert.specs.Units.{linearScaleOf, angularScaleOf, winnerOf, lengthsOf, anglesOf, parametersOf};
 ghost use Rattle.helmert.specs.Rules.{someOf, rotatedOf, dynamicOf, finite3Of, timeOf, vectorsFiniteOf, scalesFiniteOf, fieldsInRuleOf, lacksConventionOf, lacksEpochOf};
-ghost use Rattle.helmert.specs.Matrix.{sinesOf, smallOf, firstOrderOf, secondOrderOf, rowsOf, rotationMatrixOf};
-ghost use Rattle.helmert.specs.Apply.{rotateOf, rotateBackOf, offsetOf, deoffsetOf, forwardOf, inverseOf, applyOf};
-ghost use Rattle.helmert.specs.Modes.{observedOf, prepareOf, grownOf, scaleAtOf, shiftedOf, fixedStepOf, startOf, nextOf, runningOf, ownTimeOf, ownEpochStepOf, isOwnEpochOf, isRunningOf, stepOf};
+ghost use Rattle.helmert.specs.Apply.{offsetOf, deoffsetOf, forwardOf, inverseOf, applyOf};
+ghost use Rattle.helmert.specs.Modes.{movedOf, observedOf, prepareOf, grownOf, scaleAtOf, shiftedOf, fixedStepOf, startOf, nextOf, runningOf, ownTimeOf, ownEpochStepOf, isOwnEpochOf, isRunningOf, stepOf};
+use rotation::Vec3;
 use tuple::Tuple;
 
 const PI: f64 = 3.141592653589793;
-
-pub struct Vec3 {
-    pub x: f64,
-    pub y: f64,
-    pub z: f64,
-}
 
 // ----- the record ----------------------------------------------------------------------
 
@@ -273,36 +267,33 @@ pub struct Shift {
     pub own_epoch: bool,
 }
 
+// A parameter moved once by rate·d.
+fn moved(v: Vec3, rate: Vec3, d: f64) -> Vec3
+    ensures { λ r. ⌜ r ≡ movedOf v rate d ⌝ }
+{
+    Vec3 {
+        x: v.x + rate.x * d,
+        y: v.y + rate.y * d,
+        z: v.z + rate.z * d,
+    }
+}
+
 // The parameters at a fixed observation time, d years after t_epoch. S moves three times, because the Rust adds to it inside its loop over the axes.
 fn observed(p: Parameters, d: f64) -> Parameters
     ensures { λ r. ⌜ r ≡ observedOf p d ⌝ }
 {
-    let t = p.t;
-    let r = p.r;
+    let t = moved(p.t, p.dt, d);
+    let r = moved(p.r, p.dr, d);
+    let s = p.s + p.ds * d + p.ds * d + p.ds * d;
     let dt = p.dt;
     let dr = p.dr;
-    let ds = p.ds;
-    let mut s = p.s;
-    s = s + ds * d;
-    s = s + ds * d;
-    s = s + ds * d;
-    let t_obs = Vec3 {
-        x: t.x + dt.x * d,
-        y: t.y + dt.y * d,
-        z: t.z + dt.z * d,
-    };
-    let r_obs = Vec3 {
-        x: r.x + dr.x * d,
-        y: r.y + dr.y * d,
-        z: r.z + dr.z * d,
-    };
     Parameters {
-        t: t_obs,
-        r: r_obs,
+        t: t,
+        r: r,
         s: s,
         dt: dt,
         dr: dr,
-        ds: ds,
+        ds: p.ds,
     }
 }
 
@@ -329,144 +320,7 @@ pub fn prepare(h: Helmert) -> Shift
     }
 }
 
-// ----- rotation matrix builder ---------------------------------------------------------------
-
-// The sines and cosines of the three angles, or what stands for them.
-pub struct Sines {
-    pub sx: f64,
-    pub cx: f64,
-    pub sy: f64,
-    pub cy: f64,
-    pub sz: f64,
-    pub cz: f64,
-}
-
-// The nine entries, by row and column of the coordinate frame's matrix.
-pub struct Entries {
-    pub r11: f64,
-    pub r12: f64,
-    pub r13: f64,
-    pub r21: f64,
-    pub r22: f64,
-    pub r23: f64,
-    pub r31: f64,
-    pub r32: f64,
-    pub r33: f64,
-}
-
-fn exact_sines(r: Vec3) -> Sines
-    ensures { λ q. ⌜ q ≡ sinesOf r ⌝ }
-{
-    let x = trig::sin_cos(r.x);
-    let y = trig::sin_cos(r.y);
-    let z = trig::sin_cos(r.z);
-    Sines {
-        sx: x.s,
-        cx: x.c,
-        sy: y.s,
-        cy: y.c,
-        sz: z.s,
-        cz: z.c,
-    }
-}
-
-fn small_sines(r: Vec3) -> Sines
-    ensures { λ q. ⌜ q ≡ smallOf r ⌝ }
-{
-    Sines {
-        sx: r.x,
-        cx: 1.0,
-        sy: r.y,
-        cy: 1.0,
-        sz: r.z,
-        cz: 1.0,
-    }
-}
-
-// Leaves out the second order infinitesimals in the rotation matrix elements, as small-angle approximations do.
-fn first_order(a: Sines) -> Entries
-    ensures { λ r. ⌜ r ≡ firstOrderOf a ⌝ }
-{
-    Entries {
-        r11: a.cy * a.cz,
-        r12: a.cx * a.sz,
-        r13: -a.cx * a.sy * a.cz,
-        r21: -a.cy * a.sz,
-        r22: a.cx * a.cz,
-        r23: a.sx * a.cz,
-        r31: a.sy,
-        r32: -a.sx * a.cy,
-        r33: a.cx * a.cy,
-    }
-}
-
-// Applies the second order terms, for the exact case.
-fn second_order(a: Sines) -> Entries
-    ensures { λ r. ⌜ r ≡ secondOrderOf a ⌝ }
-{
-    let e = first_order(a);
-    Entries {
-        r11: e.r11,
-        r12: e.r12 + a.sx * a.sy * a.cz,
-        r13: e.r13 + a.sx * a.sz,
-        r21: e.r21,
-        r22: e.r22 - a.sx * a.sy * a.sz,
-        r23: e.r23 + a.cx * a.sy * a.sz,
-        r31: e.r31,
-        r32: e.r32,
-        r33: e.r33,
-    }
-}
-
-fn rows(position_vector: bool, e: Entries) -> [[f64; 3]; 3]
-    ensures { λ r. ⌜ r ≡ rowsOf «position_vector» e ⌝ }
-{
-    if position_vector {
-        return [
-            [e.r11, e.r21, e.r31],
-            [e.r12, e.r22, e.r32],
-            [e.r13, e.r23, e.r33],
-        ];
-    }
-    [
-        [e.r11, e.r12, e.r13],
-        [e.r21, e.r22, e.r23],
-        [e.r31, e.r32, e.r33],
-    ]
-}
-
-pub fn rotation_matrix(r: Vec3, exact: bool, position_vector: bool) -> [[f64; 3]; 3]
-    ensures { λ m. ⌜ m ≡ rotationMatrixOf r exact «position_vector» ⌝ }
-{
-    if exact {
-        return rows(position_vector, second_order(exact_sines(r)));
-    }
-    rows(position_vector, first_order(small_sines(r)))
-}
-
 // ----- forward and inverse ---------------------------------------------------------------------
-
-// M·v
-pub fn rotate(m: [[f64; 3]; 3], v: Vec3) -> Vec3
-    ensures { λ r. ⌜ r ≡ rotateOf m v ⌝ }
-{
-    Vec3 {
-        x: v.x * m[0][0] + v.y * m[0][1] + v.z * m[0][2],
-        y: v.x * m[1][0] + v.y * m[1][1] + v.z * m[1][2],
-        z: v.x * m[2][0] + v.y * m[2][1] + v.z * m[2][2],
-    }
-}
-
-// Inverse rotation by transposed multiplication.
-pub fn rotate_back(m: [[f64; 3]; 3], v: Vec3) -> Vec3
-    ensures { λ r. ⌜ r ≡ rotateBackOf m v ⌝ }
-{
-    Vec3 {
-        x: v.x * m[0][0] + v.y * m[1][0] + v.z * m[2][0],
-        y: v.x * m[0][1] + v.y * m[1][1] + v.z * m[2][1],
-        z: v.x * m[0][2] + v.y * m[1][2] + v.z * m[2][2],
-    }
-}
 
 // Scale and offset.
 pub fn offset(t: Vec3, s: f64, v: Vec3) -> Vec3
@@ -499,7 +353,7 @@ pub fn forward(t: Vec3, s: f64, rotated: bool, m: [[f64; 3]; 3], v: Tuple) -> Tu
         z: v.z,
     };
     if rotated {
-        let w = offset(t, s, rotate(m, c));
+        let w = offset(t, s, rotation::rotate(m, c));
         return Tuple {
             x: w.x,
             y: w.y,
@@ -526,7 +380,7 @@ pub fn inverse(t: Vec3, s: f64, rotated: bool, m: [[f64; 3]; 3], v: Tuple) -> Tu
     };
     let u = deoffset(t, s, c);
     if rotated {
-        let w = rotate_back(m, u);
+        let w = rotation::rotate_back(m, u);
         return Tuple {
             x: w.x,
             y: w.y,
@@ -591,7 +445,7 @@ fn shifted(shift: Shift, inv: bool, t: Vec3, r: Vec3, s: f64, v: Tuple) -> Tuple
         t,
         s,
         shift.rotated,
-        rotation_matrix(r, shift.exact, shift.position_vector),
+        rotation::rotation_matrix(r, shift.exact, shift.position_vector),
         v,
     )
 }

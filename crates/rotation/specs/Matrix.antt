@@ -5,18 +5,22 @@
 --            | cz sz 0 |           | cy 0 -sy |           | 1   0  0 |
 --     ROTZ = |-sz cz 0 |,   ROTY = | 0  1   0 |,   ROTX = | 0  cx sx |
 --            |  0  0 1 |           | sy 0  cy |           | 0 -sx cx |
+use Prim.Native.Nat.{ℕ}
 use mathlib.Core.Bool.{Bool, cond}
 use mathlib.Core.List.{List, [], _∷_}
-use lib.Ieee.{Float, neg}
-use Rattle.floats.specs.Binary64.{_⊕_, _⊖_, _⊗_}
+use lib.ListN.{getD}
+use lib.Ieee.{Float, nan, neg}
+use Rattle.floats.specs.Binary64.{_⊕_, _⊖_, _⊗_, bits}
 use Rattle.trig.specs.Trig.{sinCosOf}
-use Rattle.helmert.specs.declared.Vec3.{Vec3}
-use Rattle.helmert.specs.declared.Sines.{Sines}
-use Rattle.helmert.specs.declared.Entries.{Entries}
-use Rattle.helmert.specs.Units.{one}
+use Rattle.rotation.specs.declared.Vec3.{Vec3}
+use Rattle.rotation.specs.declared.Sines.{Sines}
+use Rattle.rotation.specs.declared.Entries.{Entries}
 
 abbrev pub Matrix : Type 0
 Matrix = List (List Float)
+
+abbrev pub one : Float
+one = bits 0x3ff0_0000_0000_0000
 
 -- small-angle approximations: sx = sin(rx) = rx, cx = cos(rx) = 1, etc.
 abbrev pub smallOf : Vec3 → Sines
@@ -74,3 +78,31 @@ rowsOf positionVector e =
 unfoldable pub rotationMatrixOf : Vec3 → Bool → Bool → Matrix
 rotationMatrixOf r exact positionVector =
     rowsOf positionVector (cond exact (secondOrderOf (sinesOf r)) (firstOrderOf (smallOf r)))
+
+-- ---- application
+
+-- the number in row i, column j, from 0
+abbrev pub at : Matrix → ℕ → ℕ → Float
+at m i j = getD (getD m i []) j nan
+
+-- the sum of three products, from the left
+abbrev pub dotOf : Vec3 → Float → Float → Float → Float
+dotOf v a b c = v .x ⊗ a ⊕ v .y ⊗ b ⊕ v .z ⊗ c
+
+-- M·v
+unfoldable pub rotateOf : Matrix → Vec3 → Vec3
+rotateOf m v =
+    record {
+      x = dotOf v (at m 0 0) (at m 0 1) (at m 0 2);
+      y = dotOf v (at m 1 0) (at m 1 1) (at m 1 2);
+      z = dotOf v (at m 2 0) (at m 2 1) (at m 2 2);
+    }
+
+-- Mᵀ·v
+unfoldable pub rotateBackOf : Matrix → Vec3 → Vec3
+rotateBackOf m v =
+    record {
+      x = dotOf v (at m 0 0) (at m 1 0) (at m 2 0);
+      y = dotOf v (at m 0 1) (at m 1 1) (at m 2 1);
+      z = dotOf v (at m 0 2) (at m 1 2) (at m 2 2);
+    }

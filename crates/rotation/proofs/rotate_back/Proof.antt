@@ -1,9 +1,9 @@
--- `helmert::rotate` meets its contract. Assumes nothing.
+-- `rotation::rotate_back` meets its contract. Assumes nothing.
 use mathlib.Core.Path.{refl}
-use Rattle.helmert.specs.Apply.{rotateOf}
+use Rattle.rotation.specs.Matrix.{rotateBackOf}
 use borrow.Author.Needs.{needs}
-use Rattle.helmert.proofs.rotate.Statement.{statement}
-use Rattle.helmert.proofs.rotate.Tie as tie
+use Rattle.rotation.proofs.rotate_back.Statement.{statement}
+use Rattle.rotation.proofs.rotate_back.Tie as tie
 
 index-1-t8 : tie.Need-index-1-t8
 index-1-t8 c = search needs
@@ -60,11 +60,11 @@ index-2-t61 : tie.Need-index-2-t61
 index-2-t61 c = search needs
 
 returns : tie.Need-returns
-unfolding rotateOf
+unfolding rotateBackOf
 returns c = refl
 
-pub rotate-spec : {M : Type 1} → statement M
-rotate-spec =
+pub rotate-back-spec : {M : Type 1} → statement M
+rotate-back-spec =
     tie.close
     (tie.spec
     index-1-t8

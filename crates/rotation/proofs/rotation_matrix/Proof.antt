@@ -1,8 +1,8 @@
--- `helmert::rotation_matrix` meets its contract. Assumes nothing.
-use Rattle.helmert.specs.Matrix.{rotationMatrixOf}
+-- `rotation::rotation_matrix` meets its contract. Assumes nothing.
+use Rattle.rotation.specs.Matrix.{rotationMatrixOf}
 use borrow.Author.Needs.{needs}
-use Rattle.helmert.proofs.rotation_matrix.Statement.{statement}
-use Rattle.helmert.proofs.rotation_matrix.Tie as tie
+use Rattle.rotation.proofs.rotation_matrix.Statement.{statement}
+use Rattle.rotation.proofs.rotation_matrix.Tie as tie
 
 exact-sines-requires : tie.Need-exact-sines-requires
 exact-sines-requires c κs = search needs
