@@ -10,13 +10,13 @@
 ghost use mathlib.Core.Path.{_≡_};
 ghost use Prim.Native.Nat.{_+_, _-_, _*_, _^_, _≤_, _<_};
 ghost use lib.Ieee.{binary64, ofBits};
-ghost use Rattle.root.specs.Whole.{WholeRoot, NearestRoot, Significand};
+ghost use Rattle.root.specs.Whole.{WholeRoot, NearestRoot, Significand, doubled};
 ghost use Rattle.root.specs.Sqrt.{RoundedRoot, sqrtOf};
 
-// A positive number as m * 2^p units of 2^-2148, with all 53 digits in m.
+// A positive number as one from 0.5 to 2, whose bits are t, times a power of four: as `Significand` says.
 struct Scaled {
-    m: u64,
-    p: u64,
+    t: u64,
+    k: u64,
 }
 
 // The whole part of the root of a, a binary digit at a time from the top.
@@ -83,11 +83,11 @@ fn nearest(a: u64, g: u64, k: u64) -> f64
     let h = g / 67108864;
     let l = g % 67108864;
     let d = std::num::wrapping_sub_u64(a, h * h);
-    if 1073741824 <= d {
+    if 1073741824 < d {
         return slow(a, k);
     }
     let w = std::num::wrapping_sub_u64(d * 67108864 + 17179869184, 2 * h * l);
-    if 34359738368 <= w {
+    if 34359738368 < w {
         return slow(a, k);
     }
     let v = std::num::wrapping_sub_u64(w * 67108864 + 2 * g, l * l + 1152921504606846976);
@@ -111,19 +111,15 @@ fn approximate(t: f64, y: f64) -> f64 {
     s + (t - s * s) * (0.5 * y * p)
 }
 
-// The root of m * 2^p units of 2^-2148. t is m * 2^-52 or, for an odd p, half of it, so that its root has the same digits; b is its bits. Halving b halves the exponent:
-// the constant less that is nearly the bits of one over the root.
-fn positive(m: u64, p: u64) -> f64
-    requires { ⌜ (2 ^ 52 ≤ m) × (m < 2 ^ 53) × (1022 ≤ p) × (p < 3120) ⌝ }
-    ensures { λ r. ⌜ RoundedRoot (m * 2 ^ p) r ⌝ }
+// The root of the number with the bits t, from 0.5 to below 2, scaled by 2^k. Halving t halves the exponent: the constant less that is nearly the bits of one over the root.
+fn positive(t: u64, k: u64) -> f64
+    requires { ⌜ (1022 * 2 ^ 52 ≤ t) × (t < 1024 * 2 ^ 52) × (k < 2000) ⌝ }
+    ensures { λ r. ⌜ RoundedRoot (doubled t * 2 ^ 52 * (2 ^ k * 2 ^ k)) r ⌝ }
 {
-    let o = p % 2;
-    let a = m * (o + 1);
-    let k = (p - 52) / 2;
-    let b = m + (1022 - o) * 4503599627370496;
+    let a = (t % 4503599627370496 + 4503599627370496) * (2 - t / 4503599627370496 % 2);
     let s = approximate(
-        f64::from_bits(b),
-        f64::from_bits(0x5fe6_c000_0000_0000 - b / 2),
+        f64::from_bits(t),
+        f64::from_bits(0x5fe6_c000_0000_0000 - t / 2),
     );
     if 0.5 <= s {
         nearest(a, f64::to_bits(s) % 4503599627370496 + 4503599627370496, k)
@@ -132,16 +128,15 @@ fn positive(m: u64, p: u64) -> f64
     }
 }
 
-// The positive number with the bits b. A subnormal one is brought up to 53 digits.
+// The positive number with the bits b. A subnormal one is first brought up to 53 digits: m * 2^p units of 2^-2148.
 fn digits(b: u64) -> Scaled
     requires { ⌜ (0 < b) × (b < 2047 * 2 ^ 52) ⌝ }
-    ensures { λ r. ⌜ Significand b (r .m) (r .p) ⌝ }
+    ensures { λ r. ⌜ Significand b (r .t) (r .k) ⌝ }
 {
     if 4503599627370496 <= b {
-        return Scaled {
-            m: b % 4503599627370496 + 4503599627370496,
-            p: b / 4503599627370496 + 1073,
-        };
+        let t = b % 9007199254740992 + 4602678819172646912;
+        let k = (b / 4503599627370496 + 1021) / 2;
+        return Scaled { t: t, k: k };
     }
     let mut m = b;
     let mut p: u64 = 1074;
@@ -149,7 +144,9 @@ fn digits(b: u64) -> Scaled
         m = m * 2;
         p = p - 1;
     }
-    Scaled { m: m, p: p }
+    let t = m + (1022 - p % 2) * 4503599627370496;
+    let k = (p - 52) / 2;
+    Scaled { t: t, k: k }
 }
 
 // The square root of x. -0 gives -0, +inf gives +inf, a negative number and NaN give NaN.
@@ -170,5 +167,5 @@ pub fn sqrt(x: f64) -> f64
         return x;
     }
     let c = digits(b);
-    positive(c.m, c.p)
+    positive(c.t, c.k)
 }

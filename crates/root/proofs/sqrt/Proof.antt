@@ -14,7 +14,7 @@ use lib.Ieee.Exact.{HasValue}
 use lib.Ieee.Fits.{down-pos}
 use lib.Ieee.Positive.{first-pos}
 use Rattle.root.specs.Sqrt.{CorrectRoot, RoundedRoot, sqrtOf}
-use Rattle.root.specs.Whole.{Significand}
+use Rattle.root.specs.Whole.{Significand, doubled}
 use Rattle.root.proofs.Patterns.{no-nan-of, Below, infinite, none, some, negative-patterns, top-patterns}
 use Rattle.root.proofs.Rounded.{definition-is-correct, no-choice}
 use borrow.Author.Needs.{needs}
@@ -74,9 +74,10 @@ module _ (x : Float) (held : T (fits binary64 x)) where
   is-root : (r : Float) → CorrectRoot x r → r ≡ sqrtOf x
   is-root r w = no-choice x r (sqrtOf x) w (definition-is-correct x held)
 
-  at-number : (r : Float) (m p : ℕ) → Significand (toBits binary64 x) m p → RoundedRoot (m * 2 ^ p) r → r ≡ sqrtOf x
-  at-number r m p d w =
-      let n-pos : 0 < d .n = first-pos (d .n) (2 ^ 1074) (lt-of-lt-of-le (mul-pos {m = m} (omega (arith, d .low)) (pow-pos p)) (le-of-eq (d .same))) in
+  at-number : (r : Float) (t k : ℕ) → Significand (toBits binary64 x) t k → RoundedRoot (doubled t * 2 ^ 52 * (2 ^ k * 2 ^ k)) r → r ≡ sqrtOf x
+  at-number r t k d w =
+      let a-pos : 0 < doubled t = mul-pos {m = t % 2 ^ 52 + 2 ^ 52} (omega arith) (omega arith) in
+      let n-pos : 0 < d .n = first-pos (d .n) (2 ^ 1074) (lt-of-lt-of-le (mul-pos (mul-pos a-pos (pow-pos 52)) (mul-pos (pow-pos k) (pow-pos k))) (le-of-eq (d .same))) in
       is-root r (of-positive x r (d .n) (subst (λ (y : Float). HasValue y false (d .n) (2 ^ 1074)) back (d .value)) n-pos (subst (λ (z : ℕ). RoundedRoot z r) (d .same) w))
 
   at-top : 9218868437227405312 ≤ toBits binary64 x → toBits binary64 x ≤ 9223372036854775808 → x ≡ sqrtOf x
@@ -114,7 +115,7 @@ positive-requires : tie.Need-positive-requires
 positive-requires c κs = search needs
 
 returns-5 : tie.Need-returns-5
-returns-5 c = at-number (c .before .before .before .before .before .args .x) (held (c .before .before .before .before .before)) (c .positive .result) (c .before .digits .result .m) (c .before .digits .result .p) (c .before .digits .ensures) (c .positive .ensures)
+returns-5 c = at-number (c .before .before .before .before .before .args .x) (held (c .before .before .before .before .before)) (c .positive .result) (c .before .digits .result .t) (c .before .digits .result .k) (c .before .digits .ensures) (c .positive .ensures)
 
 pub sqrt-spec : {M : Type 1} → statement M
 sqrt-spec =
