@@ -13,9 +13,11 @@ pub record Entry : Type 0 where
   pub high : Float
   pub low : Float
 
+-- an entry by the bits of its parts
 abbrev pub entry : ℕ → ℕ → Entry
 entry high low = record { high = bits high; low = bits low }
 
+-- the entry of the opposite value
 abbrev pub turned : Entry → Entry
 turned e = record { high = neg (e .high); low = neg (e .low) }
 
@@ -41,6 +43,7 @@ quarter =
     ∷ entry 0x3ff0_0000_0000_0000 0x0000_0000_0000_0000
     ∷ []
 
+-- its entry j, for j up to 16
 abbrev pub quarterAt : ℕ → Entry
 quarterAt j = getD quarter j (entry 0 0)
 
@@ -54,9 +57,10 @@ sineAt i =
 abbrev pub cosineAt : ℕ → Entry
 cosineAt i = sineAt ((i + 16) % 64)
 
+-- The row of step i, for i below 64: sine, its rest, cosine, its rest.
 abbrev pub rowAt : ℕ → Row
 rowAt i = record { 0 = sineAt i .high; 1 = sineAt i .low; 2 = cosineAt i .high; 3 = cosineAt i .low }
 
--- The row of step k: steps k and k + 64 are the same.
+-- The row of any step k: steps k and k + 64 are the same.
 unfoldable pub rowOf : ℕ → Row
 rowOf k = rowAt (k % 64)

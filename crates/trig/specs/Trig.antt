@@ -49,7 +49,7 @@ reducedOf a =
     let r = w ⊖ v in
     record { step = toBits binary64 t; rest = r; tail = w ⊖ r ⊖ v ⊖ n ⊗ step₃ }
 
--- The two polynomials: sin r - r with the tail added, and cos r - 1. Their coefficients from r³ and r² on:
+-- the coefficients of the sine's polynomial, from r³ on, and of the cosine's, from r² on
 abbrev pub s₁ : Float
 s₁ = bits 0xbfc5_5555_5555_53f9
 
@@ -71,6 +71,7 @@ c₃ = bits 0xbf56_c16c_161c_4a69
 abbrev pub c₄ : Float
 c₄ = bits 0x3efa_013d_e08a_d5f9
 
+-- The two polynomials: sin r - r with the tail added, and cos r - 1.
 unfoldable pub bendOf : Float → Float → Bends
 bendOf r tail =
     let z = r ⊗ r in
@@ -79,7 +80,7 @@ bendOf r tail =
       cosine = z ⊗ (c₁ ⊕ z ⊗ (c₂ ⊕ z ⊗ (c₃ ⊕ z ⊗ c₄)));
     }
 
--- The clamp: r, or the end of -1 to 1 that it lies beyond.
+-- The clamp: r, or the end of -1 to 1 that it lies beyond; of NaN it is 1.
 unfoldable pub atMostOne : Float → Float
 atMostOne r = cond (lt r one) r one
 
@@ -104,6 +105,7 @@ cosineOf a =
     let w = rowOf (g .step) in
     sumOf (w .2) (w .3) (neg (w .0)) (g .rest) (bendOf (g .rest) (g .tail))
 
+-- both
 abbrev pub pairOf : Float → SinCos
 pairOf a = record { s = sineOf a; c = cosineOf a }
 
@@ -119,6 +121,6 @@ sinOf x = cond (eq x zero) x (cond (le (absOf x) reach) (signedOf (sineOf (absOf
 unfoldable pub cosOf : Float → Float
 cosOf x = cond (eq x zero) one (cond (le (absOf x) reach) (cosineOf (absOf x)) nan)
 
--- both
+-- sine and cosine of x
 abbrev pub sinCosOf : Float → SinCos
 sinCosOf x = record { s = sinOf x; c = cosOf x }

@@ -6,7 +6,7 @@
 // kept as `tail`; and one sum serves sine and cosine, in which only the last addition rounds a number of the result's size.
 //
 // Proved: the answer is the definition's for every angle; within -1 to 1; sine odd, cosine even; sine of a zero is that zero, cosine of a zero is 1; NaN
-// exactly where the angle is NaN or beyond ±1024. Measured: within 0.59·2^-53 for |x| up to 8, and within 1.3 units in the last place for every
+// exactly where the angle is NaN or beyond ±1024. Measured: within 0.59·2^-53 for |x| up to 8, and within 1.35 units in the last place for every
 // angle in reach. Every step of a shift that meets a latitude or an exact rotation uses the pair.
 ghost use mathlib.Core.Path.{_≡_};
 ghost use Rattle.trig.specs.Table.{rowOf};
