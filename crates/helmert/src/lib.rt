@@ -284,7 +284,8 @@ fn observed(p: Parameters, d: f64) -> Parameters
 {
     let t = moved(p.t, p.dt, d);
     let r = moved(p.r, p.dr, d);
-    let s = p.s + p.ds * d + p.ds * d + p.ds * d;
+    let ds = p.ds;
+    let s = p.s + ds * d + ds * d + ds * d;
     let dt = p.dt;
     let dr = p.dr;
     Parameters {
@@ -293,7 +294,7 @@ fn observed(p: Parameters, d: f64) -> Parameters
         s: s,
         dt: dt,
         dr: dr,
-        ds: p.ds,
+        ds: ds,
     }
 }
 

@@ -12,7 +12,7 @@ moved-requires-2 c κs = search needs
 
 returns : tie.Need-returns
 unfolding observedOf
-returns c = rw (c .before .before .before .before .before .before .moved2 .ensures, c .before .before .before .before .before .before .before .moved .ensures)
+returns c = rw (c .before .before .before .moved2 .ensures, c .before .before .before .before .moved .ensures)
 
 pub observed-spec : {M : Type 1} → statement M
 observed-spec = tie.close (tie.spec moved-requires moved-requires-2 returns)
