@@ -11,6 +11,7 @@
  * reach farthest; 1; the ends of the reach), and angles down to the least number. The points are the same at every run.
  * Ends with status 1 where an error exceeds what docs/KERNELS.md states, or a value leaves -1 to 1.
  */
+#define _GNU_SOURCE
 #include <math.h>
 #include <mpfr.h>
 #include <stdint.h>
