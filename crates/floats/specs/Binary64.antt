@@ -6,7 +6,6 @@ use lib.Ieee.{Float, binary64, ofBits, add, sub, mul, div}
 
 infixl 60 _⊕_ _⊖_
 infixl 70 _⊗_ _⊘_
-
 abbrev pub _⊕_ : Float → Float → Float
 x ⊕ y = add binary64 x y
 
