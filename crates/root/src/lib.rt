@@ -2,7 +2,7 @@
 //
 // By a float guess that an exact residual in whole numbers corrects. The guess: one over the root from the bits of the number (the start of the fast inverse
 // square root of Quake III Arena), mended by one polynomial of six coefficients and one step of Newton's method. It is off by one unit in the last place for one
-// number in eight, and was never seen off by more; but nothing is proved of it and nothing rests on it. What is returned has passed a test: the number lies between
+// number in eight, and was not off by more in 2 * 10^8 random ones; but nothing is proved of it and nothing rests on it. What is returned has passed a test: the number lies between
 // the squares of the midpoints on either side of the root. Where the guess is too far off for the test to tell, the root is worked out a digit at a time.
 //
 // Exact: proved correctly rounded for every binary64 number, subnormal ones included (`sqrt-is-correctly-rounded` in proofs/Laws.antt).
