@@ -2,11 +2,13 @@
 //
 // By a float guess that an exact residual in whole numbers corrects. The guess: one over the root from the bits of the number (the start of the fast inverse
 // square root of Quake III Arena), mended by one polynomial of six coefficients and one step of Newton's method. It is off by one unit in the last place for one
-// number in eight, and was never seen off by more; but nothing is proved of it and nothing rests on it. What is returned has passed a test: the number lies between
+// number in eight, and was not off by more in 2 * 10^8 random ones; but nothing is proved of it and nothing rests on it. What is returned has passed a test: the number lies between
 // the squares of the midpoints on either side of the root. Where the guess is too far off for the test to tell, the root is worked out a digit at a time.
 //
 // Exact: proved correctly rounded for every binary64 number, subnormal ones included (`sqrt-is-correctly-rounded` in proofs/Laws.antt).
 // The curvature radii of the ellipsoids, the inverses of cart and the length of a deformation call it.
+//
+// 0x10_0000_0000_0000 is 2^52, the weight of the exponent's field and of a significand's leading digit; 0x400_0000 is 2^26, half as many digits.
 ghost use mathlib.Core.Path.{_≡_};
 ghost use Prim.Native.Nat.{_+_, _-_, _*_, _^_, _≤_, _<_};
 ghost use lib.Ieee.{binary64, ofBits};
@@ -25,7 +27,7 @@ fn whole(a: u64) -> u64
     ensures { λ r. ⌜ WholeRoot a r ⌝ }
 {
     let mut q: u64 = 0;
-    let mut bit: u64 = 134217728;
+    let mut bit: u64 = 0x800_0000;
     while 1 < bit {
         let half = bit / 2;
         bit = bit - half;
@@ -62,7 +64,7 @@ fn put(q: u64, k: u64) -> f64
     requires { ⌜ (2 ^ 52 ≤ q) × (q < 2 ^ 53) × (k < 2000) ⌝ }
     ensures { λ r. ⌜ r ≡ ofBits binary64 (k * 2 ^ 52 + q) ⌝ }
 {
-    f64::from_bits(k * 4503599627370496 + q)
+    f64::from_bits(k * 0x10_0000_0000_0000 + q)
 }
 
 // The root of a * 2^52 * 4^k units of 2^-2148, a digit at a time.
@@ -74,23 +76,23 @@ fn slow(a: u64, k: u64) -> f64
 }
 
 // The same from any guess g at the root of a * 2^52, of which the answer is the nearest whole number. The square of g has 106 bits, so g is cut into h * 2^26 + l.
-// The residual a * 2^52 - g^2 is v - 2 g: the answer is g where it lies above -g and is at most g, and one more or one less up to 2 g. The differences wrap, and the
-// test after each sends those that did the slow way.
+// The residual a * 2^52 - g^2 is v - 2 g: the answer is g where it lies above -g and is at most g, and one more or one less up to 2 g. The differences may wrap, and the
+// test after each sends what wrapped the slow way.
 fn nearest(a: u64, g: u64, k: u64) -> f64
     requires { ⌜ (2 ^ 52 ≤ a) × (a < 2 ^ 54 - 1) × (2 ^ 52 ≤ g) × (g < 2 ^ 53) × (k < 2000) ⌝ }
     ensures { λ r. ⌜ RoundedRoot (a * 2 ^ 52 * (2 ^ k * 2 ^ k)) r ⌝ }
 {
-    let h = g / 67108864;
-    let l = g % 67108864;
+    let h = g / 0x400_0000;
+    let l = g % 0x400_0000;
     let d = std::num::wrapping_sub_u64(a, h * h);
-    if 1073741824 < d {
+    if 0x4000_0000 < d {
         return slow(a, k);
     }
-    let w = std::num::wrapping_sub_u64(d * 67108864 + 17179869184, 2 * h * l);
-    if 34359738368 < w {
+    let w = std::num::wrapping_sub_u64(d * 0x400_0000 + 0x4_0000_0000, 2 * h * l);
+    if 0x8_0000_0000 < w {
         return slow(a, k);
     }
-    let v = std::num::wrapping_sub_u64(w * 67108864 + 2 * g, l * l + 1152921504606846976);
+    let v = std::num::wrapping_sub_u64(w * 0x400_0000 + 2 * g, l * l + 0x1000_0000_0000_0000);
     if 4 * g <= v {
         return slow(a, k);
     }
@@ -116,13 +118,17 @@ fn positive(t: u64, k: u64) -> f64
     requires { ⌜ (1022 * 2 ^ 52 ≤ t) × (t < 1024 * 2 ^ 52) × (k < 2000) ⌝ }
     ensures { λ r. ⌜ RoundedRoot (doubled t * 2 ^ 52 * (2 ^ k * 2 ^ k)) r ⌝ }
 {
-    let a = (t % 4503599627370496 + 4503599627370496) * (2 - t / 4503599627370496 % 2);
+    let a = (t % 0x10_0000_0000_0000 + 0x10_0000_0000_0000) * (2 - t / 0x10_0000_0000_0000 % 2);
     let s = approximate(
         f64::from_bits(t),
         f64::from_bits(0x5fe6_c000_0000_0000 - t / 2),
     );
     if 0.5 <= s {
-        nearest(a, f64::to_bits(s) % 4503599627370496 + 4503599627370496, k)
+        nearest(
+            a,
+            f64::to_bits(s) % 0x10_0000_0000_0000 + 0x10_0000_0000_0000,
+            k,
+        )
     } else {
         slow(a, k)
     }
@@ -133,18 +139,18 @@ fn digits(b: u64) -> Scaled
     requires { ⌜ (0 < b) × (b < 2047 * 2 ^ 52) ⌝ }
     ensures { λ r. ⌜ Significand b (r .t) (r .k) ⌝ }
 {
-    if 4503599627370496 <= b {
-        let t = b % 9007199254740992 + 4602678819172646912;
-        let k = (b / 4503599627370496 + 1021) / 2;
+    if 0x10_0000_0000_0000 <= b {
+        let t = b % 0x20_0000_0000_0000 + 0x3fe0_0000_0000_0000;
+        let k = (b / 0x10_0000_0000_0000 + 1021) / 2;
         return Scaled { t: t, k: k };
     }
     let mut m = b;
     let mut p: u64 = 1074;
-    while m < 4503599627370496 {
+    while m < 0x10_0000_0000_0000 {
         m = m * 2;
         p = p - 1;
     }
-    let t = m + (1022 - p % 2) * 4503599627370496;
+    let t = m + (1022 - p % 2) * 0x10_0000_0000_0000;
     let k = (p - 52) / 2;
     Scaled { t: t, k: k }
 }
@@ -157,8 +163,8 @@ pub fn sqrt(x: f64) -> f64
         return x;
     }
     let b = f64::to_bits(x);
-    if 9218868437227405312 <= b {
-        if b <= 9223372036854775808 {
+    if 0x7ff0_0000_0000_0000 <= b {
+        if b <= 0x8000_0000_0000_0000 {
             return x;
         }
         return 0.0 / 0.0;
