@@ -1,14 +1,15 @@
 -- A number's sign, told by comparing with zero and, where that does not tell, by one over it. Assumes nothing.
-use mathlib.Core.Path.{_≡_, refl, sym, _∙_}
+use mathlib.Core.Path.{_≡_, refl, sym, ap, _∙_}
 use Prim.Native.Nat.{ℕ, zero, suc, _+_, _*_, _<_}
-use native.Mathlib.Nat.{zero-mul, mul-pos, zero-lt-suc}
+use native.Mathlib.Nat.{zero-mul, mul-pos, zero-lt-suc, le-refl, sub-self}
 use native.Mathlib.Omega.{arith}
-use mathlib.Core.Bool.{Bool, true, false, true≢false}
+use mathlib.Core.Bool.{Bool, true, false, not, true≢false}
 use lib.IntN.{ℤ}
-use lib.Ieee.{Float, nan, inf, fin, lt, eq, div, up, down, ofBits}
-use lib.Ieee.Fits.{up-pos}
+use lib.Ieee.{Float, nan, inf, fin, binary64, lt, eq, sub, div, add, sum, round, size, up, down, ofBits}
+use lib.Ieee.Fits.{up-pos, down-pos}
+use lib.Ieee.Scale.{finite, round-same}
 use borrow.Author.Tests.{lt-ltb, le-ltb, ne-eqb}
-use Rattle.floats.specs.Binary64.{bits, _⊘_}
+use Rattle.floats.specs.Binary64.{bits, _⊖_, _⊘_}
 use Rattle.floats.specs.Number.{signOf}
 
 some : (m : ℕ) (e : ℤ) → 0 < suc m * up e * 1
@@ -52,3 +53,29 @@ sign-of-other (inf s) h = refl
 sign-of-other (fin true zero e) h = absurd (true≢false (sym (equals-zero true e) ∙ h))
 sign-of-other (fin true (suc m) e) h = below-zero m e
 sign-of-other (fin false m e) h = not-below-zero m e
+
+-- zero over anything above zero rounds to a zero
+no-units : eq (round binary64 false 0 1) (bits 0) ≡ true
+unfolding eq round size ofBits
+no-units = refl
+
+no-part : (d : ℕ) → 0 < d → eq (round binary64 false 0 d) (bits 0) ≡ true
+no-part d h =
+    ap (λ (r : Float). eq r (bits 0)) (round-same binary64 false 0 d 0 1 h (zero-lt-suc 0) (zero-mul 1 ∙ sym (zero-mul d))) ∙ no-units
+
+-- ±a / d less itself
+opposites : (s : Bool) (a d : ℕ) → sum binary64 s a (not s) a d ≡ round binary64 false 0 d
+unfolding sum
+opposites true a d = rw (le-ltb a a (le-refl a), sub-self a)
+opposites false a d = rw (le-ltb a a (le-refl a), sub-self a)
+
+less-itself : (s : Bool) (a d : ℕ) → 0 < d → eq (sum binary64 s a (not s) a d) (bits 0) ≡ true
+less-itself s a d h = ap (λ (r : Float). eq r (bits 0)) (opposites s a d) ∙ no-part d h
+
+-- a number less itself is zero exactly where it is finite
+pub itself-less-itself : (x : Float) → eq (x ⊖ x) (bits 0) ≡ finite x
+unfolding eq sub add
+itself-less-itself nan = refl
+itself-less-itself (inf true) = refl
+itself-less-itself (inf false) = refl
+itself-less-itself (fin s m e) = less-itself s (m * up e * down e) (down e * down e) (mul-pos (down-pos e) (down-pos e))

@@ -4,6 +4,7 @@
 // its magnitude is itself, and its bits are written 7ff8000000000000. Nothing here rounds but `square` and `cube`.
 ghost use mathlib.Core.Path.{_≡_};
 ghost use lib.Ieee.{binary64, ofBits, toBits, isNan};
+ghost use lib.Ieee.Scale.{finite};
 ghost use Rattle.floats.specs.Number.{signOf, absOf, copysignOf, sameOf, squareOf, cubeOf};
 
 // Whether x carries a minus sign. One over a zero tells -0 from +0.
@@ -17,6 +18,13 @@ pub fn is_nan(x: f64) -> bool
     ensures { λ r. ⌜ r ≡ isNan x ⌝ }
 {
     x != x
+}
+
+// Whether x is a number and no infinity: only then is x less itself zero.
+pub fn is_finite(x: f64) -> bool
+    ensures { λ r. ⌜ r ≡ finite x ⌝ }
+{
+    x - x == 0.0
 }
 
 pub fn abs(x: f64) -> f64
