@@ -6,32 +6,45 @@
 // Longitude and latitude in `cart`, `geocart` and the geocentric latitude are taken by it.
 ghost use mathlib.Core.Path.{_≡_};
 ghost use Prim.Native.Nat.{_-_};
-ghost use mathlib.Core.Bool.{cond};
+ghost use mathlib.Core.Bool.{cond, false};
+ghost use lib.Ieee.{lt};
+ghost use Rattle.floats.specs.Number.{absOf};
 ghost use Rattle.arctan.specs.Table.{cellAt, octantAt};
-ghost use Rattle.arctan.specs.Arctan.{tailOf, headOf, smallAngleOf, cutAngleOf, cellIndexOf, small, quotientAngleOf, moderate, extremeAngleOf, withinOf, octantIndexOf, insideOf, scaleOf, alongOf, diagonalOf, angleOf, atan2Of};
+ghost use Rattle.arctan.specs.Arctan.{tailOf, headOf, smallAngleOf, cutAngleOf, cellIndexOf, small, quotientAngleOf, moderate, scaleOf, divisible, negligibleOf, withinOf, octantIndexOf, insideOf, alongOf, diagonalOf, angleOf, atan2Of};
 
 const QUARTER_PI: f64 = 0.7853981633974483;
+
 const HALF_PI: f64 = 1.5707963267948966;
+
 const THREE_QUARTER_PI: f64 = 2.356194490192345;
+
 const PI: f64 = 3.141592653589793;
 
 // what π/2 and π exceed their rounded values by
 const HALF_PI_REST: f64 = 6.123233995736766e-17;
+
 const PI_REST: f64 = 1.2246467991473532e-16;
 
 const T3: f64 = -0.33333333333329584;
+
 const T5: f64 = 0.19999999992672887;
+
 const T7: f64 = -0.142857096336655;
+
 const T9: f64 = 0.11109821147869375;
+
 const T11: f64 = -0.08928223896045735;
 
 // 2^700 and 2^-700
 const MOST: f64 = 5.260135901548374e210;
+
 const LEAST: f64 = 1.90109156629516e-211;
 
 // 2^-100, 2^300 and 2^-300
 const NEGLIGIBLE: f64 = 7.888609052210118e-31;
+
 const UP: f64 = 2.037035976334486e90;
+
 const DOWN: f64 = 4.909093465297727e-91;
 
 struct Cell {
@@ -274,19 +287,35 @@ fn is_moderate(a: f64, b: f64) -> bool
     if a < MOST { LEAST < b } else { false }
 }
 
-fn scale_of(a: f64) -> f64
-    ensures { λ r. ⌜ r ≡ scaleOf a ⌝ }
+fn scale_of(a: f64, b: f64) -> f64
+    ensures { λ r. ⌜ r ≡ scaleOf a b ⌝ }
 {
-    if a > 1.0 { DOWN } else { UP }
+    if is_moderate(a, b) {
+        1.0
+    } else {
+        if a > 1.0 { DOWN } else { UP }
+    }
 }
 
-fn extreme_angle(k: u64, a: f64, b: f64) -> f64
-    ensures { λ r. ⌜ r ≡ extremeAngleOf k a b ⌝ }
+// Whether a is finite, b above zero, and b/a not below 2^-100.
+fn is_divisible(a: f64, b: f64) -> bool
+    ensures { λ r. ⌜ r ≡ divisible a b ⌝ }
 {
-    if a * NEGLIGIBLE <= b {
-        let scale = scale_of(a);
-        return quotient_angle(k, a * scale, b * scale);
+    if is_moderate(a, b) {
+        return true;
     }
+    if a < 1.0 / 0.0 {
+        if 0.0 < b {
+            return a * NEGLIGIBLE <= b;
+        }
+        return false;
+    }
+    false
+}
+
+fn negligible(k: u64, a: f64, b: f64) -> f64
+    ensures { λ r. ⌜ r ≡ negligibleOf k a b ⌝ }
+{
     if k == 0 {
         return b / a;
     }
@@ -309,19 +338,16 @@ fn choose(first: bool, a: f64, b: f64) -> f64
     if first { a } else { b }
 }
 
-// the angle of magnitudes that are neither zero nor infinite
+// the angle of magnitudes whose quotient is below 2^-100
 fn inside(left: bool, a: f64, b: f64) -> f64
+    requires { ⌜ divisible (cond (lt a b) b a) (cond (lt a b) a b) ≡ false ⌝ }
     ensures { λ r. ⌜ r ≡ insideOf left a b ⌝ }
 {
     let steep = a < b;
     let k = octant_index(left, steep);
     let large = choose(steep, b, a);
     let small = choose(steep, a, b);
-    if is_moderate(large, small) {
-        within(octant_at(k), quotient_angle(k, large, small))
-    } else {
-        within(octant_at(k), extreme_angle(k, large, small))
-    }
+    within(octant_at(k), negligible(k, large, small))
 }
 
 // along the x axis
@@ -338,8 +364,9 @@ fn diagonal(left: bool) -> f64
     if left { THREE_QUARTER_PI } else { QUARTER_PI }
 }
 
-// the angle of (x, b) for a magnitude b
+// The angle of (x, b) for a magnitude b: on an axis, with an infinite part, or with a quotient below 2^-100.
 fn angle(b: f64, x: f64) -> f64
+    requires { ⌜ divisible (cond (lt (absOf x) b) b (absOf x)) (cond (lt (absOf x) b) (absOf x) b) ≡ false ⌝ }
     ensures { λ r. ⌜ r ≡ angleOf b x ⌝ }
 {
     let a = floats::abs(x);
@@ -372,9 +399,13 @@ pub fn atan2(y: f64, x: f64) -> f64
     let large = choose(steep, b, a);
     let small = choose(steep, a, b);
     // no part is NaN, zero or infinite: the usual case, at once
-    if is_moderate(large, small) {
+    if is_divisible(large, small) {
         let k = octant_index(x < 0.0, steep);
-        let r = within(octant_at(k), quotient_angle(k, large, small));
+        let scale = scale_of(large, small);
+        let r = within(
+            octant_at(k),
+            quotient_angle(k, large * scale, small * scale),
+        );
         return if y < 0.0 { -r } else { r };
     }
     if floats::is_nan(y) {
