@@ -1,0 +1,12 @@
+-- `arctan::tail` meets its contract. Assumes nothing.
+use mathlib.Core.Path.{refl}
+use Rattle.arctan.specs.Arctan.{tailOf}
+use Rattle.arctan.proofs.tail.Statement.{statement}
+use Rattle.arctan.proofs.tail.Tie as tie
+
+returns : tie.Need-returns
+unfolding tailOf
+returns c = refl
+
+pub tail-spec : {M : Type 1} → statement M
+tail-spec = tie.close (tie.spec returns)

@@ -1,0 +1,195 @@
+// Kinematic datum shift by velocities of the ground: deformation.rs of the crate geodesy 0.15.0, after Häkli et al. (2023).
+//
+// The Rust looks a velocity up in grid files; here the caller lends it, east, north and up in mm a year, with a mark that says whether there is one.
+// Letters and sequence of roundings are the Rust's, over our kernels. Forward adds (t - t_epoch) times the velocity, while comment (3) of the Rust's file
+// subtracts it: the code decides, and the difference is listed. The sum works on all four coordinates, the fourth addend 0.0, so a time of -0 becomes +0.
+ghost use mathlib.Core.Path.{_≡_};
+ghost use Rattle.deformation.specs.Record.{blankOf, rawOf, finiteOrNot, inRuleOf, neitherOf};
+ghost use Rattle.deformation.specs.Step.{motionOf, durationOf, scaleOf, metresOf, integratedOf, withLengthOf, deformedOf, commonOf};
+use ellipsoid::Ellipsoid;
+use tuple::Shifted;
+use tuple::Tuple;
+
+// The record that a sheet carries. Flag 1: raw. dt and epoch are NaN where not given.
+pub struct Deformation {
+    pub flags: u32,
+    pub ellipsoid: u32,
+    pub dt: f64,
+    pub epoch: f64,
+}
+
+// What a list needs of a record, worked out once.
+pub struct Motion {
+    pub ellps: Ellipsoid,
+    pub dt: f64,
+    pub epoch: f64,
+    pub raw: bool,
+}
+
+pub struct Velocity {
+    pub east: f64,
+    pub north: f64,
+    pub up: f64,
+}
+
+fn finite_or_not(x: f64) -> bool
+    ensures { λ r. ⌜ r ≡ finiteOrNot x ⌝ }
+{
+    if floats::is_finite(x) {
+        return true;
+    }
+    floats::is_nan(x)
+}
+
+impl Deformation {
+    // The crate's defaults.
+    pub fn blank() -> Self
+        ensures { λ r. ⌜ r ≡ blankOf ⌝ }
+    {
+        Deformation {
+            flags: 0,
+            ellipsoid: 1,
+            dt: 0.0 / 0.0,
+            epoch: 0.0 / 0.0,
+        }
+    }
+
+    pub fn raw(self) -> bool
+        ensures { λ r. ⌜ r ≡ rawOf self ⌝ }
+    {
+        self.flags % 2 == 1
+    }
+
+    // Rule 5.
+    pub fn in_rule(self) -> bool
+        ensures { λ r. ⌜ r ≡ inRuleOf self ⌝ }
+    {
+        let flags = self.flags;
+        if flags < 2 {
+            if Ellipsoid::exists(self.ellipsoid) {
+                if finite_or_not(self.dt) {
+                    return finite_or_not(self.epoch);
+                }
+            }
+        }
+        false
+    }
+
+    // Rule 8: neither dt nor t_epoch.
+    pub fn lacks_duration(self) -> bool
+        ensures { λ r. ⌜ r ≡ neitherOf self ⌝ }
+    {
+        if floats::is_nan(self.dt) {
+            return floats::is_nan(self.epoch);
+        }
+        false
+    }
+}
+
+impl Motion {
+    pub fn new(step: Deformation) -> Self
+        ensures { λ r. ⌜ r ≡ motionOf step ⌝ }
+    {
+        Motion {
+            ellps: Ellipsoid::named(step.ellipsoid),
+            dt: step.dt,
+            epoch: step.epoch,
+            raw: step.raw(),
+        }
+    }
+
+    // The duration is a fixed one, or the difference between the frame epoch and the observation epoch.
+    fn duration(self, t: f64) -> f64
+        ensures { λ r. ⌜ r ≡ durationOf self t ⌝ }
+    {
+        if floats::is_finite(self.dt) {
+            return -self.dt;
+        }
+        self.epoch - t
+    }
+}
+
+impl Velocity {
+    fn scale(self, k: f64) -> Self
+        ensures { λ r. ⌜ r ≡ scaleOf self k ⌝ }
+    {
+        Velocity {
+            east: self.east * k,
+            north: self.north * k,
+            up: self.up * k,
+        }
+    }
+
+    // Grid values are in mm a year. We need metres a year.
+    fn metres(self, inverse: bool) -> Self
+        ensures { λ r. ⌜ r ≡ metresOf inverse self ⌝ }
+    {
+        if inverse {
+            return self.scale(0.001);
+        }
+        self.scale(-0.001)
+    }
+}
+
+// ----- A N C I L L A R Y   F U N C T I O N S -----------------------------------------
+
+// The deformation velocity, rotated from the ENU system to the geocentric cartesian system, times the duration.
+pub fn rotate_and_integrate_velocity(
+    v: Velocity,
+    longitude: f64,
+    latitude: f64,
+    duration: f64,
+) -> Tuple
+    ensures { λ r. ⌜ r ≡ integratedOf v longitude latitude duration ⌝ }
+{
+    let lon = trig::sin_cos(longitude);
+    let lat = trig::sin_cos(latitude);
+    Tuple {
+        x: duration * (-lat.s * lon.c * v.north - lon.s * v.east + lat.c * lon.c * v.up),
+        y: duration * (-lat.s * lon.s * v.north + lon.c * v.east + lat.c * lon.s * v.up),
+        z: duration * (lat.c * v.north + lat.s * v.up),
+        t: 0.0,
+    }
+}
+
+fn with_length(deformation: Tuple) -> Tuple
+    ensures { λ r. ⌜ r ≡ withLengthOf deformation ⌝ }
+{
+    Tuple {
+        x: deformation.x,
+        y: deformation.y,
+        z: deformation.z,
+        t: root::sqrt(deformation.dot(deformation)),
+    }
+}
+
+// ----- C O M M O N -------------------------------------------------------------------
+
+// A tuple whose place is geo, moved by a velocity, or the raw correction.
+pub fn deformed(op: Motion, inverse: bool, v: Velocity, geo: Tuple, cart: Tuple) -> Tuple
+    ensures { λ r. ⌜ r ≡ deformedOf op inverse v geo cart ⌝ }
+{
+    let d = op.duration(geo.t);
+    let deformation = rotate_and_integrate_velocity(v.metres(inverse), geo.x, geo.y, d);
+    if op.raw {
+        return with_length(deformation);
+    }
+    cart.add(deformation)
+}
+
+pub fn common(op: Motion, inverse: bool, v: Velocity, mark: u8, cart: Tuple) -> Shifted
+    ensures { λ r. ⌜ r ≡ commonOf op inverse v mark cart ⌝ }
+{
+    if mark == 1 {
+        let geo = geocart::geographic(op.ellps, cart);
+        return Shifted {
+            tuple: deformed(op, inverse, v, geo, cart),
+            counted: true,
+        };
+    }
+    // No velocity, so we stomp on the coordinate
+    Shifted {
+        tuple: Tuple::nan(),
+        counted: false,
+    }
+}

@@ -1,0 +1,27 @@
+-- `geocart::cartesian` meets its contract. Assumes nothing.
+use Rattle.geocart.specs.Geocart.{cartesianOf}
+use borrow.Author.Needs.{needs}
+use Rattle.geocart.proofs.cartesian.Statement.{statement}
+use Rattle.geocart.proofs.cartesian.Tie as tie
+
+sin-cos-requires : tie.Need-sin-cos-requires
+sin-cos-requires c κs = search needs
+
+sin-cos-requires-2 : tie.Need-sin-cos-requires-2
+sin-cos-requires-2 c κs = search needs
+
+prime-vertical-radius-of-curvature-requires : tie.Need-prime-vertical-radius-of-curvature-requires
+prime-vertical-radius-of-curvature-requires c κs = search needs
+
+returns : tie.Need-returns
+unfolding cartesianOf
+returns c = rw (c .before .before .before .before .before .before .prime-vertical-radius-of-curvature .ensures, c .before .before .before .before .before .before .before .sin-cos2 .ensures, c .before .before .before .before .before .before .before .before .sin-cos .ensures)
+
+pub cartesian-spec : {M : Type 1} → statement M
+cartesian-spec =
+    tie.close
+    (tie.spec
+    sin-cos-requires
+    sin-cos-requires-2
+    prime-vertical-radius-of-curvature-requires
+    returns)

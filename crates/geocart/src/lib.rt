@@ -1,0 +1,99 @@
+// Geographic to cartesian coordinates and back, on any ellipsoid: geocart.rs of the crate geodesy 0.15.0.
+//
+// The method is Bowring's (1976, 1985) with Fukushima's (1999) square root for a hypotenuse, in the Rust's own sequence of roundings and with its letters.
+// One difference, listed: a point on the axis whose Z is NaN has a NaN latitude, where the Rust takes the pole that the NaN's sign bit happens to name.
+// `cartesian` is cart's forward step; `geographic` is what deformation asks for a place by. cart's own inverse is another method, in the crate cart.
+ghost use mathlib.Core.Path.{_≡_};
+ghost use Rattle.geocart.specs.Geocart.{cartesianOf, poleOf, poleHeightOf, bowringOf, bowringHeightOf, geographicOf};
+use ellipsoid::Ellipsoid;
+use tuple::Tuple;
+
+const FRAC_PI_2: f64 = 1.5707963267948966;
+
+// The legs of the latitude's angle: phi_num and phi_denom of the Rust.
+pub struct Legs {
+    pub num: f64,
+    pub denom: f64,
+}
+
+pub fn cartesian(ellps: Ellipsoid, geographic: Tuple) -> Tuple
+    ensures { λ r. ⌜ r ≡ cartesianOf ellps geographic ⌝ }
+{
+    let h = geographic.z;
+    let phi = trig::sin_cos(geographic.y);
+    let lam = trig::sin_cos(geographic.x);
+    let n = ellps.prime_vertical_radius_of_curvature(phi.s);
+    Tuple {
+        x: (n + h) * phi.c * lam.c,
+        y: (n + h) * phi.c * lam.s,
+        z: (n * (1.0 - ellps.es) + h) * phi.s,
+        t: geographic.t,
+    }
+}
+
+// The latitude of a point on the axis. The sign of Z determines the hemisphere.
+pub fn pole(z: f64) -> f64
+    ensures { λ r. ⌜ r ≡ poleOf z ⌝ }
+{
+    if floats::is_nan(z) {
+        0.0 / 0.0
+    } else {
+        floats::copysign(FRAC_PI_2, z)
+    }
+}
+
+// The height of a point on the axis: at a pole it is |Z| - b.
+pub fn pole_height(ellps: Ellipsoid, z: f64) -> f64
+    ensures { λ r. ⌜ r ≡ poleHeightOf ellps z ⌝ }
+{
+    floats::abs(z) - ellps.b
+}
+
+fn bowring(ellps: Ellipsoid, p: f64, z: f64) -> Legs
+    ensures { λ r. ⌜ r ≡ bowringOf ellps p z ⌝ }
+{
+    let t = z * ellps.a / (p * ellps.b);
+    let c = 1.0 / root::sqrt(1.0 + t * t);
+    let s = c * t;
+    Legs {
+        num: z + ellps.eps * ellps.b * floats::cube(s),
+        denom: p - ellps.es * ellps.a * floats::cube(c),
+    }
+}
+
+// Bowring (1985), as quoted by Burtch (2006): more accurate than h = p / cosphi - N.
+fn bowring_height(ellps: Ellipsoid, p: f64, z: f64, m: Legs) -> f64
+    ensures { λ r. ⌜ r ≡ bowringHeightOf ellps p z m ⌝ }
+{
+    let lenphi = hypot::hypot(m.num, m.denom);
+    let sinphi = m.num / lenphi;
+    let cosphi = m.denom / lenphi;
+    let n = ellps.prime_vertical_radius_of_curvature(sinphi);
+    p * cosphi + z * sinphi - ellps.a * ellps.a / n
+}
+
+pub fn geographic(ellps: Ellipsoid, cartesian: Tuple) -> Tuple
+    ensures { λ r. ⌜ r ≡ geographicOf ellps cartesian ⌝ }
+{
+    let z = cartesian.z;
+    // The longitude is straightforward: plain geometry in the equatorial plane.
+    let lam = arctan::atan2(cartesian.y, cartesian.x);
+    // The perpendicular distance from the point to the Z axis.
+    let p = hypot::hypot(cartesian.x, cartesian.y);
+    // For p < 1 picometre, we simplify things to avoid numerical havoc.
+    if p < 1.0e-12 {
+        return Tuple {
+            x: lam,
+            y: pole(z),
+            z: pole_height(ellps, z),
+            t: cartesian.t,
+        };
+    }
+    let m = bowring(ellps, p, z);
+    Tuple {
+        x: lam,
+        y: arctan::atan2(m.num, m.denom),
+        z: bowring_height(ellps, p, z, m),
+        t: cartesian.t,
+    }
+}

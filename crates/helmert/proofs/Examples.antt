@@ -1,0 +1,118 @@
+-- Known values: document 01's marked points P2 to P5, P11 and P12 on one step after another, the blank record, and the listed differences. Assumes nothing.
+use mathlib.Core.Path.{_≡_, refl}
+use mathlib.Core.Bool.{Bool, true, false, not, cond, _&&_}
+use mathlib.Core.List.{List, [], _∷_}
+use Prim.Native.Nat.{ℕ}
+use lib.Ieee.{Float, nan, binary64, ofBits, add, sub, mul, div, neg, eq, ne, isNan}
+use Rattle.floats.specs.Binary64.{bits}
+use Rattle.tuple.specs.declared.Tuple.{Tuple}
+use Rattle.rotation.specs.declared.Vec3.{Vec3}
+use Rattle.helmert.specs.declared.Helmert.{Helmert}
+use Rattle.helmert.specs.declared.Shift.{Shift}
+use Rattle.helmert.specs.declared.State.{State}
+use Rattle.helmert.specs.declared.Stepped.{Stepped}
+use Rattle.helmert.specs.Record.{zero3, blankHelmert}
+use Rattle.helmert.specs.Units.{winnerOf, lengthsOf, anglesOf, parametersOf}
+use Rattle.helmert.specs.Rules.{someOf, rotatedOf, dynamicOf, finite3Of, timeOf, vectorsFiniteOf, scalesFiniteOf, fieldsInRuleOf, lacksConventionOf, lacksEpochOf}
+use Rattle.rotation.specs.Matrix.{firstOrderOf, secondOrderOf, rowsOf, rotationMatrixOf}
+use Rattle.helmert.specs.Apply.{offsetOf, deoffsetOf, forwardOf, inverseOf}
+use Rattle.helmert.specs.Modes.{observedOf, prepareOf, grownOf, scaleAtOf, fixedStepOf, startOf, nextOf, runningOf, ownTimeOf, ownEpochStepOf, stepOf}
+
+-- ---- records to look at
+
+one : Float
+one = bits 0x3ff0_0000_0000_0000
+
+y2000 : Float
+y2000 = bits 0x409f_4000_0000_0000
+
+y2001 : Float
+y2001 = bits 0x409f_4400_0000_0000
+
+y2002 : Float
+y2002 = bits 0x409f_4800_0000_0000
+
+along-x : Float → Vec3
+along-x x = record { x = x; y = bits 0; z = bits 0 }
+
+-- a record with these flags, dx, rx, ds, t_epoch and t_obs, and blank otherwise
+sheet : ℕ → Float → Float → Float → Float → Float → Helmert
+unfolding along-x
+sheet flags dx rx ds epoch obs =
+    record {
+      flags = flags;
+      convention = 0;
+      translation = zero3;
+      xyz = zero3;
+      «translation_rate» = zero3;
+      dxyz = along-x dx;
+      rotation = zero3;
+      rxyz = along-x rx;
+      «rotation_rate» = zero3;
+      drxyz = zero3;
+      scale = bits 0;
+      s = bits 0;
+      «scale_rate» = bits 0;
+      ds = ds;
+      «t_epoch» = epoch;
+      «t_obs» = obs;
+    }
+
+-- ---- P2 to P5: DT = (1, 0, 0), t_epoch 2000, X = 0, forward, resulting X
+
+-- such a sheet, in running mode or with the own-epoch flag
+running : Shift
+unfolding sheet one y2000
+running = prepareOf (sheet 0 one (bits 0) (bits 0) y2000 nan)
+
+own-epoch : Shift
+unfolding sheet one y2000
+own-epoch = prepareOf (sheet 8 one (bits 0) (bits 0) y2000 nan)
+
+-- the resulting X of fixes at these times, one step after another
+from : Shift → State → List Float → List Float
+from shift state [] = []
+from shift state (time ∷ times) =
+    let next = stepOf shift false state (record { x = bits 0; y = bits 0; z = bits 0; t = time }) in
+    next .tuple .x ∷ from shift (next .state) times
+
+xs : Shift → List Float → List Float
+unfolding from
+xs shift times = from shift (startOf shift) times
+
+marked :
+    -- P2
+    (xs running (y2001 ∷ y2002 ∷ y2001 ∷ []) ≡ one ∷ bits 0x4008_0000_0000_0000 ∷ bits 0x4010_0000_0000_0000 ∷ [])
+    -- P3
+    × (xs own-epoch (y2001 ∷ y2002 ∷ y2001 ∷ []) ≡ one ∷ bits 0x4000_0000_0000_0000 ∷ one ∷ [])
+    -- P4
+    × (xs running (y2001 ∷ y2001 ∷ []) ≡ one ∷ one ∷ [])
+    -- P5
+    × (xs running (y2001 ∷ nan ∷ y2001 ∷ []) ≡ one ∷ nan ∷ nan ∷ [])
+    -- in own-epoch mode the same times give 1, 0, 1: a NaN time is read as t_epoch
+    × (xs own-epoch (y2001 ∷ nan ∷ y2001 ∷ []) ≡ one ∷ bits 0 ∷ one ∷ [])
+unfolding one y2000 y2001 y2002 along-x sheet running own-epoch from xs prepareOf parametersOf winnerOf lengthsOf anglesOf rotatedOf dynamicOf someOf startOf stepOf runningOf nextOf ownEpochStepOf ownTimeOf grownOf scaleAtOf rotationMatrixOf firstOrderOf rowsOf forwardOf offsetOf ofBits add sub mul div eq ne isNan
+marked = (refl, refl, refl, refl, refl)
+
+-- ---- the rules
+
+-- P11: rx = 1, no convention. P12: dx = 1, no epoch. The blank record breaks no rule.
+rules :
+    (lacksConventionOf (sheet 0 (bits 0) one (bits 0) nan nan) ≡ true)
+    × (lacksEpochOf (sheet 0 one (bits 0) (bits 0) nan nan) ≡ true)
+    × (fieldsInRuleOf blankHelmert ≡ true)
+    × (lacksConventionOf blankHelmert ≡ false)
+    × (lacksEpochOf blankHelmert ≡ false)
+    -- a rate of 2^-1074 mm a year scales to zero, and is no rate; in metres it is one
+    × (lacksEpochOf (sheet 4 (bits 1) (bits 0) (bits 0) nan nan) ≡ false)
+    × (lacksEpochOf (sheet 0 (bits 1) (bits 0) (bits 0) nan nan) ≡ true)
+unfolding one along-x sheet blankHelmert fieldsInRuleOf vectorsFiniteOf scalesFiniteOf finite3Of timeOf isNan lacksConventionOf lacksEpochOf parametersOf winnerOf lengthsOf anglesOf rotatedOf dynamicOf someOf ofBits add mul div eq ne
+rules = (refl, refl, refl, refl, refl, refl, refl)
+
+-- ---- the listed difference of t_obs
+
+-- ds = 1,000,000 ppm a year and a year from t_epoch to t_obs: T moves once, and S three times, from 1 to 4, where IOGP has 2
+observed : let p = prepareOf (sheet 0 one (bits 0) (bits 0x412e_8480_0000_0000) y2000 y2001) .parameters in
+    (p .t ≡ along-x one) × (p .s ≡ bits 0x4010_0000_0000_0000)
+unfolding one y2000 y2001 along-x sheet prepareOf parametersOf winnerOf lengthsOf anglesOf rotatedOf dynamicOf someOf observedOf ofBits add sub mul div eq ne isNan
+observed = (refl, refl)

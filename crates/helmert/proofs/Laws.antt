@@ -1,0 +1,92 @@
+-- What is true of the Helmert step, for callers to cite. Assumes nothing.
+use mathlib.Core.Path.{_≡_, refl, sym, ap, _∙_}
+use mathlib.Core.Bool.{Bool, true, false, not, cond, _&&_}
+use lib.Ieee.{Float, nan, inf, fin, binary64, add, sub, mul, eq, ne}
+use Rattle.floats.specs.Binary64.{_⊕_, _⊖_, _⊗_}
+use Rattle.tuple.specs.declared.Tuple.{Tuple}
+use Rattle.rotation.specs.declared.Vec3.{Vec3}
+use Rattle.helmert.specs.declared.Shift.{Shift}
+use Rattle.helmert.specs.declared.State.{State}
+use Rattle.helmert.specs.Apply.{forwardOf, inverseOf, applyOf}
+use Rattle.rotation.specs.Matrix.{Matrix}
+use Rattle.helmert.specs.Modes.{fixedStepOf, grownOf, nextOf, runningOf, ownEpochStepOf, timeVaryingOf, isOwnEpochOf, isRunningOf, stepOf}
+
+-- ---- what a step carries
+
+-- in static, fixed and own-epoch mode the state passes through unchanged
+pub state-stays : (shift : Shift) (inv : Bool) (state : State) (v : Tuple) → isRunningOf shift ≡ false → stepOf shift inv state v .state ≡ state
+unfolding stepOf
+state-stays shift inv state v h = rw h
+
+-- and a fix's result depends on that fix and the sheet alone
+pub result-of-the-fix-alone : (shift : Shift) (inv : Bool) (state other : State) (v : Tuple) → isRunningOf shift ≡ false
+    → stepOf shift inv state v .tuple ≡ stepOf shift inv other v .tuple
+unfolding stepOf
+result-of-the-fix-alone shift inv state other v h = rw h
+
+-- a static or fixed sheet ignores the own-epoch flag
+pub own-epoch-flag-ignored : (shift : Shift) (inv : Bool) (state : State) (v : Tuple) → timeVaryingOf shift ≡ false
+    → stepOf shift inv state v ≡ record { state = state; tuple = fixedStepOf shift inv v }
+unfolding stepOf
+own-epoch-flag-ignored shift inv state v h = rw h
+
+-- in running mode the state after a fix is that before it at the fix's time
+pub state-in-running : (shift : Shift) (inv : Bool) (state : State) (v : Tuple) → isRunningOf shift ≡ true
+    → stepOf shift inv state v .state ≡ nextOf shift state (v .t)
+unfolding stepOf runningOf
+state-in-running shift inv state v h = rw h
+
+-- so in any mode, and both ways, fixes of one time lead from one state to one state
+pub state-from-time : (shift : Shift) (inv back : Bool) (state : State) (v w : Tuple) → v .t ≡ w .t
+    → stepOf shift inv state v .state ≡ stepOf shift back state w .state
+unfolding stepOf runningOf
+state-from-time shift inv back state v w h = go (isRunningOf shift) refl
+  where
+    go : (b : Bool) → isRunningOf shift ≡ b → stepOf shift inv state v .state ≡ stepOf shift back state w .state
+    go true e = rw (e, h)
+    go false e = rw e
+
+-- equal states and equal tuples give equal results
+pub same-in-same-out : (shift : Shift) (inv : Bool) (state other : State) (v w : Tuple) → state ≡ other → v ≡ w
+    → stepOf shift inv state v ≡ stepOf shift inv other w
+same-in-same-out shift inv state other v w hs hv = rw (hs, hv)
+
+-- ---- time
+
+applied-time-stays : (inv : Bool) (t : Vec3) (s : Float) (rotated : Bool) (m : Matrix) (v : Tuple) → applyOf inv t s rotated m v .t ≡ v .t
+unfolding forwardOf inverseOf
+applied-time-stays true t s rotated m v = refl
+applied-time-stays false t s rotated m v = refl
+
+-- in every mode, both ways, a fix keeps its time
+pub time-stays : (shift : Shift) (inv : Bool) (state : State) (v : Tuple) → stepOf shift inv state v .tuple .t ≡ v .t
+unfolding stepOf runningOf ownEpochStepOf fixedStepOf
+time-stays shift inv state v = go (isRunningOf shift) (isOwnEpochOf shift) refl refl
+  where
+    go : (a b : Bool) → isRunningOf shift ≡ a → isOwnEpochOf shift ≡ b → stepOf shift inv state v .tuple .t ≡ v .t
+    go true b e f = rw e (applied-time-stays inv _ _ _ _ v)
+    go false true e f = rw (e, f) (applied-time-stays inv _ _ _ _ v)
+    go false false e f = rw (e, f) (applied-time-stays inv _ _ _ _ v)
+
+-- ---- one NaN time spoils T for the rest
+
+pub nothing3 : Vec3
+nothing3 = record { x = nan; y = nan; z = nan }
+
+plus-nan : (x : Float) → x ⊕ nan ≡ nan
+unfolding add
+plus-nan nan = refl
+plus-nan (inf s) = refl
+plus-nan (fin s m e) = refl
+
+pub nan-time-spoils : (shift : Shift) (state : State) → nextOf shift state nan .t ≡ nothing3
+unfolding nextOf grownOf ne eq sub add mul nothing3
+nan-time-spoils shift state = rw (plus-nan (state .t .x), plus-nan (state .t .y), plus-nan (state .t .z))
+
+pub spoilt-stays-spoilt : (shift : Shift) (state : State) (time : Float) → state .t ≡ nothing3 → nextOf shift state time .t ≡ nothing3
+unfolding nextOf grownOf add nothing3
+spoilt-stays-spoilt shift state time h = go (ne time (state .last)) refl
+  where
+    go : (b : Bool) → ne time (state .last) ≡ b → nextOf shift state time .t ≡ nothing3
+    go true e = rw (e, h)
+    go false e = rw (e, h)

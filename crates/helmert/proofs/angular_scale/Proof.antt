@@ -1,0 +1,12 @@
+-- `helmert::angular_scale` meets its contract. Assumes nothing.
+use Rattle.helmert.proofs.angular_scale.Statement.{statement}
+use Rattle.helmert.proofs.angular_scale.Tie as tie
+
+returns : tie.Need-returns
+returns c = rw (c .if1 .taken)
+
+returns-2 : tie.Need-returns-2
+returns-2 c = rw (c .if1 .left)
+
+pub angular-scale-spec : {M : Type 1} → statement M
+angular-scale-spec = tie.close (tie.spec returns returns-2)

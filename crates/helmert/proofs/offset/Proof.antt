@@ -1,0 +1,12 @@
+-- `helmert::offset` meets its contract. Assumes nothing.
+use mathlib.Core.Path.{refl}
+use Rattle.helmert.specs.Apply.{offsetOf}
+use Rattle.helmert.proofs.offset.Statement.{statement}
+use Rattle.helmert.proofs.offset.Tie as tie
+
+returns : tie.Need-returns
+unfolding offsetOf
+returns c = refl
+
+pub offset-spec : {M : Type 1} → statement M
+offset-spec = tie.close (tie.spec returns)

@@ -1,0 +1,129 @@
+-- The prepared shift and its four modes on one tuple: static, fixed, running, own-epoch. A state goes in and comes out: the last time, and T.
+use mathlib.Core.Bool.{Bool, not, cond, _&&_}
+use Prim.Native.Nat.{ℕ}
+use lib.Dec.{eqb}
+use lib.Ieee.{Float, nan, isNan, ne}
+use Rattle.floats.specs.Binary64.{_⊕_, _⊖_, _⊗_}
+use Rattle.tuple.specs.declared.Tuple.{Tuple}
+use Rattle.rotation.specs.declared.Vec3.{Vec3}
+use Rattle.helmert.specs.declared.Helmert.{Helmert}
+use Rattle.helmert.specs.declared.Parameters.{Parameters}
+use Rattle.helmert.specs.declared.Shift.{Shift}
+use Rattle.helmert.specs.declared.State.{State}
+use Rattle.helmert.specs.declared.Stepped.{Stepped}
+use Rattle.helmert.specs.Record.{exactOf, ownEpochOf}
+use Rattle.helmert.specs.Units.{parametersOf}
+use Rattle.helmert.specs.Rules.{rotatedOf, dynamicOf}
+use Rattle.rotation.specs.Matrix.{rotationMatrixOf}
+use Rattle.helmert.specs.Apply.{applyOf}
+
+-- ---- the prepared shift
+
+-- moved once by rate·d
+abbrev pub movedOf : Vec3 → Vec3 → Float → Vec3
+movedOf v rate d = record { x = v .x ⊕ rate .x ⊗ d; y = v .y ⊕ rate .y ⊗ d; z = v .z ⊕ rate .z ⊗ d }
+
+-- Fixed, d being t_obs - t_epoch: T and R move once by rate·d, S moves by it three times, one rounding after another. The rates stay.
+unfoldable pub observedOf : Parameters → Float → Parameters
+observedOf p d =
+    record {
+      t = movedOf (p .t) (p .dt) d;
+      r = movedOf (p .r) (p .dr) d;
+      s = p .s ⊕ p .ds ⊗ d ⊕ p .ds ⊗ d ⊕ p .ds ⊗ d;
+      dt = p .dt;
+      dr = p .dr;
+      ds = p .ds;
+    }
+
+-- Fixed: dynamic with t_obs given.
+abbrev pub fixedOf : Helmert → Bool
+fixedOf h = dynamicOf (parametersOf h) && not (isNan (h .«t_obs»))
+
+-- The convention counts only where the shift is rotated; 2 is the coordinate frame, and the Rust takes any other for the position vector.
+unfoldable pub prepareOf : Helmert → Shift
+prepareOf h =
+    let p = parametersOf h in
+    record {
+      parameters = cond (fixedOf h) (observedOf p (h .«t_obs» ⊖ h .«t_epoch»)) p;
+      epoch = h .«t_epoch»;
+      rotated = rotatedOf p;
+      dynamic = dynamicOf p;
+      fixed = fixedOf h;
+      exact = exactOf h;
+      «position_vector» = not (eqb (h .convention) 2);
+      «own_epoch» = ownEpochOf h;
+    }
+
+-- ---- the parameters at a time that lies dt after t_epoch
+
+-- grown by dt·rate
+unfoldable pub grownOf : Vec3 → Float → Vec3 → Vec3
+grownOf v dt rate = record { x = v .x ⊕ dt ⊗ rate .x; y = v .y ⊕ dt ⊗ rate .y; z = v .z ⊕ dt ⊗ rate .z }
+
+-- R and S at dt
+abbrev pub rotationAtOf : Parameters → Float → Vec3
+rotationAtOf p dt = grownOf (p .r) dt (p .dr)
+
+unfoldable pub scaleAtOf : Parameters → Float → Float
+scaleAtOf p dt = p .s ⊕ dt ⊗ p .ds
+
+-- ---- static and fixed: the sheet's T, R and S
+
+-- a tuple through T and S, with the matrix of R
+abbrev pub shiftedOf : Shift → Bool → Vec3 → Vec3 → Float → Tuple → Tuple
+shiftedOf shift inv t r s v =
+    applyOf inv t s (shift .rotated) (rotationMatrixOf r (shift .exact) (shift .«position_vector»)) v
+
+unfoldable pub fixedStepOf : Shift → Bool → Tuple → Tuple
+fixedStepOf shift inv v =
+    let p = shift .parameters in shiftedOf shift inv (p .t) (p .r) (p .s) v
+
+-- ---- running: the Rust's mode, dynamic and not fixed
+
+-- the sheet's start: no last time, and the sheet's T, as moved by t_obs
+unfoldable pub startOf : Shift → State
+startOf shift = record { last = nan; t = shift .parameters .t }
+
+-- When a tuple's time is not equal to the last time, it becomes the last time and T grows by dt·DT, dt being it less t_epoch.
+unfoldable pub nextOf : Shift → State → Float → State
+nextOf shift state time =
+    cond (ne time (state .last)) (record { last = time; t = grownOf (state .t) (time ⊖ shift .epoch) (shift .parameters .dt) }) state
+
+-- T is the state's; R and S are the sheet's at the last time's dt.
+unfoldable pub runningOf : Shift → Bool → State → Tuple → Stepped
+runningOf shift inv state v =
+    let now = nextOf shift state (v .t) in
+    let dt = now .last ⊖ shift .epoch in
+    let p = shift .parameters in
+    record { state = now; tuple = shiftedOf shift inv (now .t) (rotationAtOf p dt) (scaleAtOf p dt) v }
+
+-- ---- own-epoch: in running's place
+
+-- A NaN time is read as t_epoch.
+unfoldable pub ownTimeOf : Shift → Float → Float
+ownTimeOf shift time = cond (isNan time) (shift .epoch) time
+
+-- T, R and S each from the sheet's at the tuple's dt
+unfoldable pub ownEpochStepOf : Shift → Bool → Tuple → Tuple
+ownEpochStepOf shift inv v =
+    let dt = ownTimeOf shift (v .t) ⊖ shift .epoch in
+    let p = shift .parameters in
+    shiftedOf shift inv (grownOf (p .t) dt (p .dt)) (rotationAtOf p dt) (scaleAtOf p dt) v
+
+-- ---- the step: the mode that the shift calls for
+
+-- dynamic and not fixed; a static or fixed sheet ignores the own-epoch flag
+abbrev pub timeVaryingOf : Shift → Bool
+timeVaryingOf shift = shift .dynamic && not (shift .fixed)
+
+abbrev pub isOwnEpochOf : Shift → Bool
+isOwnEpochOf shift = timeVaryingOf shift && shift .«own_epoch»
+
+abbrev pub isRunningOf : Shift → Bool
+isRunningOf shift = timeVaryingOf shift && not (shift .«own_epoch»)
+
+-- Only running changes the state.
+unfoldable pub stepOf : Shift → Bool → State → Tuple → Stepped
+stepOf shift inv state v =
+    cond (isRunningOf shift) (runningOf shift inv state v)
+    (record { state = state; tuple = cond (isOwnEpochOf shift) (ownEpochStepOf shift inv v) (fixedStepOf shift inv v) })

@@ -1,0 +1,19 @@
+-- `hypot::bounded` meets its contract. Assumes nothing.
+use Rattle.hypot.specs.Hypot.{boundedOf}
+use Rattle.hypot.proofs.bounded.Statement.{statement}
+use Rattle.hypot.proofs.bounded.Tie as tie
+
+returns : tie.Need-returns
+unfolding boundedOf
+returns c = rw (c .before .if1 .taken, c .if2 .taken)
+
+returns-2 : tie.Need-returns-2
+unfolding boundedOf
+returns-2 c = rw (c .before .if1 .taken, c .if2 .left)
+
+returns-3 : tie.Need-returns-3
+unfolding boundedOf
+returns-3 c = rw (c .if1 .left)
+
+pub bounded-spec : {M : Type 1} → statement M
+bounded-spec = tie.close (tie.spec returns returns-2 returns-3)

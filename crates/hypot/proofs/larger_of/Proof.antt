@@ -1,0 +1,15 @@
+-- `hypot::larger_of` meets its contract. Assumes nothing.
+use Rattle.hypot.specs.Hypot.{larger}
+use Rattle.hypot.proofs.larger_of.Statement.{statement}
+use Rattle.hypot.proofs.larger_of.Tie as tie
+
+returns : tie.Need-returns
+unfolding larger
+returns c = rw (c .if1 .taken)
+
+returns-2 : tie.Need-returns-2
+unfolding larger
+returns-2 c = rw (c .if1 .left)
+
+pub larger-of-spec : {M : Type 1} → statement M
+larger-of-spec = tie.close (tie.spec returns returns-2)

@@ -1,0 +1,15 @@
+-- `hypot::scaled_root` meets its contract. Assumes nothing.
+use borrow.Author.Needs.{needs}
+use Rattle.hypot.specs.Hypot.{scaledRootOf, squaresOf}
+use Rattle.hypot.proofs.scaled_root.Statement.{statement}
+use Rattle.hypot.proofs.scaled_root.Tie as tie
+
+root-requires : tie.Need-root-requires
+root-requires c κs = search needs
+
+returns : tie.Need-returns
+unfolding scaledRootOf squaresOf
+returns c = rw (c .root .ensures)
+
+pub scaled-root-spec : {M : Type 1} → statement M
+scaled-root-spec = tie.close (tie.spec root-requires returns)

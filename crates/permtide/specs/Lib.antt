@@ -1,0 +1,3 @@
+-- What the contracts of `permtide` cite.
+pub mod Record
+pub mod Step

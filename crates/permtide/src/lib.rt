@@ -1,0 +1,127 @@
+// Shifts of heights between the permanent tide systems, mean, zero and free: permtide.rs of the crate geodesy 0.15.0.
+//
+// The nine coefficients, the constants and the order of the products are the Rust's; a text parameter there is a code here (mean 1, zero 2, free 3).
+// Every tuple counts. Exact as the Rust's sequence over our sine, cosine and atan2.
+ghost use mathlib.Core.Path.{_≡_};
+ghost use Rattle.permtide.specs.Record.{blankOf, fromOf, coefficientOf, inRuleOf};
+ghost use Rattle.permtide.specs.Step.{tideOf, liftOf, fwdOf, invOf};
+use ellipsoid::Ellipsoid;
+use tuple::Tuple;
+
+// The record that a sheet carries.
+pub struct Permtide {
+    pub ellipsoid: u32,
+    pub to: u32,
+    pub from: u32,
+    pub k: f64,
+}
+
+// What a list needs of a record, worked out once.
+pub struct Tide {
+    pub ellps: Ellipsoid,
+    pub coefficient: f64,
+}
+
+impl Permtide {
+    // The crate's defaults. The codes have none: 0 is refused by rule 5.
+    pub fn blank() -> Self
+        ensures { λ r. ⌜ r ≡ blankOf ⌝ }
+    {
+        Permtide {
+            ellipsoid: 1,
+            to: 0,
+            from: 0,
+            k: 0.3,
+        }
+    }
+
+    // Rule 5: the ellipsoid, a finite k, and codes that have a coefficient.
+    pub fn in_rule(self) -> bool
+        ensures { λ r. ⌜ r ≡ inRuleOf self ⌝ }
+    {
+        if Ellipsoid::exists(self.ellipsoid) {
+            if floats::is_finite(self.k) {
+                return !floats::is_nan(coefficient(self.to, self.from, self.k));
+            }
+            return false;
+        }
+        false
+    }
+}
+
+fn from_mean_zero_free(from: u32, mean: f64, zero: f64, free: f64) -> f64
+    ensures { λ r. ⌜ r ≡ fromOf from mean zero free ⌝ }
+{
+    if from == 1 {
+        return mean;
+    }
+    if from == 2 {
+        return zero;
+    }
+    if from == 3 {
+        return free;
+    }
+    0.0 / 0.0
+}
+
+// The coefficient of a shift to one system from another; NaN for any other code.
+pub fn coefficient(to: u32, from: u32, k: f64) -> f64
+    ensures { λ r. ⌜ r ≡ coefficientOf to from k ⌝ }
+{
+    if to == 1 {
+        return from_mean_zero_free(from, 0.0, 1.0, 1.0 + k);
+    }
+    if to == 2 {
+        return from_mean_zero_free(from, -1.0, 0.0, k);
+    }
+    if to == 3 {
+        return from_mean_zero_free(from, -(1.0 + k), -k, 0.0);
+    }
+    0.0 / 0.0
+}
+
+impl Tide {
+    pub fn new(step: Permtide) -> Self
+        ensures { λ r. ⌜ r ≡ tideOf step ⌝ }
+    {
+        Tide {
+            ellps: Ellipsoid::named(step.ellipsoid),
+            coefficient: coefficient(step.to, step.from, step.k),
+        }
+    }
+}
+
+fn lift(op: Tide, phi: f64) -> f64
+    ensures { λ r. ⌜ r ≡ liftOf op phi ⌝ }
+{
+    let lat = trig::sin_cos(phi);
+    let phibar = op.ellps.latitude_geographic_to_geocentric(lat.s, lat.c);
+    let s = trig::sin(phibar);
+    op.coefficient * (-0.198) * (1.5 * s * s - 0.5)
+}
+
+// ----- F O R W A R D -----------------------------------------------------------------
+
+pub fn fwd(op: Tide, coord: Tuple) -> Tuple
+    ensures { λ r. ⌜ r ≡ fwdOf op coord ⌝ }
+{
+    Tuple {
+        x: coord.x,
+        y: coord.y,
+        z: coord.z + lift(op, coord.y),
+        t: coord.t,
+    }
+}
+
+// ----- I N V E R S E -----------------------------------------------------------------
+
+pub fn inv(op: Tide, coord: Tuple) -> Tuple
+    ensures { λ r. ⌜ r ≡ invOf op coord ⌝ }
+{
+    Tuple {
+        x: coord.x,
+        y: coord.y,
+        z: coord.z - lift(op, coord.y),
+        t: coord.t,
+    }
+}

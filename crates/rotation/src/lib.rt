@@ -1,0 +1,152 @@
+// A rotation of three numbers: the matrix of three angles, in two conventions, and its application, plain and transposed.
+//
+// `rotation_matrix` of helmert.rs of the crate geodesy 0.15.0, based on Karsten Engsager's implementation in set_dtm_1.c (trlib), in the Rust's own sequence
+// of roundings and with its letters; the products with a matrix are those of its `helmert_common`. Proved equal to specs/Matrix.antt, rounding by rounding,
+// for every number; how exact the sines and cosines are is the crate trig's to say. A crate of its own because steps other than Helmert turn by it too.
+ghost use mathlib.Core.Path.{_≡_};
+ghost use Rattle.rotation.specs.Matrix.{sinesOf, smallOf, firstOrderOf, secondOrderOf, rowsOf, rotationMatrixOf, rotateOf, rotateBackOf};
+
+pub struct Vec3 {
+    pub x: f64,
+    pub y: f64,
+    pub z: f64,
+}
+
+// ----- rotation matrix builder ---------------------------------------------------------------
+
+// The sines and cosines of the three angles, or what stands for them.
+pub struct Sines {
+    pub sx: f64,
+    pub cx: f64,
+    pub sy: f64,
+    pub cy: f64,
+    pub sz: f64,
+    pub cz: f64,
+}
+
+// The nine entries, by row and column of the coordinate frame's matrix.
+pub struct Entries {
+    pub r11: f64,
+    pub r12: f64,
+    pub r13: f64,
+    pub r21: f64,
+    pub r22: f64,
+    pub r23: f64,
+    pub r31: f64,
+    pub r32: f64,
+    pub r33: f64,
+}
+
+fn exact_sines(r: Vec3) -> Sines
+    ensures { λ q. ⌜ q ≡ sinesOf r ⌝ }
+{
+    let x = trig::sin_cos(r.x);
+    let y = trig::sin_cos(r.y);
+    let z = trig::sin_cos(r.z);
+    Sines {
+        sx: x.s,
+        cx: x.c,
+        sy: y.s,
+        cy: y.c,
+        sz: z.s,
+        cz: z.c,
+    }
+}
+
+fn small_sines(r: Vec3) -> Sines
+    ensures { λ q. ⌜ q ≡ smallOf r ⌝ }
+{
+    Sines {
+        sx: r.x,
+        cx: 1.0,
+        sy: r.y,
+        cy: 1.0,
+        sz: r.z,
+        cz: 1.0,
+    }
+}
+
+// Leaves out the second order infinitesimals in the rotation matrix elements, as small-angle approximations do.
+fn first_order(a: Sines) -> Entries
+    ensures { λ r. ⌜ r ≡ firstOrderOf a ⌝ }
+{
+    Entries {
+        r11: a.cy * a.cz,
+        r12: a.cx * a.sz,
+        r13: -a.cx * a.sy * a.cz,
+        r21: -a.cy * a.sz,
+        r22: a.cx * a.cz,
+        r23: a.sx * a.cz,
+        r31: a.sy,
+        r32: -a.sx * a.cy,
+        r33: a.cx * a.cy,
+    }
+}
+
+// Applies the second order terms, for the exact case.
+fn second_order(a: Sines) -> Entries
+    ensures { λ r. ⌜ r ≡ secondOrderOf a ⌝ }
+{
+    let e = first_order(a);
+    Entries {
+        r11: e.r11,
+        r12: e.r12 + a.sx * a.sy * a.cz,
+        r13: e.r13 + a.sx * a.sz,
+        r21: e.r21,
+        r22: e.r22 - a.sx * a.sy * a.sz,
+        r23: e.r23 + a.cx * a.sy * a.sz,
+        r31: e.r31,
+        r32: e.r32,
+        r33: e.r33,
+    }
+}
+
+fn rows(position_vector: bool, e: Entries) -> [[f64; 3]; 3]
+    ensures { λ r. ⌜ r ≡ rowsOf «position_vector» e ⌝ }
+{
+    if position_vector {
+        return [
+            [e.r11, e.r21, e.r31],
+            [e.r12, e.r22, e.r32],
+            [e.r13, e.r23, e.r33],
+        ];
+    }
+    [
+        [e.r11, e.r12, e.r13],
+        [e.r21, e.r22, e.r23],
+        [e.r31, e.r32, e.r33],
+    ]
+}
+
+pub fn rotation_matrix(r: Vec3, exact: bool, position_vector: bool) -> [[f64; 3]; 3]
+    ensures { λ m. ⌜ m ≡ rotationMatrixOf r exact «position_vector» ⌝ }
+{
+    if exact {
+        return rows(position_vector, second_order(exact_sines(r)));
+    }
+    rows(position_vector, first_order(small_sines(r)))
+}
+
+// ----- application -----------------------------------------------------------------------------
+
+// M·v
+pub fn rotate(m: [[f64; 3]; 3], v: Vec3) -> Vec3
+    ensures { λ r. ⌜ r ≡ rotateOf m v ⌝ }
+{
+    Vec3 {
+        x: v.x * m[0][0] + v.y * m[0][1] + v.z * m[0][2],
+        y: v.x * m[1][0] + v.y * m[1][1] + v.z * m[1][2],
+        z: v.x * m[2][0] + v.y * m[2][1] + v.z * m[2][2],
+    }
+}
+
+// Inverse rotation by transposed multiplication.
+pub fn rotate_back(m: [[f64; 3]; 3], v: Vec3) -> Vec3
+    ensures { λ r. ⌜ r ≡ rotateBackOf m v ⌝ }
+{
+    Vec3 {
+        x: v.x * m[0][0] + v.y * m[1][0] + v.z * m[2][0],
+        y: v.x * m[0][1] + v.y * m[1][1] + v.z * m[2][1],
+        z: v.x * m[0][2] + v.y * m[1][2] + v.z * m[2][2],
+    }
+}

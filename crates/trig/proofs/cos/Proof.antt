@@ -1,0 +1,13 @@
+-- `trig::cos` meets its contract: it is a part of the pair. Assumes nothing.
+use borrow.Author.Needs.{needs}
+use Rattle.trig.proofs.cos.Statement.{statement}
+use Rattle.trig.proofs.cos.Tie as tie
+
+sin-cos-requires : tie.Need-sin-cos-requires
+sin-cos-requires c κs = search needs
+
+returns : tie.Need-returns
+returns c = rw (c .sin-cos .ensures)
+
+pub cos-spec : {M : Type 1} → statement M
+cos-spec = tie.close (tie.spec sin-cos-requires returns)

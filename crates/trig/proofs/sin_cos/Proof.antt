@@ -1,0 +1,30 @@
+-- `trig::sin_cos` meets its contract. Assumes nothing.
+use borrow.Author.Needs.{needs}
+use Rattle.trig.specs.Trig.{sinOf, cosOf}
+use Rattle.floats.proofs.Nan.{zero-over-zero}
+use Rattle.trig.proofs.sin_cos.Statement.{statement}
+use Rattle.trig.proofs.sin_cos.Tie as tie
+
+returns : tie.Need-returns
+unfolding sinOf cosOf
+returns c = rw (c .if1 .taken)
+
+abs-requires : tie.Need-abs-requires
+abs-requires c κs = search needs
+
+pair-requires : tie.Need-pair-requires
+pair-requires c κs = search needs
+
+signed-requires : tie.Need-signed-requires
+signed-requires c κs = search needs
+
+returns-2 : tie.Need-returns-2
+unfolding sinOf cosOf
+returns-2 c = rw (c .signed .ensures, c .before .pair .ensures, c .before .before .before .before .if1 .left, ← c .before .before .before .abs .ensures, c .before .before .if2 .taken)
+
+returns-3 : tie.Need-returns-3
+unfolding sinOf cosOf
+returns-3 c = rw (zero-over-zero, c .before .before .if1 .left, ← c .before .abs .ensures, c .if2 .left)
+
+pub sin-cos-spec : {M : Type 1} → statement M
+sin-cos-spec = tie.close (tie.spec returns abs-requires pair-requires signed-requires returns-2 returns-3)

@@ -1,0 +1,2 @@
+-- What the contracts of `tuple` cite.
+pub mod Sums
