@@ -52,6 +52,11 @@ pub state-in-running : (shift : Shift) (inv : Bool) (state : State) (v : Tuple) 
 unfolding stepOf runningOf
 state-in-running shift inv state v h = rw h
 
+-- at the last time itself nothing is carried on: what was worked out for it still serves
+pub last-time-keeps-state : (shift : Shift) (state : State) (time : Float) → ne time (state .last) ≡ false → nextOf shift state time ≡ state
+unfolding nextOf
+last-time-keeps-state shift state time h = rw h
+
 -- so in any mode, and both ways, fixes of one time lead from one state to one state
 pub state-from-time : (shift : Shift) (inv back : Bool) (state : State) (v w : Tuple) → v .t ≡ w .t
     → stepOf shift inv state v .state ≡ stepOf shift back state w .state
