@@ -1,13 +1,13 @@
 -- One times a number that binary64 holds is that number, and -1 times it is its negative: rounding keeps what the format holds. Assumes nothing.
 use mathlib.Core.Path.{_≡_, refl, sym, ap, _∙_, subst}
 use Prim.Native.Nat.{ℕ, zero, suc, _+_, _*_, _-_, _/_, _%_, _^_, _≤_, _<_}
-use native.Mathlib.Nat.{mul-assoc, mul-right-comm, mul-one, one-mul, zero-mul, mul-pos, le-trans, le-of-eq, zero-lt-suc, mul-lt-mul-of-pos-right, lt-of-mul-lt-mul-right, lt-of-not-le, lt-irrefl, lt-of-le-of-lt, le-of-suc-le-suc}
+use native.Mathlib.Nat.{mul-assoc, mul-right-comm, mul-one, one-mul, zero-mul, mul-pos, le-trans, le-of-eq, mul-lt-mul-of-pos-right, lt-of-mul-lt-mul-right, lt-of-not-le, lt-irrefl, lt-of-le-of-lt, le-of-suc-le-suc}
 use native.Mathlib.Omega.{arith}
-use mathlib.Core.Bool.{Bool, true, false, not, cond, _&&_}
+use mathlib.Core.Bool.{Bool, true, false, cond, _&&_}
 use lib.Dec.{T, leb, ltb, eqb, eqb→eq, ltb→lt, leb→le, lit≤}
 use lib.IntN.{ℤ, pos, negsuc}
 use lib.Pow.{pow-add, pow-pos, pow-lt}
-use lib.Ieee.{Float, nan, inf, fin, binary64, fits, toBits, ofBits, size, round, up, down, neg, mul, unlike}
+use lib.Ieee.{Float, nan, inf, fin, binary64, fits, toBits, ofBits, size, round, up, down, neg, mul}
 use lib.Ieee.Fits.{and-l, and-r, round-fits, neg-fits, down-pos}
 use lib.Ieee.Exact.{HasValue, round-exact}
 use lib.Ieee.Nearest.{div-same}
