@@ -1,2 +1,4 @@
 -- What the proofs of this crate share, and the laws that callers cite.
+pub mod Same
+pub mod Runs
 pub mod Laws

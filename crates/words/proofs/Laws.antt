@@ -257,6 +257,12 @@ put-all : (l xs : List ℕ) → drop (length xs) l ≡ [] → put l 0 xs ≡ xs
 unfolding put
 put-all l xs e = simp (zero-add, e) (append-nil xs)
 
+-- the first of a run
+pub run-starts-number : {l l' : List ℕ} {at n : ℕ} (x : Float) → at + n ≤ length l → T (leb 8 n) → l' ≡ putOf l at (leNumber x)
+    → Run l at n l' 8 (leNumber x)
+run-starts-number {l} {l'} {at} {n} x h t p =
+    run-number x (run-starts l at n h) t (p ∙ ap (λ (k : ℕ). putOf l k (leNumber x)) (sym (add-zero at)))
+
 -- a run that fills its list is all of it
 pub run-fills : {l₀ l xs : List ℕ} {n : ℕ} → Run l₀ 0 n l n xs → length l₀ ≡ n → l ≡ xs
 run-fills {l₀} {l} {xs} {n} r e =
