@@ -4,19 +4,12 @@ use Prim.Native.Nat.{ℕ, _+_, _≤_}
 use native.Mathlib.Nat.{add-zero}
 use mathlib.Core.List.{List, _++_}
 use lib.Dec.{T, leb}
-use lib.ListN.{length, length-append}
+use lib.ListN.{length}
 use Rattle.words.specs.Words.{put}
-use Rattle.words.proofs.Laws.{Run, run-starts, run-puts, length-leNumber}
+use Rattle.words.proofs.Laws.{Run, run-starts, run-puts}
 use Rattle.rotation.specs.declared.Vec3.{Vec3}
 use Rattle.bodies.specs.Write.{leVec3, leSeries}
-
-pub length-leVec3 : (v : Vec3) → length (leVec3 v) ≡ 24
-unfolding leVec3
-length-leVec3 v = simp (length-append, length-leNumber)
-
-pub length-leSeries : (a b c d : Vec3) → length (leSeries a b c d) ≡ 96
-unfolding leSeries
-length-leSeries a b c d = simp (length-append, length-leVec3)
+use Rattle.bodies.proofs.Lengths.{length-leVec3, length-leSeries}
 
 pub run-vec3 : {l₀ l l' xs : List ℕ} {at n k : ℕ} (v : Vec3) → Run l₀ at n l k xs → T (leb (k + 24) n)
     → l' ≡ put l (at + k) (leVec3 v) → Run l₀ at n l' (k + 24) (xs ++ leVec3 v)

@@ -6,6 +6,6 @@ pub cond-same : {A : Type 0} (t : Bool) (a : A) → a ≡ cond t a a
 cond-same true a = refl
 cond-same false a = refl
 
-pub never : (t : Bool) → {u : Bool} → false ≡ t && false && u
-never true = refl
-never false = refl
+pub never : (t u : Bool) → false ≡ t && false && u
+never true u = refl
+never false u = refl

@@ -1,6 +1,6 @@
 -- What is true of words and numbers in a list of bytes, for callers to cite: what was put is read, what was read is put, and a run of puts is one. Assumes nothing.
 use mathlib.Core.Path.{_≡_, refl, sym, ap, _∙_, subst}
-use Prim.Native.Nat.{ℕ, suc, _+_, _*_, _/_, _%_, _^_, _<_, _≤_}
+use Prim.Native.Nat.{ℕ, suc, _+_, _-_, _*_, _/_, _%_, _^_, _<_, _≤_}
 use mathlib.Core.Bool.{Bool, true, false, not, cond}
 use mathlib.Core.List.{List, [], _∷_, _++_, append-nil, append-assoc}
 use native.Mathlib.Omega.{arith}
@@ -169,6 +169,18 @@ put-too-long l at bs h = rw (lt-leb (at + length bs) (length l) h)
 pub length-put : (l : List ℕ) (at : ℕ) (bs : List ℕ) → at + length bs ≤ length l → length (put l at bs) ≡ length l
 unfolding put
 length-put l at bs h = simp (length-append, length-take, length-drop) (omega arith)
+
+there : (l : List ℕ) (at : ℕ) (bs : List ℕ) → take at l ++ (bs ++ drop (length bs) (drop at l)) ≡ put l at bs
+unfolding put
+there l at bs = simp (drop-drop, append-assoc)
+
+-- a part of a list, lent and given back with bs in it, is a put
+pub put-part : (l : List ℕ) (at n : ℕ) {part : List ℕ} (bs : List ℕ) → part ≡ bs → length bs ≡ n → at + n ≤ length l
+    → take at l ++ (part ++ drop (at + n - at) (drop at l)) ≡ putOf l at bs
+put-part l at n bs p e h =
+    let k : at + n - at ≡ length bs = omega arith in
+    let fits : at + length bs ≤ length l = omega arith in
+    rw (p, k, put-fits l at bs fits) (there l at bs)
 
 -- two puts, the second where the first ends, are one
 pub put-put : (l xs ys : List ℕ) (at n : ℕ) → length xs ≡ n → at + n ≤ length l → put (put l at xs) (at + n) ys ≡ put l at (xs ++ ys)

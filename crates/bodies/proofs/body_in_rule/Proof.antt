@@ -103,7 +103,7 @@ returns-10 c = rw (c .before .if9 .taken, ne-eqb _ 24 (c .if10 .left))
 
 returns-11 : tie.Need-returns-11
 unfolding bodyInRule writtenInRule stepInRule stepOf lengthOf
-returns-11 c = rw (ne-eqb _ 1 (c .before .before .before .before .if1 .left), ne-eqb _ 2 (c .before .before .before .if3 .left), ne-eqb _ 3 (c .before .before .if5 .left), ne-eqb _ 4 (c .before .if7 .left), ne-eqb _ 5 (c .if9 .left)) (never (eqb (length (c .before .before .before .before .before .before .args .b .now)) 0))
+returns-11 c = rw (ne-eqb _ 1 (c .before .before .before .before .if1 .left), ne-eqb _ 2 (c .before .before .before .if3 .left), ne-eqb _ 3 (c .before .before .if5 .left), ne-eqb _ 4 (c .before .if7 .left), ne-eqb _ 5 (c .if9 .left)) (never (eqb (length (c .before .before .before .before .before .before .args .b .now)) 0) _)
 
 pub body-in-rule-spec : {M : Type 1} → statement M
 body-in-rule-spec =

@@ -17,7 +17,7 @@ same-length c = search needs
 
 returns : tie.Need-returns
 unfolding cartBytes
-returns c = 
+returns c =
     let c2 = c .before .before in
     let c1 = c2 .before .before .before .before in
     let o = c1 .before .before .before in

@@ -38,21 +38,23 @@ put-number-requires-6 : tie.Need-put-number-requires-6
 put-number-requires-6 c κs = search needs
 
 same-length : tie.Need-same-length
-same-length c = omega (arith,
-    c .before .body10 .given,
-    c .before .before .before .before .before .body9 .given,
-    c .before .before .before .before .before .before .before .before .before .body8 .given,
-    c .before .before .before .before .before .before .before .before .before .before .before .before .before .body7 .given,
-    c .before .before .before .before .before .before .before .before .before .before .before .before .before .before .before .before .before .body6 .given,
-    c .before .before .before .before .before .before .before .before .before .before .before .before .before .before .before .before .before .before .before .before .before .body5 .given,
-    c .before .before .before .before .before .before .before .before .before .before .before .before .before .before .before .before .before .before .before .before .before .before .before .before .before .body4 .given,
-    c .before .before .before .before .before .before .before .before .before .before .before .before .before .before .before .before .before .before .before .before .before .before .before .before .before .before .before .before .before .body3 .given,
-    c .before .before .before .before .before .before .before .before .before .before .before .before .before .before .before .before .before .before .before .before .before .before .before .before .before .before .before .before .before .before .before .before .before .body2 .given,
-    c .before .before .before .before .before .before .before .before .before .before .before .before .before .before .before .before .before .before .before .before .before .before .before .before .before .before .before .before .before .before .before .before .before .before .before .before .before .body .given)
+same-length c = omega (
+  arith,
+  c .before .body10 .given,
+  c .before .before .before .before .before .body9 .given,
+  c .before .before .before .before .before .before .before .before .before .body8 .given,
+  c .before .before .before .before .before .before .before .before .before .before .before .before .before .body7 .given,
+  c .before .before .before .before .before .before .before .before .before .before .before .before .before .before .before .before .before .body6 .given,
+  c .before .before .before .before .before .before .before .before .before .before .before .before .before .before .before .before .before .before .before .before .before .body5 .given,
+  c .before .before .before .before .before .before .before .before .before .before .before .before .before .before .before .before .before .before .before .before .before .before .before .before .before .body4 .given,
+  c .before .before .before .before .before .before .before .before .before .before .before .before .before .before .before .before .before .before .before .before .before .before .before .before .before .before .before .before .before .body3 .given,
+  c .before .before .before .before .before .before .before .before .before .before .before .before .before .before .before .before .before .before .before .before .before .before .before .before .before .before .before .before .before .before .before .before .before .body2 .given,
+  c .before .before .before .before .before .before .before .before .before .before .before .before .before .before .before .before .before .before .before .before .before .before .before .before .before .before .before .before .before .before .before .before .before .before .before .before .before .body .given,
+)
 
 returns : tie.Need-returns
 unfolding helmertBytes
-returns c = 
+returns c =
     let c10 = c .before .before in
     let c9 = c10 .before .before .before .before in
     let c8 = c9 .before .before .before .before in

@@ -38,7 +38,7 @@ same-length c = search needs
 
 returns : tie.Need-returns
 unfolding molodenskyBytes
-returns c = 
+returns c =
     let c9 = c .before .before in
     let c8 = c9 .before .before .before .before in
     let c7 = c8 .before .before .before .before in

@@ -26,7 +26,7 @@ same-length c = search needs
 
 returns : tie.Need-returns
 unfolding permtideBytes
-returns c = 
+returns c =
     let c5 = c .before .before in
     let c4 = c5 .before .before .before .before in
     let c3 = c4 .before .before .before .before in
