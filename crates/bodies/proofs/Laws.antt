@@ -1,2 +1,139 @@
--- What is true of bodies, for callers to cite. Assumes nothing.
-use mathlib.Core.Path.{_≡_, refl}
+-- What is true of bodies, for callers to cite. A body has its kind's length. What was written is read: every field of a record comes back, the zeros by sign
+-- and "not given" among them. What was read is written: a body in rule comes back byte for byte. Assumes nothing.
+use mathlib.Core.Path.{_≡_, refl, sym, ap, _∙_, subst}
+use Prim.Native.Nat.{ℕ, _+_, _*_, _≤_, _<_}
+use mathlib.Core.Bool.{Bool, true, false, cond, _&&_}
+use mathlib.Core.List.{List, [], _∷_, _++_}
+use native.Mathlib.Omega.{arith}
+use lib.Dec.{T, eqb}
+use lib.ListN.{length, take, drop}
+use lib.Seq.{take-add, take-all, drop-drop}
+use lib.Ieee.{Float, nan, inf, fin, isNan}
+use lib.Ieee.Scale.{finite}
+use borrow.Author.Tests.{eq-eqb, eqb-true}
+use Rattle.words.specs.Words.{Bytes, word32, word64, numberAt, oneNanAt, le32, le64, leNumber}
+use Rattle.words.proofs.Laws.{word-back, number-back, number-in-rule, no-nan-in-rule, le32-word32, leNumber-numberAt}
+use Rattle.rotation.specs.declared.Vec3.{Vec3}
+use Rattle.helmert.specs.declared.Helmert.{Helmert as HelmertRecord}
+use Rattle.helmert.specs.Rules.{fieldsInRuleOf, vectorsFiniteOf, scalesFiniteOf, finite3Of}
+use Rattle.cart.specs.declared.Cart.{Cart as CartRecord}
+use Rattle.molodensky.specs.declared.Molodensky.{Molodensky as MolodenskyRecord}
+use Rattle.permtide.specs.declared.Permtide.{Permtide as PermtideRecord}
+use Rattle.deformation.specs.declared.Deformation.{Deformation as DeformationRecord}
+use Rattle.bodies.specs.declared.Step.{Step}
+use Rattle.bodies.specs.declared.Step.the-variants.{Cart, Permtide, Deformation, Molodensky, Helmert}
+use Rattle.bodies.specs.Kinds.{lengthOf, kindOf}
+use Rattle.bodies.specs.Read.{vec3At, helmertOf, cartOf, molodenskyOf, permtideOf, deformationOf, stepOf}
+use Rattle.bodies.specs.Rules.{stepInRule, writtenInRule, bodyInRule}
+use Rattle.bodies.specs.Write.{leVec3, leSeries, helmertBytes, cartBytes, molodenskyBytes, permtideBytes, deformationBytes, bytesOf}
+use Rattle.bodies.specs.Held.{Held, Held3, HeldHelmert, HeldCart, HeldMolodensky, HeldPermtide, HeldDeformation}
+use Rattle.bodies.proofs.Lengths.{length-helmert, length-cart, length-molodensky, length-permtide, length-deformation}
+
+-- a body has its kind's length
+pub bytes-length : (st : Step) → length (bytesOf st) ≡ lengthOf (kindOf st)
+unfolding bytesOf kindOf lengthOf
+bytes-length (Helmert h) = length-helmert h
+bytes-length (Cart r) = length-cart r
+bytes-length (Molodensky r) = length-molodensky r
+bytes-length (Permtide r) = length-permtide r
+bytes-length (Deformation r) = length-deformation r
+
+-- ---- read after write, a kind at a time: each field stands where the reader looks for it
+
+vec3-back : (v : Vec3) → Held3 v → vec3At (leVec3 v) 0 ≡ v
+unfolding vec3At leVec3 numberAt leNumber word64 le64 word32 le32
+vec3-back v held =
+    let x : numberAt (leVec3 v) 0 ≡ v .x = number-back (v .x) (held .x-held) in
+    let y : numberAt (leVec3 v) 8 ≡ v .y = number-back (v .y) (held .y-held) in
+    let z : numberAt (leVec3 v) 16 ≡ v .z = number-back (v .z) (held .z-held) in
+    rw (x, y, z)
+
+pub cart-back : (r : CartRecord) → HeldCart r → cartOf (cartBytes r) ≡ r
+unfolding cartOf cartBytes word32 le32
+cart-back r held =
+    let e : word32 (cartBytes r) 0 ≡ r .ellipsoid = word-back (r .ellipsoid) (held .ellipsoid-held) in
+    rw e
+
+pub permtide-back : (r : PermtideRecord) → HeldPermtide r → permtideOf (permtideBytes r) ≡ r
+unfolding permtideOf permtideBytes numberAt leNumber word64 le64 word32 le32
+permtide-back r held =
+    let ellipsoid : word32 (permtideBytes r) 0 ≡ r .ellipsoid = word-back (r .ellipsoid) (held .ellipsoid-held) in
+    let to : word32 (permtideBytes r) 4 ≡ r .to = word-back (r .to) (held .to-held) in
+    let from : word32 (permtideBytes r) 8 ≡ r .from = word-back (r .from) (held .from-held) in
+    let k : numberAt (permtideBytes r) 16 ≡ r .k = number-back (r .k) (held .k-held) in
+    rw (ellipsoid, to, from, k)
+
+pub deformation-back : (r : DeformationRecord) → HeldDeformation r → deformationOf (deformationBytes r) ≡ r
+unfolding deformationOf deformationBytes numberAt leNumber word64 le64 word32 le32
+deformation-back r held =
+    let flags : word32 (deformationBytes r) 0 ≡ r .flags = word-back (r .flags) (held .flags-held) in
+    let ellipsoid : word32 (deformationBytes r) 4 ≡ r .ellipsoid = word-back (r .ellipsoid) (held .ellipsoid-held) in
+    let dt : numberAt (deformationBytes r) 8 ≡ r .dt = number-back (r .dt) (held .dt-held) in
+    let epoch : numberAt (deformationBytes r) 16 ≡ r .epoch = number-back (r .epoch) (held .epoch-held) in
+    rw (flags, ellipsoid, dt, epoch)
+
+pub molodensky-back : (r : MolodenskyRecord) → HeldMolodensky r → molodenskyOf (molodenskyBytes r) ≡ r
+unfolding molodenskyOf molodenskyBytes numberAt leNumber word64 le64 word32 le32
+molodensky-back r held =
+    let flags : word32 (molodenskyBytes r) 0 ≡ r .flags = word-back (r .flags) (held .flags-held) in
+    let first : word32 (molodenskyBytes r) 4 ≡ r .first = word-back (r .first) (held .first-held) in
+    let second : word32 (molodenskyBytes r) 8 ≡ r .second = word-back (r .second) (held .second-held) in
+    let dx : numberAt (molodenskyBytes r) 16 ≡ r .dx = number-back (r .dx) (held .dx-held) in
+    let dy : numberAt (molodenskyBytes r) 24 ≡ r .dy = number-back (r .dy) (held .dy-held) in
+    let dz : numberAt (molodenskyBytes r) 32 ≡ r .dz = number-back (r .dz) (held .dz-held) in
+    let da : numberAt (molodenskyBytes r) 40 ≡ r .da = number-back (r .da) (held .da-held) in
+    let df : numberAt (molodenskyBytes r) 48 ≡ r .df = number-back (r .df) (held .df-held) in
+    rw (flags, first, second, dx, dy, dz, da, df)
+
+pub helmert-back : (h : HelmertRecord) → HeldHelmert h → helmertOf (helmertBytes h) ≡ h
+unfolding helmertOf helmertBytes leSeries vec3At leVec3 numberAt leNumber word64 le64 word32 le32
+helmert-back h held =
+    let flags : word32 (helmertBytes h) 0 ≡ h .flags = word-back (h .flags) (held .flags-held) in
+    let convention : word32 (helmertBytes h) 4 ≡ h .convention = word-back (h .convention) (held .convention-held) in
+    let translation : vec3At (helmertBytes h) 8 ≡ h .translation = vec3-back (h .translation) (held .translation-held) in
+    let xyz : vec3At (helmertBytes h) 32 ≡ h .xyz = vec3-back (h .xyz) (held .xyz-held) in
+    let rate : vec3At (helmertBytes h) 56 ≡ h .«translation_rate» = vec3-back (h .«translation_rate») (held .translation-rate-held) in
+    let dxyz : vec3At (helmertBytes h) 80 ≡ h .dxyz = vec3-back (h .dxyz) (held .dxyz-held) in
+    let rotation : vec3At (helmertBytes h) 104 ≡ h .rotation = vec3-back (h .rotation) (held .rotation-held) in
+    let rxyz : vec3At (helmertBytes h) 128 ≡ h .rxyz = vec3-back (h .rxyz) (held .rxyz-held) in
+    let turn : vec3At (helmertBytes h) 152 ≡ h .«rotation_rate» = vec3-back (h .«rotation_rate») (held .rotation-rate-held) in
+    let drxyz : vec3At (helmertBytes h) 176 ≡ h .drxyz = vec3-back (h .drxyz) (held .drxyz-held) in
+    let scale : numberAt (helmertBytes h) 200 ≡ h .scale = number-back (h .scale) (held .scale-held) in
+    let s : numberAt (helmertBytes h) 208 ≡ h .s = number-back (h .s) (held .s-held) in
+    let growth : numberAt (helmertBytes h) 216 ≡ h .«scale_rate» = number-back (h .«scale_rate») (held .scale-rate-held) in
+    let ds : numberAt (helmertBytes h) 224 ≡ h .ds = number-back (h .ds) (held .ds-held) in
+    let epoch : numberAt (helmertBytes h) 232 ≡ h .«t_epoch» = number-back (h .«t_epoch») (held .t-epoch-held) in
+    let obs : numberAt (helmertBytes h) 240 ≡ h .«t_obs» = number-back (h .«t_obs») (held .t-obs-held) in
+    rw (flags, convention, translation, xyz, rate, dxyz, rotation, rxyz, turn, drxyz, scale, s, growth, ds, epoch, obs)
+
+-- ---- read after write
+
+-- a step's record, written as its body and read by its kind, is the same record
+pub read-after-write : (st : Step) → Held st → stepOf (kindOf st) (bytesOf st) ≡ st
+unfolding stepOf kindOf bytesOf lengthOf
+read-after-write (Helmert h) held = rw (eq-eqb (length (helmertBytes h)) 248 (length-helmert h), helmert-back h held)
+read-after-write (Cart r) held = rw (eq-eqb (length (cartBytes r)) 8 (length-cart r), cart-back r held)
+read-after-write (Molodensky r) held = rw (eq-eqb (length (molodenskyBytes r)) 56 (length-molodensky r), molodensky-back r held)
+read-after-write (Permtide r) held = rw (eq-eqb (length (permtideBytes r)) 24 (length-permtide r), permtide-back r held)
+read-after-write (Deformation r) held = rw (eq-eqb (length (deformationBytes r)) 24 (length-deformation r), deformation-back r held)
+
+-- what is written is written by the rule
+pub written-in-rule : (st : Step) → Held st → writtenInRule (kindOf st) (bytesOf st) ≡ true
+unfolding writtenInRule kindOf bytesOf helmertBytes leSeries leVec3 cartBytes molodenskyBytes permtideBytes deformationBytes oneNanAt numberAt leNumber word64 le64 word32 le32
+written-in-rule (Helmert h) held =
+    let epoch : oneNanAt (helmertBytes h) 232 ≡ true = number-in-rule (h .«t_epoch») (held .t-epoch-held) in
+    let obs : oneNanAt (helmertBytes h) 240 ≡ true = number-in-rule (h .«t_obs») (held .t-obs-held) in
+    rw (epoch, obs)
+written-in-rule (Cart r) held = refl
+written-in-rule (Molodensky r) held = refl
+written-in-rule (Permtide r) held = refl
+written-in-rule (Deformation r) held =
+    let dt : oneNanAt (deformationBytes r) 8 ≡ true = number-in-rule (r .dt) (held .dt-held) in
+    let epoch : oneNanAt (deformationBytes r) 16 ≡ true = number-in-rule (r .epoch) (held .epoch-held) in
+    rw (dt, epoch)
+
+-- a record in rule is written as a body in rule
+pub in-rule-after-write : (st : Step) → Held st → stepInRule st ≡ true → bodyInRule (kindOf st) (bytesOf st) ≡ true
+unfolding bodyInRule
+in-rule-after-write st held h =
+    rw (eq-eqb (length (bytesOf st)) (lengthOf (kindOf st)) (bytes-length st), written-in-rule st held, read-after-write st held, h)

@@ -8,7 +8,7 @@ use native.Mathlib.Nat.{add-assoc, add-zero, zero-add}
 use lib.Dec.{T, eqb, leb, leb→le}
 use lib.ListN.{getD, set, length, take, drop, length-append, length-take, length-drop, take-append-drop, List·getD-eq-default}
 use lib.Seq.{getD-append-add, getD-take, getD-drop, take-at, drop-drop, drop-append-add, take-add, sets-eq}
-use lib.Ieee.{Float, binary64, ofBits, toBits, fits, isNan, ofFields}
+use lib.Ieee.{Float, nan, inf, fin, binary64, ofBits, toBits, fits, isNan, ofFields}
 use lib.Ieee.Bits.{ofBits-toBits, toBits-lt, toBits-ofBits}
 use borrow.Author.Tests.{le-leb, lt-leb, eqb-true}
 use Rattle.words.specs.Words.{Bytes, word32, word64, numberAt, oneNanAt, le32, le64, leNumber, put, putOf}
@@ -76,6 +76,22 @@ word-back n h = word32-le32 n [] h
 pub number-back : (x : Float) → T (fits binary64 x) → numberAt (leNumber x) 0 ≡ x
 unfolding numberAt leNumber le64 le32
 number-back x h = rw (word64-le64 (toBits binary64 x) [] (toBits-lt binary64 x h)) (ofBits-toBits binary64 x h)
+
+-- 64 bits come back, and a NaN's are those of "not given"
+pub bits-of-number : (x : Float) → T (fits binary64 x) → word64 (leNumber x) 0 ≡ toBits binary64 x
+unfolding leNumber le64 le32
+bits-of-number x h = word64-le64 (toBits binary64 x) [] (toBits-lt binary64 x h)
+
+nan-in-rule : (x : Float) → cond (isNan x) (eqb (toBits binary64 x) 0x7ff8_0000_0000_0000) true ≡ true
+unfolding isNan toBits
+nan-in-rule nan = refl
+nan-in-rule (inf s) = refl
+nan-in-rule (fin s m e) = refl
+
+-- a number is written in the one way
+pub number-in-rule : (x : Float) → T (fits binary64 x) → oneNanAt (leNumber x) 0 ≡ true
+unfolding oneNanAt
+number-in-rule x h = rw (number-back x h, bits-of-number x h) (nan-in-rule x)
 
 -- ---- a part of a list
 
