@@ -137,3 +137,107 @@ pub in-rule-after-write : (st : Step) → Held st → stepInRule st ≡ true →
 unfolding bodyInRule
 in-rule-after-write st held h =
     rw (eq-eqb (length (bytesOf st)) (lengthOf (kindOf st)) (bytes-length st), written-in-rule st held, read-after-write st held, h)
+
+-- ---- write after read, a kind at a time: the bytes at a place are those of the field read there
+
+left : (a b : Bool) → a && b ≡ true → a ≡ true
+left true b h = refl
+left false b h = h
+
+right : (a b : Bool) → a && b ≡ true → b ≡ true
+right true b h = h
+right false b h = absurd (subst T (sym h) tt)
+
+finite-is-no-nan : (x : Float) → finite x ≡ true → isNan x ≡ false
+unfolding isNan
+finite-is-no-nan nan h = absurd (subst T (sym h) tt)
+finite-is-no-nan (inf s) h = refl
+finite-is-no-nan (fin s m e) h = refl
+
+number-kept : (b : List ℕ) (at : ℕ) → Bytes b → at + 8 ≤ length b → finite (numberAt b at) ≡ true → leNumber (numberAt b at) ≡ take 8 (drop at b)
+number-kept b at bytes h f = leNumber-numberAt b at bytes h (no-nan-in-rule b at (finite-is-no-nan (numberAt b at) f))
+
+vec3-kept : (b : List ℕ) (at : ℕ) → Bytes b → at + 24 ≤ length b → finite3Of (vec3At b at) ≡ true → leVec3 (vec3At b at) ≡ take 24 (drop at b)
+unfolding leVec3 vec3At finite3Of
+vec3-kept b at bytes h f =
+    let x = finite (numberAt b at) in
+    let y = finite (numberAt b (at + 8)) in
+    let z = finite (numberAt b (at + 16)) in
+    let fx : finite (numberAt b at) ≡ true = left x y (left (x && y) z f) in
+    let fy : finite (numberAt b (at + 8)) ≡ true = right x y (left (x && y) z f) in
+    let fz : finite (numberAt b (at + 16)) ≡ true = right (x && y) z f in
+    let hx : at + 8 ≤ length b = omega arith in
+    let hy : at + 8 + 8 ≤ length b = omega arith in
+    let hz : at + 16 + 8 ≤ length b = omega arith in
+    rw
+    (number-kept b at bytes hx fx,
+    number-kept b (at + 8) bytes hy fy,
+    number-kept b (at + 16) bytes hz fz,
+    ← drop-drop 8 at b,
+    ← drop-drop 16 at b,
+    ← take-add 8 8 (drop at b),
+    ← take-add 16 8 (drop at b))
+
+series-kept : (b : List ℕ) (at : ℕ) → leVec3 (vec3At b at) ≡ take 24 (drop at b) → leVec3 (vec3At b (at + 24)) ≡ take 24 (drop (at + 24) b)
+    → leVec3 (vec3At b (at + 48)) ≡ take 24 (drop (at + 48) b) → leVec3 (vec3At b (at + 72)) ≡ take 24 (drop (at + 72) b)
+    → leSeries (vec3At b at) (vec3At b (at + 24)) (vec3At b (at + 48)) (vec3At b (at + 72)) ≡ take 96 (drop at b)
+unfolding leSeries
+series-kept b at x y z w =
+    rw
+    (x,
+    y,
+    z,
+    w,
+    ← drop-drop 24 at b,
+    ← drop-drop 48 at b,
+    ← drop-drop 72 at b,
+    ← take-add 24 24 (drop at b),
+    ← take-add 48 24 (drop at b),
+    ← take-add 72 24 (drop at b))
+
+zero-kept : (b : List ℕ) (at : ℕ) → Bytes b → at + 4 ≤ length b → eqb (word32 b at) 0 ≡ true → le32 0 ≡ take 4 (drop at b)
+zero-kept b at bytes h z = ap le32 (sym (eqb-true (word32 b at) 0 z)) ∙ le32-word32 b at bytes h
+
+cart-kept : (b : List ℕ) → Bytes b → length b ≡ 8 → eqb (word32 b 4) 0 ≡ true → cartBytes (cartOf b) ≡ b
+unfolding cartBytes cartOf
+cart-kept b bytes e z =
+    let h0 : 4 ≤ length b = omega arith in
+    let h4 : 8 ≤ length b = omega arith in
+    rw (le32-word32 b 0 bytes h0, zero-kept b 4 bytes h4 z, ← take-add 4 4 b) (take-all 8 b (omega arith))
+
+deformation-kept : (b : List ℕ) → Bytes b → length b ≡ 24 → oneNanAt b 8 && oneNanAt b 16 ≡ true → deformationBytes (deformationOf b) ≡ b
+unfolding deformationBytes deformationOf
+deformation-kept b bytes e n =
+    let h4 : 4 ≤ length b = omega arith in
+    let h8 : 8 ≤ length b = omega arith in
+    let h16 : 16 ≤ length b = omega arith in
+    let h24 : 24 ≤ length b = omega arith in
+    rw
+    (le32-word32 b 0 bytes h4,
+    le32-word32 b 4 bytes h8,
+    leNumber-numberAt b 8 bytes h16 (left (oneNanAt b 8) (oneNanAt b 16) n),
+    leNumber-numberAt b 16 bytes h24 (right (oneNanAt b 8) (oneNanAt b 16) n),
+    ← take-add 4 4 b,
+    ← take-add 8 8 b,
+    ← take-add 16 8 b)
+    (take-all 24 b (omega arith))
+
+permtide-kept : (b : List ℕ) → Bytes b → length b ≡ 24 → eqb (word32 b 12) 0 ≡ true → finite (numberAt b 16) ≡ true → permtideBytes (permtideOf b) ≡ b
+unfolding permtideBytes permtideOf
+permtide-kept b bytes e z f =
+    let h4 : 4 ≤ length b = omega arith in
+    let h8 : 8 ≤ length b = omega arith in
+    let h12 : 12 ≤ length b = omega arith in
+    let h16 : 16 ≤ length b = omega arith in
+    let h24 : 24 ≤ length b = omega arith in
+    rw
+    (le32-word32 b 0 bytes h4,
+    le32-word32 b 4 bytes h8,
+    le32-word32 b 8 bytes h12,
+    zero-kept b 12 bytes h16 z,
+    number-kept b 16 bytes h24 f,
+    ← take-add 4 4 b,
+    ← take-add 8 4 b,
+    ← take-add 12 4 b,
+    ← take-add 16 8 b)
+    (take-all 24 b (omega arith))
