@@ -5,7 +5,7 @@ use Prim.Native.Nat.{ℕ, _+_, _*_, _≤_, _<_}
 use mathlib.Core.Bool.{Bool, true, false, cond, _&&_}
 use mathlib.Core.List.{List, [], _∷_, _++_}
 use native.Mathlib.Omega.{arith}
-use lib.Dec.{T, eqb}
+use lib.Dec.{T, eqb, ltb}
 use lib.ListN.{length, take, drop}
 use lib.Seq.{take-add, take-all, drop-drop}
 use lib.Ieee.{Float, nan, inf, fin, isNan}
@@ -15,9 +15,10 @@ use Rattle.words.specs.Words.{Bytes, word32, word64, numberAt, oneNanAt, le32, 
 use Rattle.words.proofs.Laws.{word-back, number-back, number-in-rule, no-nan-in-rule, le32-word32, leNumber-numberAt}
 use Rattle.rotation.specs.declared.Vec3.{Vec3}
 use Rattle.helmert.specs.declared.Helmert.{Helmert as HelmertRecord}
-use Rattle.helmert.specs.Rules.{fieldsInRuleOf, vectorsFiniteOf, scalesFiniteOf, finite3Of}
+use Rattle.helmert.specs.Rules.{fieldsInRuleOf, vectorsFiniteOf, scalesFiniteOf, finite3Of, timeOf}
 use Rattle.cart.specs.declared.Cart.{Cart as CartRecord}
 use Rattle.molodensky.specs.declared.Molodensky.{Molodensky as MolodenskyRecord}
+use Rattle.molodensky.specs.Record.{finiteOf}
 use Rattle.permtide.specs.declared.Permtide.{Permtide as PermtideRecord}
 use Rattle.deformation.specs.declared.Deformation.{Deformation as DeformationRecord}
 use Rattle.bodies.specs.declared.Step.{Step}
@@ -148,6 +149,17 @@ right : (a b : Bool) → a && b ≡ true → b ≡ true
 right true b h = h
 right false b h = absurd (subst T (sym h) tt)
 
+all4 : (a b c d : Bool) → a && b && c && d ≡ true → (a ≡ true) × (b ≡ true) × (c ≡ true) × (d ≡ true)
+all4 a b c d h =
+    let abc = left (a && b && c) d h in
+    let ab = left (a && b) c abc in
+    (left a b ab, right a b ab, right (a && b) c abc, right (a && b && c) d h)
+
+all5 : (a b c d e : Bool) → a && b && c && d && e ≡ true → (a ≡ true) × (b ≡ true) × (c ≡ true) × (d ≡ true) × (e ≡ true)
+all5 a b c d e h =
+    let r = all4 (a && b) c d e h in
+    (left a b (r .0), right a b (r .0), r .1, r .2, r .3)
+
 finite-is-no-nan : (x : Float) → finite x ≡ true → isNan x ≡ false
 unfolding isNan
 finite-is-no-nan nan h = absurd (subst T (sym h) tt)
@@ -241,3 +253,153 @@ permtide-kept b bytes e z f =
     ← take-add 12 4 b,
     ← take-add 16 8 b)
     (take-all 24 b (omega arith))
+
+molodensky-kept : (b : List ℕ) → Bytes b → length b ≡ 56 → eqb (word32 b 12) 0 ≡ true → finiteOf (molodenskyOf b) ≡ true
+    → molodenskyBytes (molodenskyOf b) ≡ b
+unfolding molodenskyBytes molodenskyOf
+molodensky-kept b bytes e z f =
+    let h4 : 4 ≤ length b = omega arith in
+    let h8 : 8 ≤ length b = omega arith in
+    let h12 : 12 ≤ length b = omega arith in
+    let h16 : 16 ≤ length b = omega arith in
+    let h24 : 24 ≤ length b = omega arith in
+    let h32 : 32 ≤ length b = omega arith in
+    let h40 : 40 ≤ length b = omega arith in
+    let h48 : 48 ≤ length b = omega arith in
+    let h56 : 56 ≤ length b = omega arith in
+    let r =
+    all5
+    (finite (numberAt b 16))
+    (finite (numberAt b 24))
+    (finite (numberAt b 32))
+    (finite (numberAt b 40))
+    (finite (numberAt b 48))
+    f in
+    rw
+    (le32-word32 b 0 bytes h4,
+    le32-word32 b 4 bytes h8,
+    le32-word32 b 8 bytes h12,
+    zero-kept b 12 bytes h16 z,
+    number-kept b 16 bytes h24 (r .0),
+    number-kept b 24 bytes h32 (r .1),
+    number-kept b 32 bytes h40 (r .2),
+    number-kept b 40 bytes h48 (r .3),
+    number-kept b 48 bytes h56 (r .4),
+    ← take-add 4 4 b,
+    ← take-add 8 4 b,
+    ← take-add 12 4 b,
+    ← take-add 16 8 b,
+    ← take-add 24 8 b,
+    ← take-add 32 8 b,
+    ← take-add 40 8 b,
+    ← take-add 48 8 b)
+    (take-all 56 b (omega arith))
+
+-- the eight series of a Helmert body
+vectors-kept : (b : List ℕ) → Bytes b → length b ≡ 248 → vectorsFiniteOf (helmertOf b) ≡ true
+    → (leSeries (vec3At b 8) (vec3At b 32) (vec3At b 56) (vec3At b 80) ≡ take 96 (drop 8 b))
+    × (leSeries (vec3At b 104) (vec3At b 128) (vec3At b 152) (vec3At b 176) ≡ take 96 (drop 104 b))
+unfolding vectorsFiniteOf helmertOf
+vectors-kept b bytes e f =
+    let v : ℕ → Bool = λ at. finite3Of (vec3At b at) in
+    let r = all5 (v 8 && v 32 && v 56 && v 80) (v 104) (v 128) (v 152) (v 176) f in
+    let q = all4 (v 8) (v 32) (v 56) (v 80) (r .0) in
+    let h8 : 32 ≤ length b = omega arith in
+    let h32 : 56 ≤ length b = omega arith in
+    let h56 : 80 ≤ length b = omega arith in
+    let h80 : 104 ≤ length b = omega arith in
+    let h104 : 128 ≤ length b = omega arith in
+    let h128 : 152 ≤ length b = omega arith in
+    let h152 : 176 ≤ length b = omega arith in
+    let h176 : 200 ≤ length b = omega arith in
+    (series-kept b 8
+    (vec3-kept b 8 bytes h8 (q .0))
+    (vec3-kept b 32 bytes h32 (q .1))
+    (vec3-kept b 56 bytes h56 (q .2))
+    (vec3-kept b 80 bytes h80 (q .3)),
+    series-kept b 104
+    (vec3-kept b 104 bytes h104 (r .1))
+    (vec3-kept b 128 bytes h128 (r .2))
+    (vec3-kept b 152 bytes h152 (r .3))
+    (vec3-kept b 176 bytes h176 (r .4)))
+
+helmert-kept : (b : List ℕ) → Bytes b → length b ≡ 248 → oneNanAt b 232 && oneNanAt b 240 ≡ true → fieldsInRuleOf (helmertOf b) ≡ true
+    → helmertBytes (helmertOf b) ≡ b
+unfolding helmertBytes helmertOf fieldsInRuleOf scalesFiniteOf
+helmert-kept b bytes e n f =
+    let h4 : 4 ≤ length b = omega arith in
+    let h8 : 8 ≤ length b = omega arith in
+    let h208 : 208 ≤ length b = omega arith in
+    let h216 : 216 ≤ length b = omega arith in
+    let h224 : 224 ≤ length b = omega arith in
+    let h232 : 232 ≤ length b = omega arith in
+    let h240 : 240 ≤ length b = omega arith in
+    let h248 : 248 ≤ length b = omega arith in
+    let r =
+    all5
+    (ltb (word32 b 0) 16 && ltb (word32 b 4) 3)
+    (vectorsFiniteOf (helmertOf b))
+    (scalesFiniteOf (helmertOf b))
+    (timeOf (numberAt b 232))
+    (timeOf (numberAt b 240))
+    f in
+    let v = vectors-kept b bytes e (r .1) in
+    let q =
+    all4
+    (finite (numberAt b 200))
+    (finite (numberAt b 208))
+    (finite (numberAt b 216))
+    (finite (numberAt b 224))
+    (r .2) in
+    rw
+    (le32-word32 b 0 bytes h4,
+    le32-word32 b 4 bytes h8,
+    v .0,
+    v .1,
+    number-kept b 200 bytes h208 (q .0),
+    number-kept b 208 bytes h216 (q .1),
+    number-kept b 216 bytes h224 (q .2),
+    number-kept b 224 bytes h232 (q .3),
+    leNumber-numberAt b 232 bytes h240 (left (oneNanAt b 232) (oneNanAt b 240) n),
+    leNumber-numberAt b 240 bytes h248 (right (oneNanAt b 232) (oneNanAt b 240) n),
+    ← take-add 4 4 b,
+    ← take-add 8 96 b,
+    ← take-add 104 96 b,
+    ← take-add 200 8 b,
+    ← take-add 208 8 b,
+    ← take-add 216 8 b,
+    ← take-add 224 8 b,
+    ← take-add 232 8 b,
+    ← take-add 240 8 b)
+    (take-all 248 b (omega arith))
+
+-- ---- write after read
+
+-- a kind is one of the five, or none of them
+pub by-kind : (P : ℕ → Type 0) (k : ℕ) → P 1 → P 2 → P 3 → P 4 → P 5
+    → (eqb k 1 ≡ false → eqb k 2 ≡ false → eqb k 3 ≡ false → eqb k 4 ≡ false → eqb k 5 ≡ false → P k) → P k
+by-kind P k p1 p2 p3 p4 p5 other =
+    is 1 p1 (λ e1. is 2 p2 (λ e2. is 3 p3 (λ e3. is 4 p4 (λ e4. is 5 p5 (λ e5. other e1 e2 e3 e4 e5)))))
+    where
+    is : (n : ℕ) → P n → (eqb k n ≡ false → P k) → P k
+    is n p q = by (eqb k n) refl
+        where
+        by : (t : Bool) → eqb k n ≡ t → P k
+        by true e = subst P (sym (eqb-true k n e)) p
+        by false e = q e
+
+-- the parts of rule 5 on a body
+pub length-in-rule : (k : ℕ) (b : List ℕ) → bodyInRule k b ≡ true → length b ≡ lengthOf k
+unfolding bodyInRule
+length-in-rule k b h =
+    eqb-true (length b) (lengthOf k) (left (eqb (length b) (lengthOf k)) (writtenInRule k b) (left (eqb (length b) (lengthOf k) && writtenInRule k b) (stepInRule (stepOf k b)) h))
+
+pub body-written-in-rule : (k : ℕ) (b : List ℕ) → bodyInRule k b ≡ true → writtenInRule k b ≡ true
+unfolding bodyInRule
+body-written-in-rule k b h =
+    right (eqb (length b) (lengthOf k)) (writtenInRule k b) (left (eqb (length b) (lengthOf k) && writtenInRule k b) (stepInRule (stepOf k b)) h)
+
+-- the step of a body in rule is in rule
+pub step-of-body-in-rule : (k : ℕ) (b : List ℕ) → bodyInRule k b ≡ true → stepInRule (stepOf k b) ≡ true
+unfolding bodyInRule
+step-of-body-in-rule k b h = right (eqb (length b) (lengthOf k) && writtenInRule k b) (stepInRule (stepOf k b)) h
