@@ -2,7 +2,7 @@
 -- and "not given" among them. What was read is written: a body in rule comes back byte for byte. Assumes nothing.
 use mathlib.Core.Path.{_≡_, refl, sym, ap, _∙_, subst}
 use Prim.Native.Nat.{ℕ, _+_, _*_, _≤_, _<_}
-use mathlib.Core.Bool.{Bool, true, false, cond, _&&_}
+use mathlib.Core.Bool.{Bool, true, false, not, cond, _&&_}
 use mathlib.Core.List.{List, [], _∷_, _++_}
 use native.Mathlib.Omega.{arith}
 use lib.Dec.{T, eqb, ltb}
@@ -14,12 +14,14 @@ use borrow.Author.Tests.{eq-eqb, eqb-true}
 use Rattle.words.specs.Words.{Bytes, word32, word64, numberAt, oneNanAt, le32, le64, leNumber}
 use Rattle.words.proofs.Laws.{word-back, number-back, number-in-rule, no-nan-in-rule, le32-word32, leNumber-numberAt}
 use Rattle.rotation.specs.declared.Vec3.{Vec3}
+use Rattle.ellipsoid.specs.Figure.{existsOf}
 use Rattle.helmert.specs.declared.Helmert.{Helmert as HelmertRecord}
 use Rattle.helmert.specs.Rules.{fieldsInRuleOf, vectorsFiniteOf, scalesFiniteOf, finite3Of, timeOf}
 use Rattle.cart.specs.declared.Cart.{Cart as CartRecord}
 use Rattle.molodensky.specs.declared.Molodensky.{Molodensky as MolodenskyRecord}
-use Rattle.molodensky.specs.Record.{finiteOf}
+use Rattle.molodensky.specs.Record.{finiteOf, secondInRuleOf, figureInRuleOf, inRuleOf}
 use Rattle.permtide.specs.declared.Permtide.{Permtide as PermtideRecord}
+use Rattle.permtide.specs.Record.{coefficientOf, inRuleOf as permtideInRuleOf}
 use Rattle.deformation.specs.declared.Deformation.{Deformation as DeformationRecord}
 use Rattle.bodies.specs.declared.Step.{Step}
 use Rattle.bodies.specs.declared.Step.the-variants.{Cart, Permtide, Deformation, Molodensky, Helmert}
@@ -403,3 +405,106 @@ body-written-in-rule k b h =
 pub step-of-body-in-rule : (k : ℕ) (b : List ℕ) → bodyInRule k b ≡ true → stepInRule (stepOf k b) ≡ true
 unfolding bodyInRule
 step-of-body-in-rule k b h = right (eqb (length b) (lengthOf k) && writtenInRule k b) (stepInRule (stepOf k b)) h
+
+-- a body of its kind's length is read by its kind's table
+pub reads-helmert : (b : List ℕ) → length b ≡ 248 → stepOf 1 b ≡ Helmert (helmertOf b)
+unfolding stepOf lengthOf
+reads-helmert b e = rw (eq-eqb (length b) 248 e)
+
+pub reads-cart : (b : List ℕ) → length b ≡ 8 → stepOf 2 b ≡ Cart (cartOf b)
+unfolding stepOf lengthOf
+reads-cart b e = rw (eq-eqb (length b) 8 e)
+
+pub reads-molodensky : (b : List ℕ) → length b ≡ 56 → stepOf 3 b ≡ Molodensky (molodenskyOf b)
+unfolding stepOf lengthOf
+reads-molodensky b e = rw (eq-eqb (length b) 56 e)
+
+pub reads-permtide : (b : List ℕ) → length b ≡ 24 → stepOf 4 b ≡ Permtide (permtideOf b)
+unfolding stepOf lengthOf
+reads-permtide b e = rw (eq-eqb (length b) 24 e)
+
+pub reads-deformation : (b : List ℕ) → length b ≡ 24 → stepOf 5 b ≡ Deformation (deformationOf b)
+unfolding stepOf lengthOf
+reads-deformation b e = rw (eq-eqb (length b) 24 e)
+
+-- a body of no kind is not in rule
+pub no-kind-in-rule : (k : ℕ) (b : List ℕ) → eqb k 1 ≡ false → eqb k 2 ≡ false → eqb k 3 ≡ false → eqb k 4 ≡ false → eqb k 5 ≡ false
+    → writtenInRule k b ≡ false
+unfolding writtenInRule
+no-kind-in-rule k b e1 e2 e3 e4 e5 = rw (e1, e2, e3, e4, e5)
+
+none : (k : ℕ) (b : List ℕ) → bodyInRule k b ≡ true → eqb k 1 ≡ false → eqb k 2 ≡ false → eqb k 3 ≡ false → eqb k 4 ≡ false → eqb k 5 ≡ false → ⊥
+none k b h e1 e2 e3 e4 e5 = subst T (sym (body-written-in-rule k b h) ∙ no-kind-in-rule k b e1 e2 e3 e4 e5) tt
+
+-- a body in rule is read as a step of its kind
+pub kind-after-read : (k : ℕ) (b : List ℕ) → bodyInRule k b ≡ true → kindOf (stepOf k b) ≡ k
+unfolding kindOf lengthOf
+kind-after-read k b =
+    by-kind
+    (λ (n : ℕ). bodyInRule n b ≡ true → kindOf (stepOf n b) ≡ n)
+    k
+    (λ h. rw (reads-helmert b (length-in-rule 1 b h)))
+    (λ h. rw (reads-cart b (length-in-rule 2 b h)))
+    (λ h. rw (reads-molodensky b (length-in-rule 3 b h)))
+    (λ h. rw (reads-permtide b (length-in-rule 4 b h)))
+    (λ h. rw (reads-deformation b (length-in-rule 5 b h)))
+    (λ e1 e2 e3 e4 e5 h. absurd (none k b h e1 e2 e3 e4 e5))
+
+second-of : (a b c : Bool) → cond a (cond b c false) false ≡ true → b ≡ true
+second-of true true c h = refl
+second-of true false c h = h
+second-of false b c h = absurd (subst T (sym h) tt)
+
+module _ (b : List ℕ) (bytes : Bytes b) where
+  helmert-again : bodyInRule 1 b ≡ true → bytesOf (stepOf 1 b) ≡ b
+  unfolding bytesOf stepInRule writtenInRule lengthOf
+  helmert-again h =
+      let e : length b ≡ 248 = length-in-rule 1 b h in
+      let s = reads-helmert b e in
+      ap bytesOf s ∙ helmert-kept b bytes e (body-written-in-rule 1 b h) (ap stepInRule (sym s) ∙ step-of-body-in-rule 1 b h)
+
+  cart-again : bodyInRule 2 b ≡ true → bytesOf (stepOf 2 b) ≡ b
+  unfolding bytesOf writtenInRule lengthOf
+  cart-again h =
+      let e : length b ≡ 8 = length-in-rule 2 b h in
+      ap bytesOf (reads-cart b e) ∙ cart-kept b bytes e (body-written-in-rule 2 b h)
+
+  molodensky-again : bodyInRule 3 b ≡ true → bytesOf (stepOf 3 b) ≡ b
+  unfolding bytesOf stepInRule writtenInRule lengthOf
+  molodensky-again h =
+      let e : length b ≡ 56 = length-in-rule 3 b h in
+      let s = reads-molodensky b e in
+      let r = molodenskyOf b in
+      let f : inRuleOf (molodenskyOf b) ≡ true = ap stepInRule (sym s) ∙ step-of-body-in-rule 3 b h in
+      let g = all5 (ltb (r .flags) 4) (existsOf (r .first)) (secondInRuleOf r) (finiteOf r) (figureInRuleOf r) f in
+      ap bytesOf s ∙ molodensky-kept b bytes e (body-written-in-rule 3 b h) (g .3)
+
+  permtide-again : bodyInRule 4 b ≡ true → bytesOf (stepOf 4 b) ≡ b
+  unfolding bytesOf stepInRule writtenInRule lengthOf permtideOf
+  permtide-again h =
+      let e : length b ≡ 24 = length-in-rule 4 b h in
+      let s = reads-permtide b e in
+      let f : permtideInRuleOf (permtideOf b) ≡ true = ap stepInRule (sym s) ∙ step-of-body-in-rule 4 b h in
+      let r = permtideOf b in
+      ap bytesOf s
+      ∙ permtide-kept b bytes e (body-written-in-rule 4 b h)
+      (second-of (existsOf (r .ellipsoid)) (finite (r .k)) (not (isNan (coefficientOf (r .to) (r .from) (r .k)))) f)
+
+  deformation-again : bodyInRule 5 b ≡ true → bytesOf (stepOf 5 b) ≡ b
+  unfolding bytesOf writtenInRule lengthOf
+  deformation-again h =
+      let e : length b ≡ 24 = length-in-rule 5 b h in
+      ap bytesOf (reads-deformation b e) ∙ deformation-kept b bytes e (body-written-in-rule 5 b h)
+
+-- a body in rule, read by its kind and written, is the same bytes
+pub write-after-read : (k : ℕ) (b : List ℕ) → Bytes b → bodyInRule k b ≡ true → bytesOf (stepOf k b) ≡ b
+write-after-read k b bytes =
+    by-kind
+    (λ (n : ℕ). bodyInRule n b ≡ true → bytesOf (stepOf n b) ≡ b)
+    k
+    (helmert-again b bytes)
+    (cart-again b bytes)
+    (molodensky-again b bytes)
+    (permtide-again b bytes)
+    (deformation-again b bytes)
+    (λ e1 e2 e3 e4 e5 h. absurd (none k b h e1 e2 e3 e4 e5))
