@@ -183,31 +183,33 @@ vec3-kept b at bytes h f =
     let hx : at + 8 ≤ length b = omega arith in
     let hy : at + 8 + 8 ≤ length b = omega arith in
     let hz : at + 16 + 8 ≤ length b = omega arith in
-    rw
-    (number-kept b at bytes hx fx,
-    number-kept b (at + 8) bytes hy fy,
-    number-kept b (at + 16) bytes hz fz,
-    ← drop-drop 8 at b,
-    ← drop-drop 16 at b,
-    ← take-add 8 8 (drop at b),
-    ← take-add 16 8 (drop at b))
+    rw (
+      number-kept b at bytes hx fx,
+      number-kept b (at + 8) bytes hy fy,
+      number-kept b (at + 16) bytes hz fz,
+      ← drop-drop 8 at b,
+      ← drop-drop 16 at b,
+      ← take-add 8 8 (drop at b),
+      ← take-add 16 8 (drop at b),
+    )
 
 series-kept : (b : List ℕ) (at : ℕ) → leVec3 (vec3At b at) ≡ take 24 (drop at b) → leVec3 (vec3At b (at + 24)) ≡ take 24 (drop (at + 24) b)
     → leVec3 (vec3At b (at + 48)) ≡ take 24 (drop (at + 48) b) → leVec3 (vec3At b (at + 72)) ≡ take 24 (drop (at + 72) b)
     → leSeries (vec3At b at) (vec3At b (at + 24)) (vec3At b (at + 48)) (vec3At b (at + 72)) ≡ take 96 (drop at b)
 unfolding leSeries
 series-kept b at x y z w =
-    rw
-    (x,
-    y,
-    z,
-    w,
-    ← drop-drop 24 at b,
-    ← drop-drop 48 at b,
-    ← drop-drop 72 at b,
-    ← take-add 24 24 (drop at b),
-    ← take-add 48 24 (drop at b),
-    ← take-add 72 24 (drop at b))
+    rw (
+      x,
+      y,
+      z,
+      w,
+      ← drop-drop 24 at b,
+      ← drop-drop 48 at b,
+      ← drop-drop 72 at b,
+      ← take-add 24 24 (drop at b),
+      ← take-add 48 24 (drop at b),
+      ← take-add 72 24 (drop at b),
+    )
 
 zero-kept : (b : List ℕ) (at : ℕ) → Bytes b → at + 4 ≤ length b → eqb (word32 b at) 0 ≡ true → le32 0 ≡ take 4 (drop at b)
 zero-kept b at bytes h z = ap le32 (sym (eqb-true (word32 b at) 0 z)) ∙ le32-word32 b at bytes h
@@ -226,14 +228,15 @@ deformation-kept b bytes e n =
     let h8 : 8 ≤ length b = omega arith in
     let h16 : 16 ≤ length b = omega arith in
     let h24 : 24 ≤ length b = omega arith in
-    rw
-    (le32-word32 b 0 bytes h4,
-    le32-word32 b 4 bytes h8,
-    leNumber-numberAt b 8 bytes h16 (left (oneNanAt b 8) (oneNanAt b 16) n),
-    leNumber-numberAt b 16 bytes h24 (right (oneNanAt b 8) (oneNanAt b 16) n),
-    ← take-add 4 4 b,
-    ← take-add 8 8 b,
-    ← take-add 16 8 b)
+    rw (
+      le32-word32 b 0 bytes h4,
+      le32-word32 b 4 bytes h8,
+      leNumber-numberAt b 8 bytes h16 (left (oneNanAt b 8) (oneNanAt b 16) n),
+      leNumber-numberAt b 16 bytes h24 (right (oneNanAt b 8) (oneNanAt b 16) n),
+      ← take-add 4 4 b,
+      ← take-add 8 8 b,
+      ← take-add 16 8 b,
+    )
     (take-all 24 b (omega arith))
 
 permtide-kept : (b : List ℕ) → Bytes b → length b ≡ 24 → eqb (word32 b 12) 0 ≡ true → finite (numberAt b 16) ≡ true → permtideBytes (permtideOf b) ≡ b
@@ -244,16 +247,17 @@ permtide-kept b bytes e z f =
     let h12 : 12 ≤ length b = omega arith in
     let h16 : 16 ≤ length b = omega arith in
     let h24 : 24 ≤ length b = omega arith in
-    rw
-    (le32-word32 b 0 bytes h4,
-    le32-word32 b 4 bytes h8,
-    le32-word32 b 8 bytes h12,
-    zero-kept b 12 bytes h16 z,
-    number-kept b 16 bytes h24 f,
-    ← take-add 4 4 b,
-    ← take-add 8 4 b,
-    ← take-add 12 4 b,
-    ← take-add 16 8 b)
+    rw (
+      le32-word32 b 0 bytes h4,
+      le32-word32 b 4 bytes h8,
+      le32-word32 b 8 bytes h12,
+      zero-kept b 12 bytes h16 z,
+      number-kept b 16 bytes h24 f,
+      ← take-add 4 4 b,
+      ← take-add 8 4 b,
+      ← take-add 12 4 b,
+      ← take-add 16 8 b,
+    )
     (take-all 24 b (omega arith))
 
 molodensky-kept : (b : List ℕ) → Bytes b → length b ≡ 56 → eqb (word32 b 12) 0 ≡ true → finiteOf (molodenskyOf b) ≡ true
@@ -277,24 +281,25 @@ molodensky-kept b bytes e z f =
     (finite (numberAt b 40))
     (finite (numberAt b 48))
     f in
-    rw
-    (le32-word32 b 0 bytes h4,
-    le32-word32 b 4 bytes h8,
-    le32-word32 b 8 bytes h12,
-    zero-kept b 12 bytes h16 z,
-    number-kept b 16 bytes h24 (r .0),
-    number-kept b 24 bytes h32 (r .1),
-    number-kept b 32 bytes h40 (r .2),
-    number-kept b 40 bytes h48 (r .3),
-    number-kept b 48 bytes h56 (r .4),
-    ← take-add 4 4 b,
-    ← take-add 8 4 b,
-    ← take-add 12 4 b,
-    ← take-add 16 8 b,
-    ← take-add 24 8 b,
-    ← take-add 32 8 b,
-    ← take-add 40 8 b,
-    ← take-add 48 8 b)
+    rw (
+      le32-word32 b 0 bytes h4,
+      le32-word32 b 4 bytes h8,
+      le32-word32 b 8 bytes h12,
+      zero-kept b 12 bytes h16 z,
+      number-kept b 16 bytes h24 (r .0),
+      number-kept b 24 bytes h32 (r .1),
+      number-kept b 32 bytes h40 (r .2),
+      number-kept b 40 bytes h48 (r .3),
+      number-kept b 48 bytes h56 (r .4),
+      ← take-add 4 4 b,
+      ← take-add 8 4 b,
+      ← take-add 12 4 b,
+      ← take-add 16 8 b,
+      ← take-add 24 8 b,
+      ← take-add 32 8 b,
+      ← take-add 40 8 b,
+      ← take-add 48 8 b,
+    )
     (take-all 56 b (omega arith))
 
 -- the eight series of a Helmert body
@@ -313,17 +318,18 @@ vectors-kept b bytes e f =
     let h104 : 128 ≤ length b = omega arith in
     let h128 : 152 ≤ length b = omega arith in
     let h152 : 176 ≤ length b = omega arith in
-    let h176 : 200 ≤ length b = omega arith in
-    (series-kept b 8
-    (vec3-kept b 8 bytes h8 (q .0))
-    (vec3-kept b 32 bytes h32 (q .1))
-    (vec3-kept b 56 bytes h56 (q .2))
-    (vec3-kept b 80 bytes h80 (q .3)),
-    series-kept b 104
-    (vec3-kept b 104 bytes h104 (r .1))
-    (vec3-kept b 128 bytes h128 (r .2))
-    (vec3-kept b 152 bytes h152 (r .3))
-    (vec3-kept b 176 bytes h176 (r .4)))
+    let h176 : 200 ≤ length b = omega arith in (
+      series-kept b 8
+          (vec3-kept b 8 bytes h8 (q .0))
+          (vec3-kept b 32 bytes h32 (q .1))
+          (vec3-kept b 56 bytes h56 (q .2))
+          (vec3-kept b 80 bytes h80 (q .3)),
+      series-kept b 104
+          (vec3-kept b 104 bytes h104 (r .1))
+          (vec3-kept b 128 bytes h128 (r .2))
+          (vec3-kept b 152 bytes h152 (r .3))
+          (vec3-kept b 176 bytes h176 (r .4)),
+    )
 
 helmert-kept : (b : List ℕ) → Bytes b → length b ≡ 248 → oneNanAt b 232 && oneNanAt b 240 ≡ true → fieldsInRuleOf (helmertOf b) ≡ true
     → helmertBytes (helmertOf b) ≡ b
@@ -353,26 +359,27 @@ helmert-kept b bytes e n f =
     (finite (numberAt b 216))
     (finite (numberAt b 224))
     (r .2) in
-    rw
-    (le32-word32 b 0 bytes h4,
-    le32-word32 b 4 bytes h8,
-    v .0,
-    v .1,
-    number-kept b 200 bytes h208 (q .0),
-    number-kept b 208 bytes h216 (q .1),
-    number-kept b 216 bytes h224 (q .2),
-    number-kept b 224 bytes h232 (q .3),
-    leNumber-numberAt b 232 bytes h240 (left (oneNanAt b 232) (oneNanAt b 240) n),
-    leNumber-numberAt b 240 bytes h248 (right (oneNanAt b 232) (oneNanAt b 240) n),
-    ← take-add 4 4 b,
-    ← take-add 8 96 b,
-    ← take-add 104 96 b,
-    ← take-add 200 8 b,
-    ← take-add 208 8 b,
-    ← take-add 216 8 b,
-    ← take-add 224 8 b,
-    ← take-add 232 8 b,
-    ← take-add 240 8 b)
+    rw (
+      le32-word32 b 0 bytes h4,
+      le32-word32 b 4 bytes h8,
+      v .0,
+      v .1,
+      number-kept b 200 bytes h208 (q .0),
+      number-kept b 208 bytes h216 (q .1),
+      number-kept b 216 bytes h224 (q .2),
+      number-kept b 224 bytes h232 (q .3),
+      leNumber-numberAt b 232 bytes h240 (left (oneNanAt b 232) (oneNanAt b 240) n),
+      leNumber-numberAt b 240 bytes h248 (right (oneNanAt b 232) (oneNanAt b 240) n),
+      ← take-add 4 4 b,
+      ← take-add 8 96 b,
+      ← take-add 104 96 b,
+      ← take-add 200 8 b,
+      ← take-add 208 8 b,
+      ← take-add 216 8 b,
+      ← take-add 224 8 b,
+      ← take-add 232 8 b,
+      ← take-add 240 8 b,
+    )
     (take-all 248 b (omega arith))
 
 -- ---- write after read
@@ -382,10 +389,10 @@ pub by-kind : (P : ℕ → Type 0) (k : ℕ) → P 1 → P 2 → P 3 → P 4 →
     → (eqb k 1 ≡ false → eqb k 2 ≡ false → eqb k 3 ≡ false → eqb k 4 ≡ false → eqb k 5 ≡ false → P k) → P k
 by-kind P k p1 p2 p3 p4 p5 other =
     is 1 p1 (λ e1. is 2 p2 (λ e2. is 3 p3 (λ e3. is 4 p4 (λ e4. is 5 p5 (λ e5. other e1 e2 e3 e4 e5)))))
-    where
+  where
     is : (n : ℕ) → P n → (eqb k n ≡ false → P k) → P k
     is n p q = by (eqb k n) refl
-        where
+      where
         by : (t : Bool) → eqb k n ≡ t → P k
         by true e = subst P (sym (eqb-true k n e)) p
         by false e = q e

@@ -3,3 +3,4 @@ pub mod Same
 pub mod Lengths
 pub mod Runs
 pub mod Laws
+pub mod Examples
