@@ -1,0 +1,343 @@
+// The sheet: the bytes by which two boxes hand each other their parameters, read where they lie and written into lent room.
+//
+// The layout and the rules are document 01's, "The sheet" and "Numbers of refusal". Every refusal is one named definition under its number in specs/Rules.antt,
+// and the order in which they are asked stands there once. Every function answers for every input exactly as its definition says (proved). Proved besides, over
+// whole sheets of any kinds: what is read and written again is the same bytes, what is written and read is the same record, and no two sheets read alike.
+// `check` and `entry_at` leave the sheet where it lies and decode one body at a time: whoever runs a sheet uses these. `read` and `write` are for whoever
+// makes, keeps or hands on a record; it is 4 kB, so pass it on once.
+ghost use mathlib.Core.Path.{_≡_};
+ghost use mathlib.Core.Bool.{not};
+ghost use Prim.Native.Nat.{_+_, _*_, _<_, _≤_};
+ghost use lib.ListN.{length, take, drop};
+ghost use Rattle.words.specs.Words.{word32, put};
+ghost use Rattle.bodies.specs.Kinds.{lengthOf, kindOf};
+ghost use Rattle.sheet.specs.Layout.{stepCountOf, kindAt, bodyAt, stepAt, blankEntry, blankSheet, entryAt, recordOf};
+ghost use Rattle.sheet.specs.Bytes.{entryOf, bodyStart, sheetLength, headerBytes, placeBytes, directoryBytes, bodiesBytes};
+ghost use Rattle.sheet.specs.Rules.{refusal1, refusal3, refusal4, refusal5, recordRefusal4, recordRefusal5, endBefore, placeBroken, ofSheet, ofStep, rulesOfStep, fiveToEight, elevens, accepted, firstBroken, refusalOf, readingOf, writerRefusalOf, writtenOf};
+use bodies::Step;
+
+// ----- records ---------------------------------------------------------------------------
+
+// A step and whether it is turned round: 0 or 1.
+pub struct Entry {
+    pub inverted: u32,
+    pub step: Step,
+}
+
+// The entries past the count read as blank cart steps and are never compared.
+pub struct Sheet {
+    pub count: u32,
+    pub entries: [Entry; 16],
+}
+
+// A refusal's number and its step, from 1; step 0 is the sheet as a whole, and number 0 is no refusal.
+pub struct Refusal {
+    pub number: u32,
+    pub step: u32,
+}
+
+pub struct Reading {
+    pub refusal: Refusal,
+    pub sheet: Sheet,
+}
+
+impl Entry {
+    // A blank cart step, forward.
+    pub fn blank() -> Self
+        ensures { λ r. ⌜ r ≡ blankEntry ⌝ }
+    {
+        let step = bodies::blank_step();
+        Entry {
+            inverted: 0,
+            step: step,
+        }
+    }
+}
+
+impl Sheet {
+    // No step: refused by 3 until it has one.
+    pub fn blank() -> Self
+        ensures { λ r. ⌜ r ≡ blankSheet ⌝ }
+    {
+        let blank = Entry::blank();
+        let entries = [blank; 16];
+        Sheet {
+            count: 0,
+            entries: entries,
+        }
+    }
+}
+
+impl Refusal {
+    // No refusal.
+    pub fn none() -> Self
+        ensures { λ r. ⌜ r ≡ accepted ⌝ }
+    {
+        Refusal { number: 0, step: 0 }
+    }
+
+    // Of the sheet as a whole.
+    fn of_sheet(number: u32) -> Self
+        ensures { λ r. ⌜ r ≡ ofSheet number ⌝ }
+    {
+        Refusal {
+            number: number,
+            step: 0,
+        }
+    }
+
+    // Of the step at index i.
+    fn of_step(number: u32, i: usize) -> Self
+        requires { ⌜ i < 16 ⌝ }
+        ensures { λ r. ⌜ r ≡ ofStep number i ⌝ }
+    {
+        Refusal {
+            number: number,
+            step: (i + 1) as u32,
+        }
+    }
+}
+
+// ----- where a sheet has what --------------------------------------------------------------
+
+fn wide(x: u32) -> usize
+    ensures { λ r. ⌜ (r ≡ x) × (r < 4294967296) ⌝ }
+{
+    x as usize
+}
+
+// How many steps the header counts.
+pub fn step_count(s: &[u8]) -> usize
+    ensures { λ r. ⌜ (r ≡ stepCountOf (now (s .entry))) × (r < 4294967296) ⌝ }
+{
+    wide(words::read32(s, 8))
+}
+
+// The part of a sheet that starts at `offset` and is `length` long, as far as the sheet has it.
+fn part(s: &[u8], offset: usize, length: usize) -> &[u8]
+    ensures { λ r. ⌜ now r ≡ take length (drop offset (now (s .entry))) ⌝ }
+{
+    if s.len() <= offset {
+        return &s[0..0];
+    }
+    if s.len() - offset <= length {
+        return &s[offset..];
+    }
+    let end = offset + length;
+    &s[offset..end]
+}
+
+// The body of the step at index i, where its directory says.
+fn body_at(s: &[u8], i: usize) -> &[u8]
+    requires { ⌜ i < 4294967296 ⌝ }
+    ensures { λ r. ⌜ now r ≡ bodyAt (now (s .entry)) i ⌝ }
+{
+    let place = 16 + 16 * i;
+    let offset = wide(words::read32(s, place + 8));
+    let length = wide(words::read32(s, place + 12));
+    part(s, offset, length)
+}
+
+// The step at index i, decoded from its body where it lies; past the step count a blank cart step.
+pub fn entry_at(s: &[u8], i: usize) -> Entry
+    ensures { λ r. ⌜ r ≡ entryAt (now (s .entry)) i ⌝ }
+{
+    if i < step_count(s) {
+        let place = 16 + 16 * i;
+        let kind = words::read32(s, place);
+        let step = bodies::read_body(kind, body_at(s, i));
+        return Entry {
+            inverted: words::read32(s, place + 4),
+            step: step,
+        };
+    }
+    Entry::blank()
+}
+
+// ----- the rules of a sheet ------------------------------------------------------------------
+
+// Rule 1: the length.
+fn length_broken(s: &[u8]) -> bool
+    ensures { λ r. ⌜ r ≡ refusal1 (now (s .entry)) ⌝ }
+{
+    (s.len() < 16) | (4240 < s.len()) | (wide(words::read32(s, 4)) != s.len())
+}
+
+// Rule 3: the step count.
+fn count_broken(n: usize) -> bool
+    ensures { λ r. ⌜ r ≡ refusal3 n ⌝ }
+{
+    (n == 0) | (16 < n)
+}
+
+// A place of the directory, the body before it ending at `end`.
+fn place_broken(s: &[u8], i: usize, end: usize) -> bool
+    requires { ⌜ (i < 16) × (end ≡ endBefore (now s) i) ⌝ }
+    ensures { λ r. ⌜ r ≡ placeBroken (now (s .entry)) i ⌝ }
+{
+    let place = 16 + 16 * i;
+    let length = bodies::length_of(words::read32(s, place));
+    (length == 0)
+        | (1 < words::read32(s, place + 4))
+        | (words::read32(s, place + 12) != length)
+        | (wide(words::read32(s, place + 8)) != end)
+}
+
+// Where the body of the step at index i ends.
+fn end_at(s: &[u8], i: usize) -> usize
+    requires { ⌜ i < 16 ⌝ }
+    ensures { λ r. ⌜ r ≡ endBefore (now (s .entry)) (i + 1) ⌝ }
+{
+    let place = 16 + 16 * i;
+    wide(words::read32(s, place + 8)) + wide(words::read32(s, place + 12))
+}
+
+// Rule 4: the directory.
+fn directory_broken(s: &[u8], n: usize) -> bool
+    requires { ⌜ (n ≤ 16) × (n ≡ stepCountOf (now s)) ⌝ }
+    ensures { λ r. ⌜ r ≡ refusal4 (now (s .entry)) ⌝ }
+{
+    if words::read32(s, 12) != 16 {
+        return true;
+    }
+    if s.len() < 16 + 16 * n {
+        return true;
+    }
+    let mut end = 16 + 16 * n;
+    let mut i = 0;
+    while i < n {
+        if place_broken(s, i, end) {
+            return true;
+        }
+        end = end_at(s, i);
+        i += 1;
+    }
+    end != wide(words::read32(s, 4))
+}
+
+// Rules 5 to 8 of one step, `five` being whether it breaks 5.
+fn check_step(i: usize, five: bool, step: Step) -> Refusal
+    requires { ⌜ i < 16 ⌝ }
+    ensures { λ r. ⌜ r ≡ firstBroken (rulesOfStep i five step) ⌝ }
+{
+    if five {
+        return Refusal::of_step(5, i);
+    }
+    if bodies::lacks_convention(step) {
+        return Refusal::of_step(6, i);
+    }
+    if bodies::lacks_epoch(step) {
+        return Refusal::of_step(7, i);
+    }
+    if bodies::lacks_duration(step) {
+        return Refusal::of_step(8, i);
+    }
+    Refusal::none()
+}
+
+// Rules 5 to 8 of the step at index i of a sheet.
+fn check_body(s: &[u8], i: usize) -> Refusal
+    requires { ⌜ i < 16 ⌝ }
+    ensures { λ r. ⌜ r ≡ firstBroken (rulesOfStep i (refusal5 (kindAt (now (s .entry)) i) (bodyAt (now (s .entry)) i)) (stepAt (now (s .entry)) i)) ⌝ }
+{
+    let kind = words::read32(s, 16 + 16 * i);
+    let body = body_at(s, i);
+    check_step(i, !bodies::body_in_rule(kind, body), bodies::read_body(kind, body))
+}
+
+// Step by step 5 to 8.
+fn check_bodies(s: &[u8], n: usize) -> Refusal
+    requires { ⌜ n ≤ 16 ⌝ }
+    ensures { λ r. ⌜ r ≡ firstBroken (fiveToEight (λ i. refusal5 (kindAt (now (s .entry)) i) (bodyAt (now (s .entry)) i)) (stepAt (now (s .entry))) n 0) ⌝ }
+{
+    let mut i = 0;
+    while i < n {
+        let refusal = check_body(s, i);
+        if refusal.number != 0 {
+            return refusal;
+        }
+        i += 1;
+    }
+    Refusal::none()
+}
+
+// Rule 11: a second deformation step.
+fn check_kinds(s: &[u8], n: usize) -> Refusal
+    requires { ⌜ n ≤ 16 ⌝ }
+    ensures { λ r. ⌜ r ≡ firstBroken (elevens (kindAt (now (s .entry))) n 0) ⌝ }
+{
+    let mut before = false;
+    let mut i = 0;
+    while i < n {
+        let deformation = words::read32(s, 16 + 16 * i) == 5;
+        if deformation & before {
+            return Refusal::of_step(11, i);
+        }
+        before = before | deformation;
+        i += 1;
+    }
+    Refusal::none()
+}
+
+// The first rule that a sheet breaks, in the document's order.
+pub fn check(s: &[u8]) -> Refusal
+    ensures { λ r. ⌜ r ≡ refusalOf (now (s .entry)) ⌝ }
+{
+    if length_broken(s) {
+        return Refusal::of_sheet(1);
+    }
+    if words::read32(s, 0) != 1 {
+        return Refusal::of_sheet(2);
+    }
+    let n = step_count(s);
+    if count_broken(n) {
+        return Refusal::of_sheet(3);
+    }
+    if directory_broken(s, n) {
+        return Refusal::of_sheet(4);
+    }
+    let refusal = check_bodies(s, n);
+    if refusal.number != 0 {
+        return refusal;
+    }
+    check_kinds(s, n)
+}
+
+// ----- the reader ------------------------------------------------------------------------------
+
+fn record(s: &[u8], n: usize) -> Sheet
+    requires { ⌜ (n ≤ 16) × (n ≡ stepCountOf (now s)) ⌝ }
+    ensures { λ r. ⌜ r ≡ recordOf (now (s .entry)) ⌝ }
+{
+    let blank = Entry::blank();
+    let mut entries = [blank; 16];
+    let mut i = 0;
+    while i < n {
+        let entry = entry_at(s, i);
+        entries[i] = entry;
+        i += 1;
+    }
+    Sheet {
+        count: words::read32(s, 8),
+        entries: entries,
+    }
+}
+
+// The record, or the refusal with a blank sheet.
+pub fn read(s: &[u8]) -> Reading
+    ensures { λ r. ⌜ r ≡ readingOf (now (s .entry)) ⌝ }
+{
+    let refusal = check(s);
+    if refusal.number == 0 {
+        let sheet = record(s, step_count(s));
+        return Reading {
+            refusal: refusal,
+            sheet: sheet,
+        };
+    }
+    let sheet = Sheet::blank();
+    Reading {
+        refusal: refusal,
+        sheet: sheet,
+    }
+}
