@@ -3,6 +3,7 @@ use Prim.Native.Nat.{ℕ, zero, suc, _+_}
 use mathlib.Core.List.{List, [], _++_}
 use lib.ListN.{getD}
 use Rattle.words.specs.Words.{le32}
+use Rattle.bodies.specs.declared.Step.{Step}
 use Rattle.bodies.specs.Kinds.{lengthOf, kindOf}
 use Rattle.bodies.specs.Write.{bytesOf}
 use Rattle.sheet.specs.declared.Entry.{Entry}
@@ -13,14 +14,20 @@ use Rattle.sheet.specs.Layout.{blankEntry, directoryEnd}
 abbrev pub entryOf : Sheet → ℕ → Entry
 entryOf sheet i = getD (sheet .entries) i blankEntry
 
+abbrev pub stepIn : Sheet → ℕ → Step
+stepIn sheet i = entryOf sheet i .step
+
+abbrev pub kindIn : Sheet → ℕ → ℕ
+kindIn sheet i = kindOf (stepIn sheet i)
+
 -- the length of step i's body
-abbrev pub lengthOfStep : Sheet → ℕ → ℕ
-lengthOfStep sheet i = lengthOf (kindOf (entryOf sheet i .step))
+abbrev pub lengthIn : Sheet → ℕ → ℕ
+lengthIn sheet i = lengthOf (kindIn sheet i)
 
 -- where step i's body starts: the first where the directory ends, each other where the body before it ends
 unfoldable pub bodyStart : Sheet → ℕ → ℕ
 bodyStart sheet zero = directoryEnd (sheet .count)
-bodyStart sheet (suc i) = bodyStart sheet i + lengthOfStep sheet i
+bodyStart sheet (suc i) = bodyStart sheet i + lengthIn sheet i
 
 -- where the last body ends
 abbrev pub sheetLength : Sheet → ℕ
@@ -33,10 +40,10 @@ headerBytes sheet = le32 1 ++ le32 (sheetLength sheet) ++ le32 (sheet .count) ++
 -- kind; inverted; body offset; body length
 unfoldable pub placeBytes : Sheet → ℕ → List ℕ
 placeBytes sheet i =
-    le32 (kindOf (entryOf sheet i .step))
+    le32 (kindIn sheet i)
     ++ le32 (entryOf sheet i .inverted)
     ++ le32 (bodyStart sheet i)
-    ++ le32 (lengthOfStep sheet i)
+    ++ le32 (lengthIn sheet i)
 
 -- the directory's first n places
 unfoldable pub directoryBytes : Sheet → ℕ → List ℕ
@@ -46,7 +53,7 @@ directoryBytes sheet (suc n) = directoryBytes sheet n ++ placeBytes sheet n
 -- the first n bodies
 unfoldable pub bodiesBytes : Sheet → ℕ → List ℕ
 bodiesBytes sheet zero = []
-bodiesBytes sheet (suc n) = bodiesBytes sheet n ++ bytesOf (entryOf sheet n .step)
+bodiesBytes sheet (suc n) = bodiesBytes sheet n ++ bytesOf (stepIn sheet n)
 
 -- the sheet's bytes
 unfoldable pub sheetBytesOf : Sheet → List ℕ

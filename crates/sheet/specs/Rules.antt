@@ -7,14 +7,13 @@ use lib.Dec.{eqb, ltb}
 use lib.ListN.{length}
 use Rattle.words.specs.Words.{put}
 use Rattle.bodies.specs.declared.Step.{Step}
-use Rattle.bodies.specs.Kinds.{lengthOf, kindOf}
+use Rattle.bodies.specs.Kinds.{lengthOf}
 use Rattle.bodies.specs.Rules.{bodyInRule, stepInRule, lacksConvention, lacksEpoch, lacksDuration}
 use Rattle.sheet.specs.declared.Refusal.{Refusal}
 use Rattle.sheet.specs.declared.Reading.{Reading}
-use Rattle.sheet.specs.declared.Entry.{Entry}
 use Rattle.sheet.specs.declared.Sheet.{Sheet}
 use Rattle.sheet.specs.Layout.{formOf, totalLengthOf, stepCountOf, directoryOffsetOf, kindAt, invertedAt, offsetAt, lengthAt, directoryEnd, bodyAt, stepAt, recordOf, blankSheet}
-use Rattle.sheet.specs.Bytes.{entryOf, sheetLength, sheetBytesOf}
+use Rattle.sheet.specs.Bytes.{entryOf, stepIn, kindIn, sheetLength, sheetBytesOf}
 
 -- ---- the sheet as a whole
 
@@ -60,9 +59,12 @@ refusal4 s =
     || someFrom (placeBroken s) (stepCountOf s) 0
     || not (eqb (endBefore s (stepCountOf s)) (totalLengthOf s))
 
--- the writer's part of 4: an inverted word outside its rule (a record has no kind outside it)
+abbrev pub invertedBrokenIn : Sheet → ℕ → Bool
+invertedBrokenIn sheet i = invertedBroken (entryOf sheet i .inverted)
+
+-- the writer's 4: an inverted word outside its rule (a record has no kind outside it)
 unfoldable pub recordRefusal4 : Sheet → Bool
-recordRefusal4 sheet = someFrom (λ i. invertedBroken (entryOf sheet i .inverted)) (sheet .count) 0
+recordRefusal4 sheet = someFrom (invertedBrokenIn sheet) (sheet .count) 0
 
 -- ---- a step
 
@@ -70,9 +72,13 @@ recordRefusal4 sheet = someFrom (λ i. invertedBroken (entryOf sheet i .inverted
 unfoldable pub refusal5 : ℕ → List ℕ → Bool
 refusal5 kind body = not (bodyInRule kind body)
 
--- the same of a record's step, whose reserved words are no fields of it
-unfoldable pub recordRefusal5 : Step → Bool
-recordRefusal5 step = not (stepInRule step)
+-- the same at step i of a sheet
+abbrev pub refusal5At : List ℕ → ℕ → Bool
+refusal5At s i = refusal5 (kindAt s i) (bodyAt s i)
+
+-- the writer's 5, on the fields of step i of a record
+unfoldable pub recordRefusal5 : Sheet → ℕ → Bool
+recordRefusal5 sheet i = not (stepInRule (stepIn sheet i))
 
 -- rotated, convention none
 abbrev pub refusal6 : Step → Bool
@@ -143,7 +149,7 @@ readerOrder s =
     ∷ rule (ofSheet 2) (refusal2 s)
     ∷ rule (ofSheet 3) (refusal3 (stepCountOf s))
     ∷ rule (ofSheet 4) (refusal4 s)
-    ∷ (fiveToEight (λ i. refusal5 (kindAt s i) (bodyAt s i)) (stepAt s) (stepCountOf s) 0
+    ∷ (fiveToEight (refusal5At s) (stepAt s) (stepCountOf s) 0
     ++ elevens (kindAt s) (stepCountOf s) 0)
 
 -- the writer's order: 3; inverted words by 4; then step by step 5 to 8; 11; then 15
@@ -151,8 +157,8 @@ unfoldable pub writerOrder : Sheet → ℕ → List Rule
 writerOrder sheet room =
     rule (ofSheet 3) (refusal3 (sheet .count))
     ∷ rule (ofSheet 4) (recordRefusal4 sheet)
-    ∷ (fiveToEight (λ i. recordRefusal5 (entryOf sheet i .step)) (λ i. entryOf sheet i .step) (sheet .count) 0
-    ++ (elevens (λ i. kindOf (entryOf sheet i .step)) (sheet .count) 0
+    ∷ (fiveToEight (recordRefusal5 sheet) (stepIn sheet) (sheet .count) 0
+    ++ (elevens (kindIn sheet) (sheet .count) 0
     ++ (rule (ofSheet 15) (refusal15 sheet room) ∷ [])))
 
 -- ---- the answers

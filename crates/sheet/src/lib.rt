@@ -13,7 +13,7 @@ ghost use Rattle.words.specs.Words.{word32, put};
 ghost use Rattle.bodies.specs.Kinds.{lengthOf, kindOf};
 ghost use Rattle.sheet.specs.Layout.{stepCountOf, kindAt, bodyAt, stepAt, blankEntry, blankSheet, entryAt, recordOf};
 ghost use Rattle.sheet.specs.Bytes.{entryOf, bodyStart, sheetLength, headerBytes, placeBytes, directoryBytes, bodiesBytes};
-ghost use Rattle.sheet.specs.Rules.{refusal1, refusal3, refusal4, refusal5, recordRefusal4, recordRefusal5, endBefore, placeBroken, ofSheet, ofStep, rulesOfStep, fiveToEight, elevens, accepted, firstBroken, refusalOf, readingOf, writerRefusalOf, writtenOf};
+ghost use Rattle.sheet.specs.Rules.{refusal1, refusal3, refusal4, refusal5At, recordRefusal4, recordRefusal5, endBefore, placeBroken, ofSheet, ofStep, rulesOfStep, fiveToEight, elevens, accepted, firstBroken, refusalOf, readingOf, writerRefusalOf, writtenOf};
 use bodies::Step;
 
 // ----- records ---------------------------------------------------------------------------
@@ -238,17 +238,21 @@ fn check_step(i: usize, five: bool, step: Step) -> Refusal
 // Rules 5 to 8 of the step at index i of a sheet.
 fn check_body(s: &[u8], i: usize) -> Refusal
     requires { ⌜ i < 16 ⌝ }
-    ensures { λ r. ⌜ r ≡ firstBroken (rulesOfStep i (refusal5 (kindAt (now (s .entry)) i) (bodyAt (now (s .entry)) i)) (stepAt (now (s .entry)) i)) ⌝ }
+    ensures { λ r. ⌜ r ≡ firstBroken (rulesOfStep i (refusal5At (now (s .entry)) i) (stepAt (now (s .entry)) i)) ⌝ }
 {
     let kind = words::read32(s, 16 + 16 * i);
     let body = body_at(s, i);
-    check_step(i, !bodies::body_in_rule(kind, body), bodies::read_body(kind, body))
+    check_step(
+        i,
+        !bodies::body_in_rule(kind, body),
+        bodies::read_body(kind, body),
+    )
 }
 
 // Step by step 5 to 8.
 fn check_bodies(s: &[u8], n: usize) -> Refusal
     requires { ⌜ n ≤ 16 ⌝ }
-    ensures { λ r. ⌜ r ≡ firstBroken (fiveToEight (λ i. refusal5 (kindAt (now (s .entry)) i) (bodyAt (now (s .entry)) i)) (stepAt (now (s .entry))) n 0) ⌝ }
+    ensures { λ r. ⌜ r ≡ firstBroken (fiveToEight (refusal5At (now (s .entry))) (stepAt (now (s .entry))) n 0) ⌝ }
 {
     let mut i = 0;
     while i < n {
