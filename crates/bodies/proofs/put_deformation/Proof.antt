@@ -1,0 +1,33 @@
+-- `bodies::put_deformation` meets its contract. Assumes nothing.
+use borrow.Author.Needs.{needs}
+use Rattle.bodies.proofs.put_deformation.Statement.{statement}
+use Rattle.bodies.proofs.put_deformation.Tie as tie
+
+put32-requires : tie.Need-put32-requires
+put32-requires c κs = search needs
+
+put32-requires-2 : tie.Need-put32-requires-2
+put32-requires-2 c κs = search needs
+
+put-number-requires : tie.Need-put-number-requires
+put-number-requires c κs = search needs
+
+put-number-requires-2 : tie.Need-put-number-requires-2
+put-number-requires-2 c κs = search needs
+
+same-length : tie.Need-same-length
+same-length c = search needs
+
+returns : tie.Need-returns
+returns c = ?
+
+pub put-deformation-spec : {M : Type 1} → statement M
+put-deformation-spec =
+    tie.close
+    (tie.spec
+    put32-requires
+    put32-requires-2
+    put-number-requires
+    put-number-requires-2
+    same-length
+    returns)

@@ -1,0 +1,57 @@
+-- `bodies::put_helmert` meets its contract. Assumes nothing.
+use borrow.Author.Needs.{needs}
+use Rattle.bodies.proofs.put_helmert.Statement.{statement}
+use Rattle.bodies.proofs.put_helmert.Tie as tie
+
+put32-requires : tie.Need-put32-requires
+put32-requires c κs = search needs
+
+put32-requires-2 : tie.Need-put32-requires-2
+put32-requires-2 c κs = search needs
+
+put-series-requires : tie.Need-put-series-requires
+put-series-requires c κs = search needs
+
+put-series-requires-2 : tie.Need-put-series-requires-2
+put-series-requires-2 c κs = search needs
+
+put-number-requires : tie.Need-put-number-requires
+put-number-requires c κs = search needs
+
+put-number-requires-2 : tie.Need-put-number-requires-2
+put-number-requires-2 c κs = search needs
+
+put-number-requires-3 : tie.Need-put-number-requires-3
+put-number-requires-3 c κs = search needs
+
+put-number-requires-4 : tie.Need-put-number-requires-4
+put-number-requires-4 c κs = search needs
+
+put-number-requires-5 : tie.Need-put-number-requires-5
+put-number-requires-5 c κs = search needs
+
+put-number-requires-6 : tie.Need-put-number-requires-6
+put-number-requires-6 c κs = search needs
+
+same-length : tie.Need-same-length
+same-length c = ?
+
+returns : tie.Need-returns
+returns c = ?
+
+pub put-helmert-spec : {M : Type 1} → statement M
+put-helmert-spec =
+    tie.close
+    (tie.spec
+    put32-requires
+    put32-requires-2
+    put-series-requires
+    put-series-requires-2
+    put-number-requires
+    put-number-requires-2
+    put-number-requires-3
+    put-number-requires-4
+    put-number-requires-5
+    put-number-requires-6
+    same-length
+    returns)
