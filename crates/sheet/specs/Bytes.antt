@@ -4,15 +4,16 @@ use mathlib.Core.List.{List, [], _++_}
 use lib.ListN.{getD}
 use Rattle.words.specs.Words.{le32}
 use Rattle.bodies.specs.declared.Step.{Step}
+use Rattle.bodies.specs.declared.Step.the-variants.{Cart}
 use Rattle.bodies.specs.Kinds.{lengthOf, kindOf}
 use Rattle.bodies.specs.Write.{bytesOf}
 use Rattle.sheet.specs.declared.Entry.{Entry}
 use Rattle.sheet.specs.declared.Sheet.{Sheet}
-use Rattle.sheet.specs.Layout.{blankEntry, directoryEnd}
+use Rattle.sheet.specs.Layout.{directoryEnd}
 
--- step i of a record
+-- step i of a record; past the sixteen, where no step count in rule reaches, zeros
 abbrev pub entryOf : Sheet → ℕ → Entry
-entryOf sheet i = getD (sheet .entries) i blankEntry
+entryOf sheet i = getD (sheet .entries) i (record { inverted = 0; step = Cart (record { ellipsoid = 0 }) })
 
 abbrev pub stepIn : Sheet → ℕ → Step
 stepIn sheet i = entryOf sheet i .step
