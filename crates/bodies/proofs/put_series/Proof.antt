@@ -1,4 +1,7 @@
 -- `bodies::put_series` meets its contract. Assumes nothing.
+use native.Mathlib.Omega.{arith}
+use Rattle.bodies.specs.Write.{leSeries}
+use Rattle.bodies.proofs.Runs.{run-vec3, run-starts-vec3}
 use borrow.Author.Needs.{needs}
 use Rattle.bodies.proofs.put_series.Statement.{statement}
 use Rattle.bodies.proofs.put_series.Tie as tie
@@ -28,7 +31,19 @@ same-length : tie.Need-same-length
 same-length c = search needs
 
 returns : tie.Need-returns
-returns c = ?
+unfolding leSeries
+returns c =
+    let c4 = c .before .before in
+    let c3 = c4 .before .before .before .before in
+    let c2 = c3 .before .before .before .before in
+    let c1 = c2 .before .before .before .before in
+    let o = c1 .before .before .before in
+    let a = o .args in
+    let r1 = run-starts-vec3 {n = 96} (a .series) (omega arith) tt (c1 .put-vec3 .ensures) in
+    let r2 = run-vec3 (a .singles) r1 tt (c2 .put-vec32 .ensures) in
+    let r3 = run-vec3 (a .rate) r2 tt (c3 .put-vec33 .ensures) in
+    let r4 = run-vec3 (a .rate-singles) r3 tt (c4 .put-vec34 .ensures) in
+    r4 .became
 
 pub put-series-spec : {M : Type 1} → statement M
 put-series-spec =

@@ -54,23 +54,24 @@ number-requires-6 c κs = search needs
 
 returns : tie.Need-returns
 unfolding helmertOf
-returns c = rw
-    (c .before .before .before .before .before .before .before .before .before .before .before .before .before .before .before .read32 .ensures,
-    c .before .before .before .before .before .before .before .before .before .before .before .before .before .before .read322 .ensures,
-    c .before .before .before .before .before .before .before .before .before .before .before .before .before .read-vec3 .ensures,
-    c .before .before .before .before .before .before .before .before .before .before .before .before .read-vec32 .ensures,
-    c .before .before .before .before .before .before .before .before .before .before .before .read-vec33 .ensures,
-    c .before .before .before .before .before .before .before .before .before .before .read-vec34 .ensures,
-    c .before .before .before .before .before .before .before .before .before .read-vec35 .ensures,
-    c .before .before .before .before .before .before .before .before .read-vec36 .ensures,
-    c .before .before .before .before .before .before .before .read-vec37 .ensures,
-    c .before .before .before .before .before .before .read-vec38 .ensures,
-    c .before .before .before .before .before .number .ensures,
-    c .before .before .before .before .number2 .ensures,
-    c .before .before .before .number3 .ensures,
-    c .before .before .number4 .ensures,
-    c .before .number5 .ensures,
-    c .number6 .ensures)
+returns c = rw (
+  c .before .before .before .before .before .before .before .before .before .before .before .before .before .before .before .read32 .ensures,
+  c .before .before .before .before .before .before .before .before .before .before .before .before .before .before .read322 .ensures,
+  c .before .before .before .before .before .before .before .before .before .before .before .before .before .read-vec3 .ensures,
+  c .before .before .before .before .before .before .before .before .before .before .before .before .read-vec32 .ensures,
+  c .before .before .before .before .before .before .before .before .before .before .before .read-vec33 .ensures,
+  c .before .before .before .before .before .before .before .before .before .before .read-vec34 .ensures,
+  c .before .before .before .before .before .before .before .before .before .read-vec35 .ensures,
+  c .before .before .before .before .before .before .before .before .read-vec36 .ensures,
+  c .before .before .before .before .before .before .before .read-vec37 .ensures,
+  c .before .before .before .before .before .before .read-vec38 .ensures,
+  c .before .before .before .before .before .number .ensures,
+  c .before .before .before .before .number2 .ensures,
+  c .before .before .before .number3 .ensures,
+  c .before .before .number4 .ensures,
+  c .before .number5 .ensures,
+  c .number6 .ensures,
+)
 
 pub read-helmert-spec : {M : Type 1} → statement M
 read-helmert-spec =

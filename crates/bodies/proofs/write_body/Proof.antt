@@ -1,10 +1,15 @@
 -- `bodies::write_body` meets its contract. Assumes nothing.
+use native.Mathlib.Omega.{arith}
+use mathlib.Core.Path.{sym}
+use Rattle.words.proofs.Laws.{put-part, put-too-long}
+use Rattle.bodies.specs.Write.{bytesOf}
+use Rattle.bodies.proofs.Lengths.{length-helmert, length-cart, length-molodensky, length-permtide, length-deformation}
 use borrow.Author.Needs.{needs}
 use Rattle.bodies.proofs.write_body.Statement.{statement}
 use Rattle.bodies.proofs.write_body.Tie as tie
 
 returns : tie.Need-returns
-returns c = ?
+returns c = let o = c .before .before in sym (put-too-long (o .args .room .now) (o .args .at) (bytesOf (o .args .step)) (omega arith))
 
 sub-left : tie.Need-sub-left
 sub-left c = search needs
@@ -103,46 +108,76 @@ same-length : tie.Need-same-length
 same-length c = search needs
 
 returns-2 : tie.Need-returns-2
-returns-2 c = ?
+unfolding bytesOf
+returns-2 c =
+    let o = c .before .before .before .before .before .before .before .before .before .before in
+    rw (c .before .before .before .before .before .before .step .given .1) (put-part (o .args .room .now) (o .args .at) 248 _ (c .before .before .put-helmert .ensures) (length-helmert _) (omega arith))
 
 returns-3 : tie.Need-returns-3
-returns-3 c = ?
+unfolding bytesOf
+returns-3 c =
+    let o = c .before .before .before .before .before .before in
+    rw (c .before .before .step .given .1) (sym (put-too-long (o .args .room .now) (o .args .at) _ (rw (length-helmert _) (omega arith))))
 
 same-length-2 : tie.Need-same-length-2
 same-length-2 c = search needs
 
 returns-4 : tie.Need-returns-4
-returns-4 c = ?
+unfolding bytesOf
+returns-4 c =
+    let o = c .before .before .before .before .before .before .before .before .before .before in
+    rw (c .before .before .before .before .before .before .step2 .given .1) (put-part (o .args .room .now) (o .args .at) 8 _ (c .before .before .put-cart .ensures) (length-cart _) (omega arith))
 
 returns-5 : tie.Need-returns-5
-returns-5 c = ?
+unfolding bytesOf
+returns-5 c =
+    let o = c .before .before .before .before .before .before in
+    rw (c .before .before .step2 .given .1) (sym (put-too-long (o .args .room .now) (o .args .at) _ (rw (length-cart _) (omega arith))))
 
 same-length-3 : tie.Need-same-length-3
 same-length-3 c = search needs
 
 returns-6 : tie.Need-returns-6
-returns-6 c = ?
+unfolding bytesOf
+returns-6 c =
+    let o = c .before .before .before .before .before .before .before .before .before .before in
+    rw (c .before .before .before .before .before .before .step3 .given .1) (put-part (o .args .room .now) (o .args .at) 56 _ (c .before .before .put-molodensky .ensures) (length-molodensky _) (omega arith))
 
 returns-7 : tie.Need-returns-7
-returns-7 c = ?
+unfolding bytesOf
+returns-7 c =
+    let o = c .before .before .before .before .before .before in
+    rw (c .before .before .step3 .given .1) (sym (put-too-long (o .args .room .now) (o .args .at) _ (rw (length-molodensky _) (omega arith))))
 
 same-length-4 : tie.Need-same-length-4
 same-length-4 c = search needs
 
 returns-8 : tie.Need-returns-8
-returns-8 c = ?
+unfolding bytesOf
+returns-8 c =
+    let o = c .before .before .before .before .before .before .before .before .before .before in
+    rw (c .before .before .before .before .before .before .step4 .given .1) (put-part (o .args .room .now) (o .args .at) 24 _ (c .before .before .put-permtide .ensures) (length-permtide _) (omega arith))
 
 returns-9 : tie.Need-returns-9
-returns-9 c = ?
+unfolding bytesOf
+returns-9 c =
+    let o = c .before .before .before .before .before .before in
+    rw (c .before .before .step4 .given .1) (sym (put-too-long (o .args .room .now) (o .args .at) _ (rw (length-permtide _) (omega arith))))
 
 same-length-5 : tie.Need-same-length-5
 same-length-5 c = search needs
 
 returns-10 : tie.Need-returns-10
-returns-10 c = ?
+unfolding bytesOf
+returns-10 c =
+    let o = c .before .before .before .before .before .before .before .before .before .before in
+    rw (c .before .before .before .before .before .before .step5 .given .1) (put-part (o .args .room .now) (o .args .at) 24 _ (c .before .before .put-deformation .ensures) (length-deformation _) (omega arith))
 
 returns-11 : tie.Need-returns-11
-returns-11 c = ?
+unfolding bytesOf
+returns-11 c =
+    let o = c .before .before .before .before .before .before in
+    rw (c .before .before .step5 .given .1) (sym (put-too-long (o .args .room .now) (o .args .at) _ (rw (length-deformation _) (omega arith))))
 
 pub write-body-spec : {M : Type 1} → statement M
 write-body-spec =
