@@ -96,9 +96,9 @@ module _ (sheet : Sheet) where
       let d = bodies-length (sheet .count) in
       let from : 0 + (16 + 16 * sheet .count) ≡ 16 + 16 * sheet .count = omega arith in
       let short : length (headerBytes sheet ++ directoryBytes sheet (sheet .count)) ≡ 16 + 16 * sheet .count =
-          simp (length-append, header-length, directory-length) in
+      simp (length-append, header-length, directory-length) in
       let first : put (put l 0 (headerBytes sheet)) 16 (directoryBytes sheet (sheet .count)) ≡ put l 0 (headerBytes sheet ++ directoryBytes sheet (sheet .count)) =
-          put-put l (headerBytes sheet) (directoryBytes sheet (sheet .count)) 0 16 header-length (omega arith) in
+      put-put l (headerBytes sheet) (directoryBytes sheet (sheet .count)) 0 16 header-length (omega arith) in
       rw first
       (rw from at
       (put-put l (headerBytes sheet ++ directoryBytes sheet (sheet .count)) (bodiesBytes sheet (sheet .count)) 0 (16 + 16 * sheet .count) short (omega arith)))

@@ -34,7 +34,7 @@ same-length : tie.Need-same-length
 same-length c = search needs
 
 returns : tie.Need-returns
-returns c = 
+returns c =
     let c4 = c .before .before in
     let c3 = c4 .before .before .before .before in
     let c2 = c3 .before .before .before .before in
