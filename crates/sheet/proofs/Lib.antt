@@ -3,3 +3,5 @@ pub mod Order
 pub mod Entries
 pub mod Writing
 pub mod WriterOrder
+pub mod Examples
+pub mod Each
