@@ -251,7 +251,9 @@ pub fn body_in_rule(kind: u32, b: &[u8]) -> bool
 {
     if kind == 1 {
         if b.len() == 248 {
-            return words::one_nan(b, 232) & words::one_nan(b, 240) & read_helmert(b).fields_in_rule();
+            return words::one_nan(b, 232)
+                & words::one_nan(b, 240)
+                & read_helmert(b).fields_in_rule();
         }
         return false;
     }
@@ -292,9 +294,16 @@ fn put_vec3(room: &mut [u8], at: usize, v: Vec3)
     words::put_number(room, at + 16, v.z);
 }
 
-fn put_series(room: &mut [u8], at: usize, series: Vec3, singles: Vec3, rate: Vec3, rate_singles: Vec3)
+fn put_series(
+    room: &mut [u8],
+    at: usize,
+    series: Vec3,
+    singles: Vec3,
+    rate: Vec3,
+    rate_singles: Vec3,
+)
     requires { ⌜ at + 96 ≤ length (now room) ⌝ }
-    ensures { λ _. ⌜ now (room .exit) ≡ put (now (room .entry)) at (leSeries series singles rate rate_singles) ⌝ }
+    ensures { λ _. ⌜ now (room .exit) ≡ put (now (room .entry)) at (leSeries series singles rate «rate_singles») ⌝ }
 {
     put_vec3(room, at, series);
     put_vec3(room, at + 24, singles);

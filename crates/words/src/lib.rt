@@ -39,7 +39,8 @@ fn word(s: &[u8], at: usize, k: usize) -> u32
     requires { ⌜ k ≤ 4 ⌝ }
     ensures { λ r. ⌜ r ≡ word32 (now (s .entry)) (at + k) ⌝ }
 {
-    byte(s, at, k) + 256 * (byte(s, at, k + 1) + 256 * (byte(s, at, k + 2) + 256 * byte(s, at, k + 3)))
+    byte(s, at, k)
+        + 256 * (byte(s, at, k + 1) + 256 * (byte(s, at, k + 2) + 256 * byte(s, at, k + 3)))
 }
 
 pub fn read32(s: &[u8], at: usize) -> u32
@@ -51,7 +52,7 @@ pub fn read32(s: &[u8], at: usize) -> u32
 pub fn read64(s: &[u8], at: usize) -> u64
     ensures { λ r. ⌜ r ≡ word64 (now (s .entry)) at ⌝ }
 {
-    wide64(word(s, at, 0)) + 4294967296 * wide64(word(s, at, 4))
+    wide64(read32(s, at)) + 4294967296 * wide64(word(s, at, 4))
 }
 
 pub fn number(s: &[u8], at: usize) -> f64
