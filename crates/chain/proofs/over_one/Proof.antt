@@ -1,0 +1,44 @@
+-- `chain::over_one` meets its contract. Assumes nothing.
+use Rattle.chain.proofs.over_one.Statement.{statement}
+use Rattle.chain.proofs.over_one.Tie as tie
+
+abbrev Inv-loop : tie.InvT-loop
+Inv-loop marks i₀ i = ?
+
+abbrev μ-loop : tie.MeasureT-loop
+μ-loop marks i₀ i = ?
+
+loop-holds : tie.Need-loop-holds Inv-loop μ-loop
+loop-holds c = ?
+
+shared-slice-read-if1 : tie.Need-shared-slice-read-if1 Inv-loop μ-loop
+shared-slice-read-if1 c = ?
+
+returns : tie.Need-returns Inv-loop μ-loop
+returns c = ?
+
+add-i : tie.Need-add-i Inv-loop μ-loop
+add-i c = ?
+
+loop-less : tie.Need-loop-less Inv-loop μ-loop
+loop-less c = ?
+
+loop-again : tie.Need-loop-again Inv-loop μ-loop
+loop-again c = ?
+
+returns-2 : tie.Need-returns-2 Inv-loop μ-loop
+returns-2 c = ?
+
+pub over-one-spec : {M : Type 1} → statement M
+over-one-spec =
+    tie.close
+    (tie.spec
+    Inv-loop
+    μ-loop
+    loop-holds
+    shared-slice-read-if1
+    returns
+    add-i
+    loop-less
+    loop-again
+    returns-2)
