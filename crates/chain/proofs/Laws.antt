@@ -12,7 +12,6 @@ use Rattle.lists.proofs.Laws.{ran-length}
 use Rattle.chain.specs.Chain.{turnsOf, stateOf, turnedOf, stepListOf, stepCountOf, Run, forwardOf, inverseOf, placesOf, entriesOf}
 
 module _ (velocities : List Float) (marks : List ℕ) where
-
   -- ---- a chain of one step is that step over the list
 
   pub one-step-forward : (e : Entry) (l : List Float)

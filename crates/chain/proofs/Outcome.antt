@@ -1,17 +1,14 @@
 -- Which outcome each of an entry's tests leads to. Assumes nothing.
-use Prim.Native.Nat.{ℕ, _≤_}
-use native.Mathlib.Omega.{arith}
-use mathlib.Core.Path.{_≡_, refl, ap, _∙_}
-use mathlib.Core.Bool.{Bool, true, false, not, cond, _||_}
+use Prim.Native.Nat.{ℕ}
+use mathlib.Core.Path.{_≡_}
+use mathlib.Core.Bool.{Bool, true, false}
 use mathlib.Core.List.{List}
-use borrow.Author.Tests.{eq-eqb, ne-eqb, ltb-false}
-use lib.Dec.{eqb, ltb}
+use borrow.Author.Tests.{eq-eqb, ne-eqb}
 use lib.ListN.{length}
 use lib.Ieee.{Float}
 use Rattle.sheet.specs.declared.Entry.{Entry}
 use Rattle.sheet.specs.declared.Refusal.{Refusal}
-use Rattle.sheet.specs.Layout.{stepCountOf}
-use Rattle.sheet.specs.Rules.{ofSheet, firstBroken, refusalOf, readerOrder, refusal1, refusal2, refusal3}
+use Rattle.sheet.specs.Rules.{ofSheet, firstBroken}
 use Rattle.chain.specs.Chain.{chainOf}
 use Rattle.chain.specs.Rules.{refusal9, refusal10, shiftRefusalOf, outcome, refusedAnswer, ranOutcome, outcomeOf}
 
@@ -33,20 +30,3 @@ module _ (own : Refusal) (deforms inverse : Bool) (es : List Entry) (l velocitie
       → outcomeOf own deforms inverse es l velocities marks ≡ ranOutcome (chainOf inverse velocities marks es l)
   unfolding outcomeOf shiftRefusalOf firstBroken
   run-through h nine ten = rw (eq-eqb (own .number) 0 h, nine, ten)
-
--- ---- an accepted sheet has at most sixteen steps
-
-third : (one two three : Bool) (r : Refusal) → cond one (ofSheet 1) (cond two (ofSheet 2) (cond three (ofSheet 3) r)) .number ≡ 0 → three ≡ false
-third true two three r h = absurd (omega (arith, h))
-third false true three r h = absurd (omega (arith, h))
-third false false true r h = absurd (omega (arith, h))
-third false false false r h = refl
-
-second : (a b : Bool) → a || b ≡ false → b ≡ false
-second true b h = h
-second false b h = h
-
-pub few-steps : (s : List ℕ) → refusalOf s .number ≡ 0 → stepCountOf s ≤ 16
-unfolding refusalOf readerOrder firstBroken refusal3
-few-steps s h =
-    ltb-false 16 (stepCountOf s) (second (eqb (stepCountOf s) 0) (ltb 16 (stepCountOf s)) (third (refusal1 s) (refusal2 s) (refusal3 (stepCountOf s)) _ h))

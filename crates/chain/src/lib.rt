@@ -29,11 +29,21 @@ pub struct Answer {
 fn turned(inverse: bool, entry: Entry) -> bool
     ensures { λ r. ⌜ r ≡ turnedOf inverse entry ⌝ }
 {
-    if entry.inverted == 1 { !inverse } else { inverse }
+    if entry.inverted == 1 {
+        !inverse
+    } else {
+        inverse
+    }
 }
 
 // The kind is decided here, once a list.
-fn run_step(inverse: bool, entry: Entry, list: &mut [f64], velocities: &[f64], marks: &[u8]) -> usize
+fn run_step(
+    inverse: bool,
+    entry: Entry,
+    list: &mut [f64],
+    velocities: &[f64],
+    marks: &[u8],
+) -> usize
     ensures { λ r. ⌜ (now (list .exit) ≡ stepListOf inverse (now (velocities .entry)) (now (marks .entry)) entry (now (list .entry)))
         × (r ≡ stepCountOf inverse (now (velocities .entry)) (now (marks .entry)) entry (now (list .entry))) ⌝ }
 {

@@ -36,7 +36,7 @@ loop-less : tie.Need-loop-less Inv-loop μ-loop
 loop-less c = search needs
 
 loop-again : tie.Need-loop-again Inv-loop μ-loop
-loop-again c = 
+loop-again c =
     let l = c .before .before .before .before .before .before .loop in
     let j : l .i - 1 + 1 ≡ l .i = omega (arith, c .before .before .before .before .before .loop-test .taken) in
     backward-again (c .before .before .before .before .before .before .before .before .before .before .before .pre) (l .i - 1) j (c .before .before .before .before .entry-at .ensures) (c .before .before .run-step .ensures .0) (c .before .before .run-step .ensures .1) (l .inv)

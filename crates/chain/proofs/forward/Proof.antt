@@ -34,7 +34,7 @@ loop-less : tie.Need-loop-less Inv-loop μ-loop
 loop-less c = search needs
 
 loop-again : tie.Need-loop-again Inv-loop μ-loop
-loop-again c = 
+loop-again c =
     forward-again (c .before .before .before .before .before .before .before .before .before .before .before .pre) (search needs) (c .before .before .before .before .entry-at .ensures) (c .before .before .run-step .ensures .0) (c .before .before .run-step .ensures .1) (c .before .before .before .before .before .before .loop .inv)
 
 same-length : tie.Need-same-length Inv-loop μ-loop
