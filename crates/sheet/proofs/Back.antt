@@ -60,15 +60,19 @@ four-words s at b h =
       ← take-add 12 4 (drop at s),
     )
 
-module _ (s : List ℕ) (bytes : Bytes s) (ok : Accepted s) where
-  -- step i of the record is that of the sheet
-  pub entry-same : (i : ℕ) → i < 16 → entryOf (recordOf s) i ≡ entryAt s i
-  unfolding recordOf
-  entry-same i h = entry-from s _ 16 0 i h ∙ ap (entryAt s) (zero-add i)
+-- step i of the record is that of the sheet
+pub entry-same : (s : List ℕ) (i : ℕ) → i < 16 → entryOf (recordOf s) i ≡ entryAt s i
+unfolding recordOf
+entry-same s i h = entry-from s _ 16 0 i h ∙ ap (entryAt s) (zero-add i)
 
+pub record-count : (s : List ℕ) → recordOf s .count ≡ stepCountOf s
+unfolding recordOf
+record-count s = refl
+
+module _ (s : List ℕ) (bytes : Bytes s) (ok : Accepted s) where
   entry-here : (i : ℕ) → i < stepCountOf s → entryOf (recordOf s) i ≡ record { inverted = invertedAt s i; step = stepAt s i }
   unfolding entryAt
-  entry-here i h = entry-same i (omega (arith, ok .few-steps)) ∙ rw (lt-ltb i (stepCountOf s) h)
+  entry-here i h = entry-same s i (omega (arith, ok .few-steps)) ∙ rw (lt-ltb i (stepCountOf s) h)
 
   pub step-same : (i : ℕ) → i < stepCountOf s → stepIn (recordOf s) i ≡ stepAt s i
   step-same i h = ap (λ (e : Entry). e .step) (entry-here i h)
@@ -91,8 +95,7 @@ module _ (s : List ℕ) (bytes : Bytes s) (ok : Accepted s) where
       ap bytesOf (step-same i h) ∙ write-after-read (kindAt s i) (bodyAt s i) (bytes-part s (lengthAt s i) (offsetAt s i) bytes) (in-rule i h)
 
   pub count-same : recordOf s .count ≡ stepCountOf s
-  unfolding recordOf
-  count-same = refl
+  count-same = record-count s
 
   -- each body starts where the sheet has it
   start-same : (i : ℕ) → i ≤ stepCountOf s → bodyStart (recordOf s) i ≡ endBefore s i

@@ -8,10 +8,12 @@ use mathlib.Core.Bool.{Bool, true, false, cond, not}
 use native.Mathlib.Omega.{arith}
 use native.Mathlib.Nat.{zero-add}
 use borrow.Author.Tests.{ne-eqb, le-ltb}
-use lib.ListN.{length}
+use lib.ListN.{length, take}
+use lib.Seq.{take-at}
 use Rattle.words.specs.Words.{Bytes, put}
 use Rattle.bodies.specs.Kinds.{kindOf}
 use Rattle.bodies.specs.Rules.{stepInRule}
+use Rattle.bodies.specs.Held.{Held}
 use Rattle.bodies.proofs.Laws.{step-of-body-in-rule}
 use Rattle.sheet.specs.declared.Refusal.{Refusal}
 use Rattle.sheet.specs.declared.Sheet.{Sheet}
@@ -21,8 +23,10 @@ use Rattle.sheet.specs.Rules.{Rule, accepted, firstBroken, readerOrder, 
 use Rattle.sheet.proofs.Order.{Numbered, Kept, none-broken, kept-append, numbered-reader}
 use Rattle.sheet.proofs.WriterOrder.{numbered-writer, last}
 use Rattle.sheet.proofs.Each.{StepKept, every-step, every-eleven, every-kept, eleven-same}
-use Rattle.sheet.proofs.Accepted.{Accepted, accepted-keeps, body-kept}
-use Rattle.sheet.proofs.Back.{count-same, entry-same, step-same, inverted-same, kind-same, sheet-length-same, bytes-same}
+use Rattle.sheet.proofs.Accepted.{Accepted, accepted-keeps, keeps-accepted, body-kept}
+use Rattle.sheet.proofs.Forth.{Taken, taken, count-back, accepted-back, entry-back}
+use Rattle.sheet.proofs.Writing.{sheet-bytes-length}
+use Rattle.sheet.proofs.Back.{record-count, count-same, entry-same, step-same, inverted-same, kind-same, sheet-length-same, bytes-same}
 
 -- ---- given exactly when
 
@@ -85,8 +89,8 @@ writer-gives-exactly-when sheet room r h = (
 -- ---- read, then written
 
 -- the record that `read` gives has at each step what `entry_at` gives
-pub entries-agree : (s : List ℕ) → refusalOf s ≡ accepted → Bytes s → (i : ℕ) → i < 16 → entryOf (recordOf s) i ≡ entryAt s i
-entries-agree s e b i h = entry-same s b (accepted-keeps s (ap (λ (x : Refusal). x .number) e)) i h
+pub entries-agree : (s : List ℕ) (i : ℕ) → i < 16 → entryOf (recordOf s) i ≡ entryAt s i
+entries-agree s i h = entry-same s i h
 
 module _ (s : List ℕ) (bytes : Bytes s) (e : refusalOf s ≡ accepted) where
   ok : Accepted s
@@ -147,6 +151,35 @@ module _ (s : List ℕ) (bytes : Bytes s) (e : refusalOf s ≡ accepted) where
   unfolding writtenOf
   read-then-written room h =
       rw (writer-takes-what-was-read (length room) h) (ap (put room 0) (bytes-same s bytes ok))
+
+-- ---- written, then read
+
+-- what every record in memory meets: a theorem over records takes it as its premise
+pub HeldSheet : Sheet → Type 0
+HeldSheet sheet = (i : ℕ) → i < sheet .count → Held (stepIn sheet i)
+
+-- the same record up to its step count
+pub record SameSheet (a b : Sheet) : Type 0 where
+  pub same-count : a .count ≡ b .count
+  pub same-entries : (i : ℕ) → i < b .count → entryOf a i ≡ entryOf b i
+
+-- a record that the writer takes is read back: every field of every step, -0 and "not given" among them
+pub written-then-read : (sheet : Sheet) (room : ℕ) → HeldSheet sheet → writerRefusalOf sheet room ≡ accepted
+    → (refusalOf (sheetBytesOf sheet) ≡ accepted) × SameSheet (recordOf (sheetBytesOf sheet)) sheet
+unfolding HeldSheet
+written-then-read sheet room held e =
+    let t = taken sheet room (ap (λ (x : Refusal). x .number) e) in
+    (keeps-accepted (sheetBytesOf sheet) (accepted-back sheet t held),
+    record {
+      same-count = record-count (sheetBytesOf sheet) ∙ count-back sheet t held;
+      same-entries = λ i h. entry-same (sheetBytesOf sheet) i (omega (arith, t .few-steps)) ∙ entry-back sheet t held i h;
+    })
+
+-- the room then starts with those bytes
+pub room-starts-with-the-sheet : (sheet : Sheet) (room : List ℕ) → writerRefusalOf sheet (length room) ≡ accepted
+    → take (sheetLength sheet) (writtenOf sheet room) ≡ sheetBytesOf sheet
+unfolding writtenOf put
+room-starts-with-the-sheet sheet room e = rw e (take-at (sheetBytesOf sheet) _ (sheetLength sheet) (sheet-bytes-length sheet))
 
 -- ---- read in one way only
 

@@ -8,3 +8,4 @@ pub mod Each
 pub mod Accepted
 pub mod Back
 pub mod Laws
+pub mod Forth
