@@ -179,7 +179,7 @@ impl crate::geocart::GeoCart for Ellipsoid {}
 #[derive(Debug)]
 pub enum Error {
     MissingParam(String),
-    BadParam(String, String),
+    BadParam(String, #[allow(dead_code)] String),
     #[allow(dead_code)]
     Unexpected { message: String, expected: String, found: String },
 }

@@ -7,6 +7,8 @@ use std::process::ExitCode;
 #[derive(Default)]
 struct Tally {
     tuples: usize,
+    /// tuples whose results hold no NaN
+    whole: usize,
     jobs: usize,
     refused: usize,
     listed: usize,
@@ -24,8 +26,8 @@ fn main() -> ExitCode {
             let name = format!("{} {}", suite.name, if inverse { "inverse" } else { "forward" });
             let tally = compare(&name, wanted, |n, r| suite.job(r, inverse, n), &mut r);
             println!(
-                "{name}: {} tuples in {} jobs, {} refused alike, {} with a NaN Z on the axis, {} parted",
-                tally.tuples, tally.jobs, tally.refused, tally.listed, tally.parted
+                "{name}: {} tuples, {} without NaN, in {} jobs, {} refused alike, {} with a NaN Z on the axis, {} parted",
+                tally.tuples, tally.whole, tally.jobs, tally.refused, tally.listed, tally.parted
             );
             if tally.parted == 0 { passed += 1 } else { failed += 1 }
         }
@@ -44,7 +46,12 @@ fn compare(name: &str, wanted: usize, draw: impl Fn(usize, &mut Random) -> job::
         let ours = ours::shift(&job);
         tally.jobs += 1;
         tally.listed += ran.nan_z_on_the_axis;
-        if ran.answer.refusal == 0 { tally.tuples += n } else { tally.refused += 1 }
+        if ran.answer.refusal == 0 {
+            tally.tuples += n;
+            tally.whole += ran.answer.list.chunks_exact(4).filter(|t| !t.iter().any(|x| x.is_nan())).count();
+        } else {
+            tally.refused += 1;
+        }
         if !ran.answer.same(&ours) {
             tally.parted += 1;
             if tally.parted <= 3 {
