@@ -1,0 +1,95 @@
+//! The file of fixed answers: made of the second oracle's, replayed against the library.
+//!
+//!     vectors write FILE     vectors check FILE
+use compare::{random::Random, suites::SUITES};
+use job::{Answer, Body, Helmert, Job, NOT_GIVEN, Step, vectors};
+use std::process::ExitCode;
+
+const SEED: u64 = 20_010;
+const JOBS: usize = 14;
+const LONGEST: u64 = 24;
+
+fn main() -> ExitCode {
+    let args: Vec<String> = std::env::args().skip(1).collect();
+    let [what, path] = &args[..] else { panic!("vectors write FILE, or vectors check FILE") };
+    match what.as_str() {
+        "write" => write(path),
+        "check" => check(path),
+        _ => panic!("write or check"),
+    }
+}
+
+fn write(path: &str) -> ExitCode {
+    let jobs = marked_points().into_iter().chain(drawn());
+    let answered: Vec<(Job, Answer)> = jobs.map(|job| (job.clone(), over_kernels::run(&job).answer)).collect();
+    let tuples: usize = answered.iter().map(|(job, _)| job.list.len() / 4).sum();
+    std::fs::write(path, vectors::file(&answered)).unwrap();
+    println!("{} jobs of {tuples} tuples written", answered.len());
+    ExitCode::SUCCESS
+}
+
+fn check(path: &str) -> ExitCode {
+    let (mut passed, mut failed) = (0, 0);
+    for (i, r) in vectors::records(&std::fs::read(path).unwrap()).iter().enumerate() {
+        let ours = ours::shift_bytes(r.inverse, &r.sheet, &r.list, &r.velocities, &r.marks);
+        if ours.same(&r.answer) {
+            passed += 1;
+        } else {
+            failed += 1;
+            println!("record {i}: {:?} expected, {:?} given", r.answer, ours);
+        }
+    }
+    println!("{passed} passed, {failed} failed");
+    if failed == 0 { ExitCode::SUCCESS } else { ExitCode::FAILURE }
+}
+
+// ----- The jobs --------------------------------------------------------------------------
+
+/// From every suite, forward and inverse.
+fn drawn() -> Vec<Job> {
+    let mut r = Random::new(SEED);
+    let mut jobs = Vec::new();
+    for suite in &SUITES {
+        for inverse in [false, true] {
+            for _ in 0..JOBS {
+                let n = 1 + r.below(LONGEST) as usize;
+                jobs.push(suite.job(&mut r, inverse, n));
+            }
+        }
+    }
+    jobs
+}
+
+fn single(inverse: bool, body: Body, list: &[f64]) -> Job {
+    let steps = vec![Step { inverted: false, body }];
+    Job { inverse, steps, list: list.to_vec(), velocities: vec![], marks: vec![] }
+}
+
+/// DT = (1, 0, 0), t_epoch 2000, X = 0 at each of these times.
+fn moving(flags: u32, times: &[f64]) -> Job {
+    let h = Helmert { flags, dxyz: [1.0, 0.0, 0.0], t_epoch: 2000.0, ..Helmert::blank() };
+    let list: Vec<f64> = times.iter().flat_map(|t| [0.0, 0.0, 0.0, *t]).collect();
+    single(false, Body::Helmert(h), &list)
+}
+
+/// Document 01's marked points that are runs of a chain: P1 to P5 and P8 to P12, in order.
+fn marked_points() -> Vec<Job> {
+    let nan = NOT_GIVEN;
+    let cart = Body::Cart { ellipsoid: 1 };
+    let molodensky = Body::Molodensky { flags: 0, first: 1, second: 0, offsets: [0.0; 5] };
+    let tide = Body::Permtide { ellipsoid: 1, to: 1, from: 2, k: 0.3 };
+    let no_convention = Helmert { rxyz: [1.0, 0.0, 0.0], ..Helmert::blank() };
+    let no_epoch = Helmert { dxyz: [1.0, 0.0, 0.0], ..Helmert::blank() };
+    vec![
+        single(false, cart.clone(), &[0.0; 4]),
+        moving(0, &[2001.0, 2002.0, 2001.0]),
+        moving(8, &[2001.0, 2002.0, 2001.0]),
+        moving(0, &[2001.0, 2001.0]),
+        moving(0, &[2001.0, nan, 2001.0]),
+        single(true, cart, &[0.0, 0.0, 7000000.0, 0.0]),
+        single(false, molodensky, &[0.0, 0.0, -6378137.0, 0.0]),
+        single(false, tide, &[0.0; 4]),
+        single(false, Body::Helmert(no_convention), &[0.0; 4]),
+        single(false, Body::Helmert(no_epoch), &[0.0; 4]),
+    ]
+}
