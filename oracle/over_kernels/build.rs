@@ -1,4 +1,5 @@
 //! Copies the six files of docs/src, each outside call renamed, and writes the module list that names the copies.
+//! PUBLISHED_SOURCE names another folder to copy from: oracle/wrong tries edited files so.
 use std::{env, fs, path::Path};
 
 const FILES: [&str; 6] = [
@@ -22,11 +23,12 @@ const STRANGERS: [&str; 12] =
 
 fn main() {
     let out = env::var("OUT_DIR").unwrap();
-    let source = Path::new("../../docs/src/src");
+    println!("cargo:rerun-if-env-changed=PUBLISHED_SOURCE");
+    let source = env::var("PUBLISHED_SOURCE").unwrap_or("../../docs/src/src".to_string());
     let mut modules = String::new();
     let mut places = 0;
     for file in FILES {
-        let path = source.join(format!("{file}.rs"));
+        let path = Path::new(&source).join(format!("{file}.rs"));
         println!("cargo:rerun-if-changed={}", path.display());
         let mut text = fs::read_to_string(&path).unwrap();
         for call in CALLS {

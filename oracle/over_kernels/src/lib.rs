@@ -60,6 +60,17 @@ include!(concat!(env!("OUT_DIR"), "/files.rs"));
 
 pub use run::{Ran, run};
 
+/// `geographic` on an ellipsoid of the table. `deformation` alone calls it, and leaves its height unread. On the axis a NaN Z gives
+/// φ NaN, the listed difference.
+pub fn geographic(ellipsoid: u32, tuple: [f64; 4]) -> [f64; 4] {
+    let e = Ellipsoid::named(ellipsoid_name(ellipsoid));
+    let mut place = geocart::GeoCart::geographic(&e, &Coor4D(tuple)).0;
+    if tuple[2].is_nan() && kernel::hypot(tuple[0], tuple[1]) < 1.0e-12 {
+        place[1] = f64::NAN;
+    }
+    place
+}
+
 /// The radii of curvature N and M on an ellipsoid of the table.
 pub fn radii(ellipsoid: u32, phi: f64) -> (f64, f64) {
     let e = Ellipsoid::named(ellipsoid_name(ellipsoid));

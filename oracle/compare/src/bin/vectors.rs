@@ -1,34 +1,41 @@
-//! The file of fixed answers: made of the second oracle's, replayed against the library.
+//! The files of fixed answers: made of the second oracle's, and the first of them replayed against the library.
 //!
-//!     vectors write FILE     vectors check FILE
-use compare::{random::Random, suites::SUITES};
-use job::{Answer, Body, Helmert, Job, NOT_GIVEN, Step, vectors};
+//!     vectors write FOLDER     vectors check FOLDER
+use compare::{draw, random::Random, suites::SUITES};
+use job::{Answer, Body, Helmert, Job, NOT_GIVEN, Step, canonical, vectors};
+use std::path::Path;
 use std::process::ExitCode;
 
 const SEED: u64 = 20_010;
 const JOBS: usize = 14;
 const LONGEST: u64 = 24;
+const PLACES: usize = 600;
 
 fn main() -> ExitCode {
     let args: Vec<String> = std::env::args().skip(1).collect();
-    let [what, path] = &args[..] else { panic!("vectors write FILE, or vectors check FILE") };
+    let [what, folder] = &args[..] else { panic!("vectors write FOLDER, or vectors check FOLDER") };
     match what.as_str() {
-        "write" => write(path),
-        "check" => check(path),
+        "write" => write(Path::new(folder)),
+        "check" => check(&Path::new(folder).join(ANSWERS)),
         _ => panic!("write or check"),
     }
 }
 
-fn write(path: &str) -> ExitCode {
+const ANSWERS: &str = "answers.bin";
+const GEOGRAPHIC: &str = "geographic.bin";
+
+fn write(folder: &Path) -> ExitCode {
     let jobs = marked_points().into_iter().chain(drawn());
     let answered: Vec<(Job, Answer)> = jobs.map(|job| (job.clone(), over_kernels::run(&job).answer)).collect();
     let tuples: usize = answered.iter().map(|(job, _)| job.list.len() / 4).sum();
-    std::fs::write(path, vectors::file(&answered)).unwrap();
-    println!("{} jobs of {tuples} tuples written", answered.len());
+    std::fs::create_dir_all(folder).unwrap();
+    std::fs::write(folder.join(ANSWERS), vectors::file(&answered)).unwrap();
+    std::fs::write(folder.join(GEOGRAPHIC), geographic()).unwrap();
+    println!("{} jobs of {tuples} tuples and {PLACES} places written", answered.len());
     ExitCode::SUCCESS
 }
 
-fn check(path: &str) -> ExitCode {
+fn check(path: &Path) -> ExitCode {
     let (mut passed, mut failed) = (0, 0);
     for (i, r) in vectors::records(&std::fs::read(path).unwrap()).iter().enumerate() {
         let ours = ours::shift_bytes(r.inverse, &r.sheet, &r.list, &r.velocities, &r.marks);
@@ -41,6 +48,21 @@ fn check(path: &str) -> ExitCode {
     }
     println!("{passed} passed, {failed} failed");
     if failed == 0 { ExitCode::SUCCESS } else { ExitCode::FAILURE }
+}
+
+/// Ellipsoid, tuple, and what `geographic` makes of it: its height reaches no step, so no job can show it.
+fn geographic() -> Vec<u8> {
+    let mut r = Random::new(SEED);
+    let mut out: Vec<u8> = [1, PLACES as u32].into_iter().flat_map(u32::to_le_bytes).collect();
+    for _ in 0..PLACES {
+        let ellipsoid = draw::ellipsoid(&mut r);
+        let [x, y, z] = draw::cartesian(&mut r);
+        let tuple = [x, y, z, draw::time(&mut r, 2010.0, 2000.0, true)];
+        let place = over_kernels::geographic(ellipsoid, tuple).map(canonical);
+        out.extend([ellipsoid, 0].into_iter().flat_map(u32::to_le_bytes));
+        out.extend(tuple.map(f64::to_bits).into_iter().chain(place).flat_map(u64::to_le_bytes));
+    }
+    out
 }
 
 // ----- The jobs --------------------------------------------------------------------------
