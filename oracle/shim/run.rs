@@ -9,7 +9,18 @@ pub struct Ran {
     pub nan_z_on_the_axis: usize,
 }
 
+/// As document 01 reads the Rust: with the listed difference.
 pub fn run(job: &Job) -> Ran {
+    steps(job, true)
+}
+
+/// As the Rust is, without the listed difference.
+#[allow(dead_code)]
+pub fn as_published(job: &Job) -> Answer {
+    steps(job, false).answer
+}
+
+fn steps(job: &Job, listed: bool) -> Ran {
     let mut ops = Vec::new();
     for (i, step) in job.steps.iter().enumerate() {
         match operator(&step.body, job) {
@@ -26,6 +37,9 @@ pub fn run(job: &Job) -> Ran {
         let turned = job.steps[i].inverted != job.inverse;
         let before = ran.answer.list.clone();
         ran.answer.counts[i] = apply(&ops[i], &job.steps[i], turned, job, &mut ran.answer.list) as u32;
+        if !listed {
+            continue;
+        }
         ran.nan_z_on_the_axis += nan_z_on_the_axis(&ops[i], &job.steps[i], turned, job, &before, &mut ran.answer.list);
     }
     ran

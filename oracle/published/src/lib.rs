@@ -45,4 +45,4 @@ mod molodensky;
 #[path = "../../../docs/src/src/inner_op/permtide.rs"]
 mod permtide;
 
-pub use run::{Ran, run};
+pub use run::{Ran, as_published, run};
