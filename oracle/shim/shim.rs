@@ -181,7 +181,11 @@ pub enum Error {
     MissingParam(String),
     BadParam(String, #[allow(dead_code)] String),
     #[allow(dead_code)]
-    Unexpected { message: String, expected: String, found: String },
+    Unexpected {
+        message: String,
+        expected: String,
+        found: String,
+    },
 }
 
 #[allow(dead_code)]
@@ -321,12 +325,7 @@ pub struct Op {
 }
 
 impl Op {
-    pub fn basic(
-        parameters: &RawParameters,
-        fwd: InnerOp,
-        inv: Option<InnerOp>,
-        gamut: &[OpParameter],
-    ) -> Result<Op, Error> {
+    pub fn basic(parameters: &RawParameters, fwd: InnerOp, inv: Option<InnerOp>, gamut: &[OpParameter]) -> Result<Op, Error> {
         let params = ParsedParameters::new(parameters, gamut)?;
         let descriptor = OpDescriptor::new(&parameters.instantiated_as, fwd, inv);
         Ok(Op { descriptor, params, steps: None })
@@ -383,11 +382,6 @@ impl Context for Lent<'_> {
     }
 }
 
-pub fn grids_at(
-    ctx: Option<&dyn Context>,
-    _grids: &[Arc<dyn Grid>],
-    _at: Coor4D,
-    _use_null_grid: bool,
-) -> Option<Coor4D> {
+pub fn grids_at(ctx: Option<&dyn Context>, _grids: &[Arc<dyn Grid>], _at: Coor4D, _use_null_grid: bool) -> Option<Coor4D> {
     ctx?.next_velocity()
 }

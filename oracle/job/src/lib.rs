@@ -52,27 +52,35 @@ impl Helmert {
 
     /// The eight vectors in the sheet's order.
     pub fn vectors(&self) -> [[f64; 3]; 8] {
-        [
-            self.translation,
-            self.xyz,
-            self.translation_rate,
-            self.dxyz,
-            self.rotation,
-            self.rxyz,
-            self.rotation_rate,
-            self.drxyz,
-        ]
+        [self.translation, self.xyz, self.translation_rate, self.dxyz, self.rotation, self.rxyz, self.rotation_rate, self.drxyz]
     }
 }
 
 #[derive(Clone, Debug)]
 pub enum Body {
     Helmert(Helmert),
-    Cart { ellipsoid: u32 },
+    Cart {
+        ellipsoid: u32,
+    },
     /// offsets: dx dy dz da df
-    Molodensky { flags: u32, first: u32, second: u32, offsets: [f64; 5] },
-    Permtide { ellipsoid: u32, to: u32, from: u32, k: f64 },
-    Deformation { flags: u32, ellipsoid: u32, dt: f64, t_epoch: f64 },
+    Molodensky {
+        flags: u32,
+        first: u32,
+        second: u32,
+        offsets: [f64; 5],
+    },
+    Permtide {
+        ellipsoid: u32,
+        to: u32,
+        from: u32,
+        k: f64,
+    },
+    Deformation {
+        flags: u32,
+        ellipsoid: u32,
+        dt: f64,
+        t_epoch: f64,
+    },
 }
 
 #[derive(Clone, Debug)]

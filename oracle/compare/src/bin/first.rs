@@ -150,7 +150,14 @@ fn cart(all: &mut Vec<Case>) {
         let body = Body::Cart { ellipsoid };
         let (geo, xyz) = (Place::Geographic, Place::Cartesian);
         let name = |way| format!("cart, ellipsoid {ellipsoid}, {way}");
-        all.push(Case { step: "cart forward", name: name("forward"), body: body.clone(), takes: geo, gives: xyz, inverse: false });
+        all.push(Case {
+            step: "cart forward",
+            name: name("forward"),
+            body: body.clone(),
+            takes: geo,
+            gives: xyz,
+            inverse: false,
+        });
         all.push(Case { step: "cart inverse", name: name("inverse"), body, takes: xyz, gives: geo, inverse: true });
     }
 }

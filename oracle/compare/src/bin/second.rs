@@ -1,4 +1,5 @@
-//! Second oracle: every bit of our answers beside those of the published code over our kernels. No tolerance.
+//! Second oracle: every bit of our answers beside those of the published code over our kernels, and what `sillfeather_check` says of
+//! each sheet beside the Rust's `new`. No tolerance.
 //!
 //!     second [tuples a suite and direction, 50000] [seed, 1]
 use compare::{draw, random::Random, suites::SUITES, tell};
@@ -52,7 +53,8 @@ fn compare(name: &str, wanted: usize, draw: impl Fn(usize, &mut Random) -> job::
         } else {
             tally.refused += 1;
         }
-        if !ran.answer.same(&ours) {
+        let checked = ours::check(&job::sheet(&job.steps));
+        if !ran.answer.same(&ours) || checked != (ran.answer.refusal, ran.answer.step) {
             tally.parted += 1;
             if tally.parted <= 3 {
                 tell::difference(name, &job, &ran.answer, &ours);
