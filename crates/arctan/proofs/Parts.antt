@@ -4,15 +4,15 @@ use Prim.Native.Nat.{ℕ, zero, suc, _+_, _*_, _≤_, _<_}
 use native.Mathlib.Nat.{zero-mul, mul-pos, zero-lt-suc}
 use native.Mathlib.Omega.{arith}
 use mathlib.Core.Bool.{Bool, true, false, cond, _&&_, _||_, true≢false, and-false}
-use lib.IntN.{ℤ, pos, negsuc}
+use lib.IntN.{ℤ, negsuc}
 use lib.Ieee.{Float, nan, inf, fin, ofBits, isNan, neg, lt, eq, div, up, down}
 use lib.Ieee.Fits.{up-pos, down-pos}
 use borrow.Author.Tests.{lt-ltb, le-ltb}
-use Rattle.floats.specs.Binary64.{_⊗_, _⊘_, bits}
+use Rattle.floats.specs.Binary64.{_⊘_, bits}
 use Rattle.floats.specs.Number.{signOf, absOf}
 use Rattle.floats.proofs.Zero.{equals-zero, differs-from-zero, sign-of-other}
 use Rattle.floats.proofs.Laws.{abs-is-not-negative}
-use Rattle.arctan.specs.Arctan.{one, infinity, moderate, scaleOf, divisible, withinOf, octantIndexOf, quotientAngleOf, insideOf, angleOf, signed, atan2Of}
+use Rattle.arctan.specs.Arctan.{one, infinity, moderate, withinOf, octantIndexOf, quotientAngleOf, insideOf, angleOf, signed, atan2Of}
 use Rattle.arctan.specs.Arctan as arctan
 use Rattle.arctan.specs.Table.{octantAt}
 
@@ -64,32 +64,27 @@ pub zero-is-below : (n : ℕ) (e d : ℤ) → lt (fin false zero e) (fin false (
 unfolding lt
 zero-is-below n e d = lt-ltb (0 * up e * down d) (suc n * up d * down e) (let z = nothing e (down d) in let p = something n e d in omega arith)
 
-no-zero-is-divided : (a : Float) (e : ℤ) → divisible a (fin false zero e) ≡ false
-unfolding divisible moderate ofBits
-no-zero-is-divided a e =
-    rw (no-zero-is-above 1 (negsuc 699) e, no-zero-is-above zero (pos zero) e, and-false (lt a (bits 0x6bb0_0000_0000_0000)), and-false (lt a infinity))
+zero-is-not-moderate : (a : Float) (e : ℤ) → moderate a (fin false zero e) ≡ false
+unfolding moderate ofBits
+zero-is-not-moderate a e = rw (no-zero-is-above 1 (negsuc 699) e) (and-false (lt a (bits 0x6bb0_0000_0000_0000)))
 
-no-nan-is-divided : (a : Float) → divisible a nan ≡ false
-unfolding divisible moderate lt ofBits
-no-nan-is-divided a = rw (and-false (lt a (bits 0x6bb0_0000_0000_0000)), and-false (lt a infinity))
-
--- what is divided is neither NaN nor zero nor infinite
-divided-parts-are-plain : (a b : Float) → signOf a ≡ false → signOf b ≡ false → divisible (cond (lt a b) b a) (cond (lt a b) a b) ≡ true → Plain a × Plain b
-unfolding divisible moderate lt signOf ofBits
-divided-parts-are-plain nan b p q h = absurd (true≢false (sym h))
-divided-parts-are-plain (inf true) b p q h = absurd (true≢false p)
-divided-parts-are-plain (inf false) nan p q h = absurd (true≢false (sym h))
-divided-parts-are-plain (inf false) (inf t) p q h = absurd (true≢false (sym h))
-divided-parts-are-plain (inf false) (fin t n d) p q h = absurd (true≢false (sym h))
-divided-parts-are-plain (fin true m e) b p q h = absurd (true≢false p)
-divided-parts-are-plain (fin false m e) nan p q h = absurd (true≢false (sym h ∙ no-nan-is-divided (fin false m e)))
-divided-parts-are-plain (fin false m e) (inf true) p q h = absurd (true≢false q)
-divided-parts-are-plain (fin false m e) (inf false) p q h = absurd (true≢false (sym h))
-divided-parts-are-plain (fin false m e) (fin true n d) p q h = absurd (true≢false q)
-divided-parts-are-plain (fin false zero e) (fin false zero d) p q h = absurd (true≢false (sym (rw (no-zero-is-above zero e d) at h) ∙ no-zero-is-divided (fin false zero e) d))
-divided-parts-are-plain (fin false zero e) (fin false (suc n) d) p q h = absurd (true≢false (sym (rw (zero-is-below n e d) at h) ∙ no-zero-is-divided (fin false (suc n) d) e))
-divided-parts-are-plain (fin false (suc m) e) (fin false zero d) p q h = absurd (true≢false (sym (rw (no-zero-is-above (suc m) e d) at h) ∙ no-zero-is-divided (fin false (suc m) e) d))
-divided-parts-are-plain (fin false (suc m) e) (fin false (suc n) d) p q h = (plain-if-not-zero false m e, plain-if-not-zero false n d)
+-- moderate magnitudes are neither NaN nor zero nor infinite
+moderate-parts-are-plain : (a b : Float) → signOf a ≡ false → signOf b ≡ false → moderate (cond (lt a b) b a) (cond (lt a b) a b) ≡ true → Plain a × Plain b
+unfolding moderate lt signOf ofBits
+moderate-parts-are-plain nan b p q h = absurd (true≢false (sym h))
+moderate-parts-are-plain (inf true) b p q h = absurd (true≢false p)
+moderate-parts-are-plain (inf false) nan p q h = absurd (true≢false (sym h))
+moderate-parts-are-plain (inf false) (inf t) p q h = absurd (true≢false (sym h))
+moderate-parts-are-plain (inf false) (fin t n d) p q h = absurd (true≢false (sym h))
+moderate-parts-are-plain (fin true m e) b p q h = absurd (true≢false p)
+moderate-parts-are-plain (fin false m e) nan p q h = absurd (true≢false (sym h ∙ and-false (lt (fin false m e) (bits 0x6bb0_0000_0000_0000))))
+moderate-parts-are-plain (fin false m e) (inf true) p q h = absurd (true≢false q)
+moderate-parts-are-plain (fin false m e) (inf false) p q h = absurd (true≢false (sym h))
+moderate-parts-are-plain (fin false m e) (fin true n d) p q h = absurd (true≢false q)
+moderate-parts-are-plain (fin false zero e) (fin false zero d) p q h = absurd (true≢false (sym (rw (no-zero-is-above zero e d) at h) ∙ zero-is-not-moderate (fin false zero e) d))
+moderate-parts-are-plain (fin false zero e) (fin false (suc n) d) p q h = absurd (true≢false (sym (rw (zero-is-below n e d) at h) ∙ zero-is-not-moderate (fin false (suc n) d) e))
+moderate-parts-are-plain (fin false (suc m) e) (fin false zero d) p q h = absurd (true≢false (sym (rw (no-zero-is-above (suc m) e d) at h) ∙ zero-is-not-moderate (fin false (suc m) e) d))
+moderate-parts-are-plain (fin false (suc m) e) (fin false (suc n) d) p q h = (plain-if-not-zero false m e, plain-if-not-zero false n d)
 
 is-the-nan : (x : Float) → isNan x ≡ true → x ≡ nan
 unfolding isNan
@@ -114,11 +109,11 @@ module _ (y x : Float) where
   abbrev small : Float
   small = cond (lt a b) a b
 
-  pub usual-point : divisible large small ≡ true
-      → signed (lt y (bits 0)) (withinOf (octantAt k) (quotientAngleOf k (large ⊗ scaleOf large small) (small ⊗ scaleOf large small))) ≡ atan2Of y x
+  pub usual-point : moderate large small ≡ true
+      → signed (lt y (bits 0)) (withinOf (octantAt k) (quotientAngleOf k large small)) ≡ atan2Of y x
   unfolding atan2Of angleOf insideOf
   usual-point h =
-      let plain = divided-parts-are-plain a b (abs-is-not-negative x) (abs-is-not-negative y) h in
+      let plain = moderate-parts-are-plain a b (abs-is-not-negative x) (abs-is-not-negative y) h in
       rw (
         sign-of-other y (sym (zero-of-abs y) ∙ plain .1 .1),
         sign-of-other x (sym (zero-of-abs x) ∙ plain .0 .1),

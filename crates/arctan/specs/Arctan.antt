@@ -65,16 +65,14 @@ unfoldable pub moderate : Float → Float → Bool
 moderate a b = lt a (bits 0x6bb0_0000_0000_0000) && lt (bits 0x1430_0000_0000_0000) b
 
 -- other magnitudes are scaled before they are divided: by 2⁻³⁰⁰ if the larger is above 1, else by 2³⁰⁰
-unfoldable pub scaleOf : Float → Float → Float
-scaleOf a b = cond (moderate a b) one (cond (lt one a) (bits 0x2d30_0000_0000_0000) (bits 0x52b0_0000_0000_0000))
+unfoldable pub scaleOf : Float → Float
+scaleOf a = cond (lt one a) (bits 0x2d30_0000_0000_0000) (bits 0x52b0_0000_0000_0000)
 
--- whether the quotient b/a matters: both are finite, and it is not below 2⁻¹⁰⁰ (nor is it asked where both are moderate)
-unfoldable pub divisible : Float → Float → Bool
-divisible a b = moderate a b || lt a infinity && (lt zero b && le (a ⊗ bits 0x39b0_0000_0000_0000) b)
-
--- a quotient below 2⁻¹⁰⁰ is its own angle, and beside π/2 or π it is nothing
-unfoldable pub negligibleOf : ℕ → Float → Float → Float
-negligibleOf k a b = cond (eqb k 0) (b ⊘ a) (octantAt k .base)
+-- unless the quotient is below 2⁻¹⁰⁰: then it is its own angle, and beside π/2 or π it is nothing
+unfoldable pub extremeAngleOf : ℕ → Float → Float → Float
+extremeAngleOf k a b =
+    cond (le (a ⊗ bits 0x39b0_0000_0000_0000) b) (quotientAngleOf k (a ⊗ scaleOf a) (b ⊗ scaleOf a))
+    (cond (eqb k 0) (b ⊘ a) (octantAt k .base))
 
 -- an angle, or the nearer end of the octant if it lies outside
 unfoldable pub withinOf : Octant → Float → Float
@@ -91,9 +89,7 @@ insideOf left a b =
     let k = octantIndexOf left steep in
     let larger = cond steep b a in
     let smaller = cond steep a b in
-    let scale = scaleOf larger smaller in
-    withinOf (octantAt k)
-    (cond (divisible larger smaller) (quotientAngleOf k (larger ⊗ scale) (smaller ⊗ scale)) (negligibleOf k larger smaller))
+    withinOf (octantAt k) (cond (moderate larger smaller) (quotientAngleOf k larger smaller) (extremeAngleOf k larger smaller))
 
 -- along the x axis, to the right or to the left; and halfway between the axes
 unfoldable pub alongOf : Bool → Float

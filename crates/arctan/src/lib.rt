@@ -2,15 +2,14 @@
 //
 // Of the two magnitudes the smaller, b, is divided by the larger, a, once: 16 cells of b/a, told by the bits, each have a cut c whose arctangent is known in two parts,
 // and arctan (b/a) = arctan c + arctan t with t = (b - c·a)/(a + c·b), which is small, so that a polynomial of five terms serves. The octant adds the result to 0 or
-// π/2, or takes it away from π/2 or π. Proved: NaN exactly where a part is; odd in y; IEEE 754's zeros, infinities and quadrants. Measured: docs/KERNELS.md.
+// π/2, or takes it away from π/2 or π. Proved: NaN exactly where a part is; odd in y; IEEE 754's zeros, infinities and quadrants.
+// Measured against MPFR over 1.3 million points: within 0.76 units in the last place, absolute within 2^-51.85 (measure/atan2_hypot.c).
 // Longitude and latitude in `cart`, `geocart` and the geocentric latitude are taken by it.
 ghost use mathlib.Core.Path.{_≡_};
 ghost use Prim.Native.Nat.{_-_};
-ghost use mathlib.Core.Bool.{cond, false};
-ghost use lib.Ieee.{lt};
-ghost use Rattle.floats.specs.Number.{absOf};
+ghost use mathlib.Core.Bool.{cond};
 ghost use Rattle.arctan.specs.Table.{cellAt, octantAt};
-ghost use Rattle.arctan.specs.Arctan.{tailOf, headOf, smallAngleOf, cutAngleOf, cellIndexOf, small, quotientAngleOf, moderate, scaleOf, divisible, negligibleOf, withinOf, octantIndexOf, insideOf, alongOf, diagonalOf, angleOf, atan2Of};
+ghost use Rattle.arctan.specs.Arctan.{tailOf, headOf, smallAngleOf, cutAngleOf, cellIndexOf, small, quotientAngleOf, moderate, scaleOf, extremeAngleOf, withinOf, octantIndexOf, insideOf, alongOf, diagonalOf, angleOf, atan2Of};
 
 const QUARTER_PI: f64 = 0.7853981633974483;
 
@@ -162,6 +161,13 @@ fn cell_at(i: u64) -> Cell
             angle: 0.07019697107187017,
             rest: 3.4514650303503937e-16,
         },
+        16 => Cell {
+            coarse: 0.0,
+            fine: 0.0,
+            angle: 0.0,
+            rest: 0.0,
+        },
+        // never asked for, and the same: so the rows are read without a test
         _ => Cell {
             coarse: 0.0,
             fine: 0.0,
@@ -287,35 +293,19 @@ fn is_moderate(a: f64, b: f64) -> bool
     if a < MOST { LEAST < b } else { false }
 }
 
-fn scale_of(a: f64, b: f64) -> f64
-    ensures { λ r. ⌜ r ≡ scaleOf a b ⌝ }
+fn scale_of(a: f64) -> f64
+    ensures { λ r. ⌜ r ≡ scaleOf a ⌝ }
 {
-    if is_moderate(a, b) {
-        1.0
-    } else {
-        if a > 1.0 { DOWN } else { UP }
-    }
+    if a > 1.0 { DOWN } else { UP }
 }
 
-// Whether a is finite, b above zero, and b/a not below 2^-100.
-fn is_divisible(a: f64, b: f64) -> bool
-    ensures { λ r. ⌜ r ≡ divisible a b ⌝ }
+fn extreme_angle(k: u64, a: f64, b: f64) -> f64
+    ensures { λ r. ⌜ r ≡ extremeAngleOf k a b ⌝ }
 {
-    if is_moderate(a, b) {
-        return true;
+    if a * NEGLIGIBLE <= b {
+        let scale = scale_of(a);
+        return quotient_angle(k, a * scale, b * scale);
     }
-    if a < 1.0 / 0.0 {
-        if 0.0 < b {
-            return a * NEGLIGIBLE <= b;
-        }
-        return false;
-    }
-    false
-}
-
-fn negligible(k: u64, a: f64, b: f64) -> f64
-    ensures { λ r. ⌜ r ≡ negligibleOf k a b ⌝ }
-{
     if k == 0 {
         return b / a;
     }
@@ -338,16 +328,19 @@ fn choose(first: bool, a: f64, b: f64) -> f64
     if first { a } else { b }
 }
 
-// the angle of magnitudes whose quotient is below 2^-100
+// the angle of magnitudes that are neither zero nor infinite
 fn inside(left: bool, a: f64, b: f64) -> f64
-    requires { ⌜ divisible (cond (lt a b) b a) (cond (lt a b) a b) ≡ false ⌝ }
     ensures { λ r. ⌜ r ≡ insideOf left a b ⌝ }
 {
     let steep = a < b;
     let k = octant_index(left, steep);
     let large = choose(steep, b, a);
     let small = choose(steep, a, b);
-    within(octant_at(k), negligible(k, large, small))
+    if is_moderate(large, small) {
+        within(octant_at(k), quotient_angle(k, large, small))
+    } else {
+        within(octant_at(k), extreme_angle(k, large, small))
+    }
 }
 
 // along the x axis
@@ -364,9 +357,8 @@ fn diagonal(left: bool) -> f64
     if left { THREE_QUARTER_PI } else { QUARTER_PI }
 }
 
-// The angle of (x, b) for a magnitude b: on an axis, with an infinite part, or with a quotient below 2^-100.
+// the angle of (x, b) for a magnitude b
 fn angle(b: f64, x: f64) -> f64
-    requires { ⌜ divisible (cond (lt (absOf x) b) b (absOf x)) (cond (lt (absOf x) b) (absOf x) b) ≡ false ⌝ }
     ensures { λ r. ⌜ r ≡ angleOf b x ⌝ }
 {
     let a = floats::abs(x);
@@ -399,13 +391,9 @@ pub fn atan2(y: f64, x: f64) -> f64
     let large = choose(steep, b, a);
     let small = choose(steep, a, b);
     // no part is NaN, zero or infinite: the usual case, at once
-    if is_divisible(large, small) {
+    if is_moderate(large, small) {
         let k = octant_index(x < 0.0, steep);
-        let scale = scale_of(large, small);
-        let r = within(
-            octant_at(k),
-            quotient_angle(k, large * scale, small * scale),
-        );
+        let r = within(octant_at(k), quotient_angle(k, large, small));
         return if y < 0.0 { -r } else { r };
     }
     if floats::is_nan(y) {

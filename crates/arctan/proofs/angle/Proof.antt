@@ -41,7 +41,7 @@ unfolding angleOf
 returns-5 c = rw (c .along2 .ensures, c .before .before .before .before .before .negative .ensures, c .before .before .before .before .if1 .left, (rw (c .before .before .before .before .before .before .abs .ensures) at (c .before .before .before .if2 .left)), (rw one-over-zero at (c .before .before .if3 .left)), (rw (one-over-zero, c .before .before .before .before .before .before .abs .ensures) at (c .before .if5 .taken)))
 
 inside-requires : tie.Need-inside-requires
-inside-requires c κs = rw (c .before .before .before .before .before .abs .ensures) (c .before .before .before .before .before .before .pre)
+inside-requires c κs = search needs
 
 returns-6 : tie.Need-returns-6
 unfolding angleOf

@@ -1,4 +1,4 @@
--- `arctan::atan2` meets its contract: magnitudes that are divided have no NaN, zero or infinity among them, so that the code may take them first. Assumes nothing.
+-- `arctan::atan2` meets its contract: magnitudes that are moderate have no NaN, zero or infinity among them, so that the code may take them first. Assumes nothing.
 use mathlib.Core.Path.{sym, _∙_}
 use borrow.Author.Needs.{needs}
 use Rattle.arctan.proofs.Parts.{usual-point, nan-first, nan-second, below-the-axis, above-the-axis}
@@ -17,14 +17,11 @@ choose-requires c κs = search needs
 choose-requires-2 : tie.Need-choose-requires-2
 choose-requires-2 c κs = search needs
 
-is-divisible-requires : tie.Need-is-divisible-requires
-is-divisible-requires c κs = search needs
+is-moderate-requires : tie.Need-is-moderate-requires
+is-moderate-requires c κs = search needs
 
 octant-index-requires : tie.Need-octant-index-requires
 octant-index-requires c κs = search needs
-
-scale-of-requires : tie.Need-scale-of-requires
-scale-of-requires c κs = search needs
 
 octant-at-requires : tie.Need-octant-at-requires
 octant-at-requires c κs = search needs
@@ -37,21 +34,25 @@ within-requires c κs = search needs
 
 returns : tie.Need-returns
 returns c =
-    let t = c .before .before .before .before .before .before .before in
+    let t = c .before .before .before .before .before .before in
     let u = t .before .before .before in
-    rw (c .before .within .ensures, c .before .before .quotient-angle .ensures, c .before .before .before .octant-at .ensures, c .before .before .before .before .scale-of .ensures, c .before .before .before .before .before .octant-index .ensures, t .before .choose2 .ensures, t .before .before .choose .ensures, u .abs2 .ensures, u .before .abs .ensures)
+    let x = u .before .before .args .x in
+    let y = u .before .before .args .y in
+    rw (c .before .within .ensures, c .before .before .quotient-angle .ensures, c .before .before .before .octant-at .ensures, c .before .before .before .before .octant-index .ensures, t .before .choose2 .ensures, t .before .before .choose .ensures, u .abs2 .ensures, u .before .abs .ensures)
     (rw (c .if2 .taken) at
-    (usual-point (u .before .before .args .y) (u .before .before .args .x)
-    ((rw (t .before .choose2 .ensures, t .before .before .choose .ensures, u .abs2 .ensures, u .before .abs .ensures) at (sym (t .is-divisible .ensures))) ∙ c .before .before .before .before .before .before .if1 .taken)))
+    (usual-point y x
+    ((rw (t .before .choose2 .ensures, t .before .before .choose .ensures, u .abs2 .ensures, u .before .abs .ensures) at (sym (t .is-moderate .ensures))) ∙ c .before .before .before .before .before .if1 .taken)))
 
 returns-2 : tie.Need-returns-2
 returns-2 c =
-    let t = c .before .before .before .before .before .before .before in
+    let t = c .before .before .before .before .before .before in
     let u = t .before .before .before in
-    rw (c .before .within .ensures, c .before .before .quotient-angle .ensures, c .before .before .before .octant-at .ensures, c .before .before .before .before .scale-of .ensures, c .before .before .before .before .before .octant-index .ensures, t .before .choose2 .ensures, t .before .before .choose .ensures, u .abs2 .ensures, u .before .abs .ensures)
+    let x = u .before .before .args .x in
+    let y = u .before .before .args .y in
+    rw (c .before .within .ensures, c .before .before .quotient-angle .ensures, c .before .before .before .octant-at .ensures, c .before .before .before .before .octant-index .ensures, t .before .choose2 .ensures, t .before .before .choose .ensures, u .abs2 .ensures, u .before .abs .ensures)
     (rw (c .if2 .left) at
-    (usual-point (u .before .before .args .y) (u .before .before .args .x)
-    ((rw (t .before .choose2 .ensures, t .before .before .choose .ensures, u .abs2 .ensures, u .before .abs .ensures) at (sym (t .is-divisible .ensures))) ∙ c .before .before .before .before .before .before .if1 .taken)))
+    (usual-point y x
+    ((rw (t .before .choose2 .ensures, t .before .before .choose .ensures, u .abs2 .ensures, u .before .abs .ensures) at (sym (t .is-moderate .ensures))) ∙ c .before .before .before .before .before .if1 .taken)))
 
 is-nan-requires : tie.Need-is-nan-requires
 is-nan-requires c κs = search needs
@@ -69,10 +70,7 @@ returns-4 c =
     (sym (c .before .is-nan2 .ensures) ∙ c .if4 .taken)
 
 angle-requires : tie.Need-angle-requires
-angle-requires c κs =
-    let t = c .before .before .before .before .before in
-    let u = t .before .before .before in
-    rw (u .abs2 .ensures) ((rw (t .before .choose2 .ensures, t .before .before .choose .ensures, u .abs2 .ensures, u .before .abs .ensures) at (sym (t .is-divisible .ensures))) ∙ c .before .before .before .before .if1 .left)
+angle-requires c κs = search needs
 
 negative-requires : tie.Need-negative-requires
 negative-requires c κs = search needs
@@ -103,9 +101,8 @@ atan2-spec =
     abs-requires-2
     choose-requires
     choose-requires-2
-    is-divisible-requires
+    is-moderate-requires
     octant-index-requires
-    scale-of-requires
     octant-at-requires
     quotient-angle-requires
     within-requires
