@@ -25,7 +25,7 @@ const ANSWERS: &str = "answers.bin";
 const GEOGRAPHIC: &str = "geographic.bin";
 
 fn write(folder: &Path) -> ExitCode {
-    let jobs = marked_points().into_iter().chain(drawn());
+    let jobs = marked_points().into_iter().chain(refused()).chain(drawn());
     let answered: Vec<(Job, Answer)> = jobs.map(|job| (job.clone(), over_kernels::run(&job).answer)).collect();
     let tuples: usize = answered.iter().map(|(job, _)| job.list.len() / 4).sum();
     std::fs::create_dir_all(folder).unwrap();
@@ -114,4 +114,25 @@ fn marked_points() -> Vec<Job> {
         single(false, Body::Helmert(no_convention), &[0.0; 4]),
         single(false, Body::Helmert(no_epoch), &[0.0; 4]),
     ]
+}
+
+/// Steps that the Rust's `new` refuses, behind steps that it takes: 5, 6, 7 and 8.
+fn refused() -> Vec<Job> {
+    let wrong = [
+        Body::Permtide { ellipsoid: 1, to: 4, from: 1, k: 0.3 },
+        Body::Helmert(Helmert { drxyz: [0.0, 0.0, 1.0], t_epoch: 2000.0, ..Helmert::blank() }),
+        Body::Helmert(Helmert { convention: 2, ds: 1.0, ..Helmert::blank() }),
+        Body::Deformation { flags: 0, ellipsoid: 1, dt: NOT_GIVEN, t_epoch: NOT_GIVEN },
+    ];
+    let mut jobs = Vec::new();
+    for (before, body) in wrong.into_iter().enumerate() {
+        let mut job = single(false, Body::Cart { ellipsoid: 1 }, &[0.5, 0.25, -0.0, NOT_GIVEN]);
+        if matches!(body, Body::Deformation { .. }) {
+            (job.velocities, job.marks) = (vec![1.0, 2.0, 3.0], vec![1]);
+        }
+        job.steps = vec![job.steps[0].clone(); before];
+        job.steps.push(Step { inverted: true, body });
+        jobs.push(job);
+    }
+    jobs
 }
