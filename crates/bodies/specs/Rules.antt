@@ -1,0 +1,67 @@
+-- Rule 5 on a body, and rules 5 to 8 on a step. What a record's fields may be is said in the crate of its kind; here stands what only the bytes show.
+use Prim.Native.Nat.{ℕ}
+use mathlib.Core.Bool.{Bool, false, _&&_}
+use mathlib.Core.List.{List}
+use lib.Dec.{eqb}
+use lib.ListN.{length}
+use Rattle.words.specs.Words.{word32, oneNanAt}
+use Rattle.helmert.specs.Rules.{fieldsInRuleOf, lacksConventionOf, lacksEpochOf}
+use Rattle.cart.specs.Record.{inRuleOf as cartInRuleOf}
+use Rattle.molodensky.specs.Record.{inRuleOf as molodenskyInRuleOf}
+use Rattle.permtide.specs.Record.{inRuleOf as permtideInRuleOf}
+use Rattle.deformation.specs.Record.{inRuleOf as deformationInRuleOf, neitherOf}
+use Rattle.bodies.specs.declared.Step.{Step}
+use Rattle.bodies.specs.declared.Step.the-variants.{Cart, Permtide, Deformation, Molodensky, Helmert}
+use Rattle.bodies.specs.Kinds.{byKind, lengthOf}
+use Rattle.bodies.specs.Read.{stepOf}
+
+-- ---- a step's record
+
+-- rule 5, "a body field outside its rule": kept
+unfoldable pub stepInRule : Step → Bool
+stepInRule (Helmert h) = fieldsInRuleOf h
+stepInRule (Cart r) = cartInRuleOf r
+stepInRule (Molodensky r) = molodenskyInRuleOf r
+stepInRule (Permtide r) = permtideInRuleOf r
+stepInRule (Deformation r) = deformationInRuleOf r
+
+-- rule 6, "rotated, convention none": broken
+unfoldable pub lacksConvention : Step → Bool
+lacksConvention (Helmert h) = lacksConventionOf h
+lacksConvention (Cart r) = false
+lacksConvention (Molodensky r) = false
+lacksConvention (Permtide r) = false
+lacksConvention (Deformation r) = false
+
+-- rule 7, "dynamic, t_epoch not given": broken
+unfoldable pub lacksEpoch : Step → Bool
+lacksEpoch (Helmert h) = lacksEpochOf h
+lacksEpoch (Cart r) = false
+lacksEpoch (Molodensky r) = false
+lacksEpoch (Permtide r) = false
+lacksEpoch (Deformation r) = false
+
+-- rule 8, "neither dt nor t_epoch": broken
+unfoldable pub lacksDuration : Step → Bool
+lacksDuration (Helmert h) = false
+lacksDuration (Cart r) = false
+lacksDuration (Molodensky r) = false
+lacksDuration (Permtide r) = false
+lacksDuration (Deformation r) = neitherOf r
+
+-- ---- a body
+
+-- Reserved words are 0, and a number that may be "not given" is written so in one way only: Helmert's t_epoch and t_obs, deformation's dt and t_epoch.
+unfoldable pub writtenInRule : ℕ → List ℕ → Bool
+writtenInRule kind b =
+    byKind kind
+    (oneNanAt b 232 && oneNanAt b 240)
+    (eqb (word32 b 4) 0)
+    (eqb (word32 b 12) 0)
+    (eqb (word32 b 12) 0)
+    (oneNanAt b 8 && oneNanAt b 16)
+    false
+
+-- rule 5 on the bytes of a body: its length is its kind's, it is written by the rule, and so are the fields of its record
+unfoldable pub bodyInRule : ℕ → List ℕ → Bool
+bodyInRule kind b = eqb (length b) (lengthOf kind) && writtenInRule kind b && stepInRule (stepOf kind b)

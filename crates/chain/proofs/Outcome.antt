@@ -1,0 +1,32 @@
+-- Which outcome each of an entry's tests leads to. Assumes nothing.
+use Prim.Native.Nat.{ℕ}
+use mathlib.Core.Path.{_≡_}
+use mathlib.Core.Bool.{Bool, true, false}
+use mathlib.Core.List.{List}
+use borrow.Author.Tests.{eq-eqb, ne-eqb}
+use lib.ListN.{length}
+use lib.Ieee.{Float}
+use Rattle.sheet.specs.declared.Entry.{Entry}
+use Rattle.sheet.specs.declared.Refusal.{Refusal}
+use Rattle.sheet.specs.Rules.{ofSheet, firstBroken}
+use Rattle.chain.specs.Chain.{chainOf}
+use Rattle.chain.specs.Rules.{refusal9, refusal10, shiftRefusalOf, outcome, refusedAnswer, ranOutcome, outcomeOf}
+
+module _ (own : Refusal) (deforms inverse : Bool) (es : List Entry) (l velocities : List Float) (marks : List ℕ) where
+  pub refused-own : (own .number ≡ 0 → ⊥) → outcomeOf own deforms inverse es l velocities marks ≡ outcome (refusedAnswer own) l
+  unfolding outcomeOf shiftRefusalOf firstBroken
+  refused-own h = rw (ne-eqb (own .number) 0 h, ne-eqb (own .number) 0 h)
+
+  pub refused-9 : own .number ≡ 0 → refusal9 (length l) ≡ true → outcomeOf own deforms inverse es l velocities marks ≡ outcome (refusedAnswer (ofSheet 9)) l
+  unfolding outcomeOf shiftRefusalOf firstBroken
+  refused-9 h nine = rw (eq-eqb (own .number) 0 h, nine)
+
+  pub refused-10 : own .number ≡ 0 → refusal9 (length l) ≡ false → refusal10 deforms (length l) velocities marks ≡ true
+      → outcomeOf own deforms inverse es l velocities marks ≡ outcome (refusedAnswer (ofSheet 10)) l
+  unfolding outcomeOf shiftRefusalOf firstBroken
+  refused-10 h nine ten = rw (eq-eqb (own .number) 0 h, nine, ten)
+
+  pub run-through : own .number ≡ 0 → refusal9 (length l) ≡ false → refusal10 deforms (length l) velocities marks ≡ false
+      → outcomeOf own deforms inverse es l velocities marks ≡ ranOutcome (chainOf inverse velocities marks es l)
+  unfolding outcomeOf shiftRefusalOf firstBroken
+  run-through h nine ten = rw (eq-eqb (own .number) 0 h, nine, ten)

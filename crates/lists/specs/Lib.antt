@@ -1,0 +1,3 @@
+-- What the contracts of `lists` cite.
+pub mod Flat
+pub mod Run

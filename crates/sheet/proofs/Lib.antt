@@ -1,0 +1,7 @@
+-- What the proofs of this crate share, and the laws that callers cite.
+pub mod Order
+pub mod Entries
+pub mod Writing
+pub mod WriterOrder
+pub mod Examples
+pub mod Each
