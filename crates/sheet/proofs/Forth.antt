@@ -111,17 +111,19 @@ module _ (sheet : Sheet) where
   unfolding directoryBytes
   directory-split i zero = ([], simp (add-zero, append-nil))
   directory-split i (suc k) =
-      let r = directory-split i k in
-      (r .0 ++ placeBytes sheet (suc (i + k)),
-      rw add-suc (rw (← append-assoc) (ap (λ (l : List ℕ). l ++ placeBytes sheet (suc (i + k))) (r .1))))
+      let r = directory-split i k in (
+        r .0 ++ placeBytes sheet (suc (i + k)),
+        rw add-suc (rw (← append-assoc) (ap (λ (l : List ℕ). l ++ placeBytes sheet (suc (i + k))) (r .1))),
+      )
 
   bodies-split : (i k : ℕ) → (q : List ℕ) × (bodiesBytes sheet (suc (i + k)) ≡ bodiesBytes sheet i ++ bytesOf (stepIn sheet i) ++ q)
   unfolding bodiesBytes
   bodies-split i zero = ([], simp (add-zero, append-nil))
   bodies-split i (suc k) =
-      let r = bodies-split i k in
-      (r .0 ++ bytesOf (stepIn sheet (suc (i + k))),
-      rw add-suc (rw (← append-assoc) (ap (λ (l : List ℕ). l ++ bytesOf (stepIn sheet (suc (i + k)))) (r .1))))
+      let r = bodies-split i k in (
+        r .0 ++ bytesOf (stepIn sheet (suc (i + k))),
+        rw add-suc (rw (← append-assoc) (ap (λ (l : List ℕ). l ++ bytesOf (stepIn sheet (suc (i + k)))) (r .1))),
+      )
 
   header-at : take 16 (drop 0 (sheetBytesOf sheet)) ≡ headerBytes sheet
   unfolding sheetBytesOf
@@ -151,7 +153,7 @@ module _ (sheet : Sheet) where
       let m : n ≡ suc (i + (n - suc i)) = omega arith in
       let e : bodiesBytes sheet n ≡ bodiesBytes sheet i ++ bytesOf (stepIn sheet i) ++ r .0 = ap (bodiesBytes sheet) m ∙ r .1 in
       let p : length (front ++ bodiesBytes sheet i) ≡ bodyStart sheet i =
-          simp (length-append, header-length, directory-length) (omega (arith, bodies-length sheet i)) in
+      simp (length-append, header-length, directory-length) (omega (arith, bodies-length sheet i)) in
       ap (λ (l : List ℕ). take (lengthIn sheet i) (drop (bodyStart sheet i) (front ++ l))) e
       ∙ simp append-assoc (simp append-assoc at
       (part (front ++ bodiesBytes sheet i) (bytesOf (stepIn sheet i)) (r .0) (bodyStart sheet i) (lengthIn sheet i) p (bytes-length (stepIn sheet i))))

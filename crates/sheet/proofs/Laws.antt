@@ -168,12 +168,13 @@ pub written-then-read : (sheet : Sheet) (room : ℕ) → HeldSheet sheet → wri
     → (refusalOf (sheetBytesOf sheet) ≡ accepted) × SameSheet (recordOf (sheetBytesOf sheet)) sheet
 unfolding HeldSheet
 written-then-read sheet room held e =
-    let t = taken sheet room (ap (λ (x : Refusal). x .number) e) in
-    (keeps-accepted (sheetBytesOf sheet) (accepted-back sheet t held),
-    record {
-      same-count = record-count (sheetBytesOf sheet) ∙ count-back sheet t held;
-      same-entries = λ i h. entry-same (sheetBytesOf sheet) i (omega (arith, t .few-steps)) ∙ entry-back sheet t held i h;
-    })
+    let t = taken sheet room (ap (λ (x : Refusal). x .number) e) in (
+      keeps-accepted (sheetBytesOf sheet) (accepted-back sheet t held),
+      record {
+        same-count = record-count (sheetBytesOf sheet) ∙ count-back sheet t held;
+        same-entries = λ i h. entry-same (sheetBytesOf sheet) i (omega (arith, t .few-steps)) ∙ entry-back sheet t held i h;
+      },
+    )
 
 -- the room then starts with those bytes
 pub room-starts-with-the-sheet : (sheet : Sheet) (room : List ℕ) → writerRefusalOf sheet (length room) ≡ accepted
