@@ -1,8 +1,7 @@
 // The chain: a sheet's steps over a lent flat list, where the list stands.
 //
 // Document 01, "The sheet" (a chain runs steps in order, inverse in reverse with each turned round) and "Numbers of refusal". `shift` checks the sheet where
-// it lies and decodes one body at a time, steps outermost and list innermost; `shift_record` does the same over a record that is already read, and the two
-// agree (proved). The answer, the counts and the list are fixed for every input by specs/Rules.antt over specs/Chain.antt, which is made of the steps' own
+// it lies and decodes one body at a time, steps outermost and list innermost. The answer, the counts and the list are fixed for every input by specs/Rules.antt over specs/Chain.antt, which is made of the steps' own
 // definitions; nothing is written before the last test has passed. No rounding but the steps' own. Used by the program and by callers that keep lists.
 ghost use mathlib.Core.Path.{_≡_};
 ghost use mathlib.Core.Bool.{true, false};
