@@ -1,0 +1,3 @@
+-- What the contracts of `kept` cite.
+pub mod Same
+pub mod Kept
