@@ -49,7 +49,7 @@ joined n i rs ts d = again (n + d .count) (take i rs ++ d .results) (take i ts +
 tuple-from : (l : List Float) (i : ℕ) → tupleAt (drop i l) 0 ≡ tupleAt l i
 tuple-from l i = tuple-beyond l i 0 ∙ ap (tupleAt l) (add-zero i)
 
-again-short : (f : Turns State) (k : ℕ) (state : State) (l rs ts : List Float) → length l < 4 → againOf f k state l rs ts ≡ again 0 rs ts
+pub again-short : (f : Turns State) (k : ℕ) (state : State) (l rs ts : List Float) → length l < 4 → againOf f k state l rs ts ≡ again 0 rs ts
 again-short f k state (x ∷ y ∷ z ∷ t ∷ rest) rs ts h = absurd (omega arith)
 again-short f k state (x ∷ y ∷ z ∷ []) rs ts h = refl
 again-short f k state (x ∷ y ∷ []) rs ts h = refl

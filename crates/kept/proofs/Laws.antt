@@ -19,8 +19,8 @@ use Rattle.lists.specs.Run.{Turns, ranOf, trackOf, stateAfterOf}
 use Rattle.lists.proofs.Places.{from-place, put-there, put-none}
 use Rattle.lists.proofs.Laws.{ran-length, ran-short}
 use Rattle.kept.specs.Same.{alikeOf}
-use Rattle.kept.specs.Kept.{helmertTurns, trackedOf, stateOf, Kept, keptOf, freshOf, stretchOf, stretchFrom, redoOf, beforeOf, putFix, correctedOf}
-use Rattle.kept.proofs.Again.{Again, againOf, joined}
+use Rattle.kept.specs.Kept.{helmertTurns, trackedOf, stateOf, Kept, keptOf, freshOf, stretchOf, stretchFrom, Redone, redoOf, beforeOf, putFix, correctedOf}
+use Rattle.kept.proofs.Again.{Again, againOf, again-short}
 use Rattle.kept.proofs.Stretch.{redo-is-again, stretch-open}
 use Rattle.kept.proofs.Meeting.{track-at, state-stays, Renewed, again-first, Whole, whole-take, ran-append, track-append, track-length}
 use Rattle.kept.proofs.Start.{before-first, before-running, before-else}
@@ -58,3 +58,135 @@ module _ (shift : Shift) (inverse : Bool) (l : List Float) where
 
   before-is : (index : ℕ) → 4 * index ≤ length l → beforeOf shift (freshOf shift inverse l .track) index ≡ carried index
   before-is = by-mode (isRunningOf shift) refl
+
+-- ---- a corrected run is a fresh one
+
+-- for any step: redoing from the state that the run carried, over what the run left, makes the run of the list with the fix in it
+module _ (f : Turns State) (start : State) (l : List Float) (index : ℕ) (fix : Tuple) (h : 4 * index + 4 ≤ length l) where
+  abbrev at : ℕ
+  at = 4 * index
+
+  abbrev state-there : State
+  state-there = stateAfterOf f 0 start (take at l)
+
+  abbrev old-rest : List Float
+  old-rest = numbersOf (tupleAt l at) ++ drop (at + 4) l
+
+  abbrev new-rest : List Float
+  new-rest = numbersOf fix ++ drop (at + 4) l
+
+  head-long : length (take at l) ≡ at
+  head-long = length-take-le at l (omega arith)
+
+  was : l ≡ take at l ++ old-rest
+  was = sym (take-append-drop at l) ∙ ap (λ (r : List Float). take at l ++ r) (from-place l at h)
+
+  is : putAt l at fix ≡ take at l ++ new-rest
+  is = put-there l at fix h ∙ append-assoc (take at l) (numbersOf fix) (drop (at + 4) l)
+
+  results-split : (rest : List Float) → ranOf f 0 start (take at l ++ rest) ≡ ranOf f 0 start (take at l) ++ ranOf f index state-there rest
+  results-split rest = rw (add-zero index) at (ran-append f 0 start (whole-take index l (omega arith)) rest)
+
+  track-split : (rest : List Float) → trackOf trackedOf f 0 start (take at l ++ rest) ≡ trackOf trackedOf f 0 start (take at l) ++ trackOf trackedOf f index state-there rest
+  track-split rest = rw (add-zero index) at (track-append f 0 start (whole-take index l (omega arith)) rest)
+
+  abbrev old-results : List Float
+  old-results = ranOf f 0 start l
+
+  abbrev old-track : List Float
+  old-track = trackOf trackedOf f 0 start l
+
+  results-were : old-results ≡ ranOf f 0 start (take at l) ++ ranOf f index state-there old-rest
+  results-were = ap (ranOf f 0 start) was ∙ results-split old-rest
+
+  track-was : old-track ≡ trackOf trackedOf f 0 start (take at l) ++ trackOf trackedOf f index state-there old-rest
+  track-was = ap (trackOf trackedOf f 0 start) was ∙ track-split old-rest
+
+  results-head : length (ranOf f 0 start (take at l)) ≡ at
+  results-head = ran-length f 0 start (take at l) ∙ head-long
+
+  track-head : length (trackOf trackedOf f 0 start (take at l)) ≡ at
+  track-head = track-length f 0 start (take at l) ∙ head-long
+
+  list-from : drop at (putAt l at fix) ≡ new-rest
+  list-from = ap (drop at) is ∙ drop-at (take at l) new-rest at head-long
+
+  results-from : drop at old-results ≡ ranOf f index state-there old-rest
+  results-from = ap (drop at) results-were ∙ drop-at (ranOf f 0 start (take at l)) (ranOf f index state-there old-rest) at results-head
+
+  track-from : drop at old-track ≡ trackOf trackedOf f index state-there old-rest
+  track-from = ap (drop at) track-was ∙ drop-at (trackOf trackedOf f 0 start (take at l)) (trackOf trackedOf f index state-there old-rest) at track-head
+
+  results-to : take at old-results ≡ ranOf f 0 start (take at l)
+  results-to = ap (take at) results-were ∙ take-at (ranOf f 0 start (take at l)) (ranOf f index state-there old-rest) at results-head
+
+  track-to : take at old-track ≡ trackOf trackedOf f 0 start (take at l)
+  track-to = ap (take at) track-was ∙ take-at (trackOf trackedOf f 0 start (take at l)) (trackOf trackedOf f index state-there old-rest) at track-head
+
+  abbrev redoing : Again
+  redoing = againOf f index state-there (drop at (putAt l at fix)) (drop at old-results) (drop at old-track)
+
+  redoing-is : redoing ≡ againOf f index state-there new-rest (ranOf f index state-there old-rest) (trackOf trackedOf f index state-there old-rest)
+  redoing-is =
+      ap (λ (a : List Float). againOf f index state-there a (drop at old-results) (drop at old-track)) list-from
+      ∙ ap (λ (a : List Float). againOf f index state-there new-rest a (drop at old-track)) results-from
+      ∙ ap (λ (a : List Float). againOf f index state-there new-rest (ranOf f index state-there old-rest) a) track-from
+
+  renewed : Renewed (againOf f index state-there new-rest (ranOf f index state-there old-rest) (trackOf trackedOf f index state-there old-rest)) f index state-there new-rest
+  renewed = again-first f index state-there state-there fix (tupleAt l at) (drop (at + 4) l)
+
+  results-renewed : take at old-results ++ redoing .results ≡ ranOf f 0 start (putAt l at fix)
+  results-renewed =
+      ap (λ (a : List Float). a ++ redoing .results) results-to
+      ∙ ap (λ (a : List Float). ranOf f 0 start (take at l) ++ a) (ap (λ (d : Again). d .results) redoing-is ∙ renewed .results-are)
+      ∙ sym (ap (ranOf f 0 start) is ∙ results-split new-rest)
+
+  track-renewed : take at old-track ++ redoing .track ≡ trackOf trackedOf f 0 start (putAt l at fix)
+  track-renewed =
+      ap (λ (a : List Float). a ++ redoing .track) track-to
+      ∙ ap (λ (a : List Float). trackOf trackedOf f 0 start (take at l) ++ a) (ap (λ (d : Again). d .track) redoing-is ∙ renewed .track-are)
+      ∙ sym (ap (trackOf trackedOf f 0 start) is ∙ track-split new-rest)
+
+  pub redone-is-run : redoOf f state-there (keptOf (putAt l at fix) old-results old-track) index .kept
+      ≡ keptOf (putAt l at fix) (ranOf f 0 start (putAt l at fix)) (trackOf trackedOf f 0 start (putAt l at fix))
+  redone-is-run =
+      ap (λ (d : Redone). d .kept) (redo-is-again f state-there (putAt l at fix) old-results old-track index)
+      ∙ ap (λ (rs : List Float). keptOf (putAt l at fix) rs (take at old-track ++ redoing .track)) results-renewed
+      ∙ ap (λ (ts : List Float). keptOf (putAt l at fix) (ranOf f 0 start (putAt l at fix)) ts) track-renewed
+
+-- where no fix stands at the index, nothing is redone
+module _ (f : Turns State) (state : State) (old : Kept) (index : ℕ) (h : length (old .list) < 4 * index + 4) where
+  none-redone : redoOf f state old index .kept ≡ old
+  none-redone =
+      let at = 4 * index in
+      let short : length (drop at (old .list)) < 4 = simp length-drop (omega arith) in
+      let e = again-short f index state (drop at (old .list)) (drop at (old .results)) (drop at (old .track)) short in
+      ap (λ (d : Redone). d .kept) (redo-is-again f state (old .list) (old .results) (old .track) index)
+      ∙ ap (λ (d : Again). keptOf (old .list) (take at (old .results) ++ d .results) (take at (old .track) ++ d .track)) e
+      ∙ ap (λ (rs : List Float). keptOf (old .list) rs (take at (old .track) ++ drop at (old .track))) (take-append-drop at (old .results))
+      ∙ ap (λ (ts : List Float). keptOf (old .list) (old .results) ts) (take-append-drop at (old .track))
+
+-- If results and track came from a fresh run, then after a correction they equal a fresh run of the corrected list: for every sheet's shift,
+-- direction, list, index and fix.
+module _ (shift : Shift) (inverse : Bool) (l : List Float) (index : ℕ) (fix : Tuple) where
+  there : 4 * index + 4 ≤ length l → correctedOf shift inverse (freshOf shift inverse l) index fix .kept ≡ freshOf shift inverse (putAt l (4 * index) fix)
+  unfolding correctedOf freshOf
+  there h =
+      ap (λ (s : State). redoOf (helmertTurns inverse shift) s (putFix (freshOf shift inverse l) index fix) index .kept) (before-is shift inverse l index (omega arith))
+      ∙ redone-is-run (helmertTurns inverse shift) (startOf shift) l index fix h
+
+  nowhere : length l < 4 * index + 4 → correctedOf shift inverse (freshOf shift inverse l) index fix .kept ≡ freshOf shift inverse (putAt l (4 * index) fix)
+  unfolding correctedOf freshOf
+  nowhere h =
+      let same : putAt l (4 * index) fix ≡ l = put-none l (4 * index) fix h in
+      let state = beforeOf shift (freshOf shift inverse l .track) index in
+      ap (λ (k : List Float). redoOf (helmertTurns inverse shift) state (keptOf k (freshOf shift inverse l .results) (freshOf shift inverse l .track)) index .kept) same
+      ∙ none-redone (helmertTurns inverse shift) state (freshOf shift inverse l) index h
+      ∙ ap (freshOf shift inverse) (sym same)
+
+  either : (b : Bool) → leb (4 * index + 4) (length l) ≡ b → correctedOf shift inverse (freshOf shift inverse l) index fix .kept ≡ freshOf shift inverse (putAt l (4 * index) fix)
+  either true e = there (leb-true _ _ e)
+  either false e = nowhere (leb-false _ _ e)
+
+  pub corrected-equals-fresh : correctedOf shift inverse (freshOf shift inverse l) index fix .kept ≡ freshOf shift inverse (putAt l (4 * index) fix)
+  corrected-equals-fresh = either (leb (4 * index + 4) (length l)) refl
