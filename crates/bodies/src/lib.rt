@@ -187,6 +187,7 @@ pub fn read_body(kind: u32, b: &[u8]) -> Step
         if b.len() == 24 {
             return Step::Deformation(read_deformation(b));
         }
+        return blank_step();
     }
     blank_step()
 }
@@ -279,6 +280,7 @@ pub fn body_in_rule(kind: u32, b: &[u8]) -> bool
         if b.len() == 24 {
             return words::one_nan(b, 8) & words::one_nan(b, 16) & read_deformation(b).in_rule();
         }
+        return false;
     }
     false
 }

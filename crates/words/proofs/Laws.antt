@@ -1,14 +1,14 @@
 -- What is true of words and numbers in a list of bytes, for callers to cite: what was put is read, what was read is put, and a run of puts is one. Assumes nothing.
 use mathlib.Core.Path.{_≡_, refl, sym, ap, _∙_, subst}
-use Prim.Native.Nat.{ℕ, suc, _+_, _*_, _/_, _%_, _^_, _<_, _≤_}
+use Prim.Native.Nat.{ℕ, suc, _+_, _-_, _*_, _/_, _%_, _^_, _<_, _≤_}
 use mathlib.Core.Bool.{Bool, true, false, not, cond}
-use mathlib.Core.List.{List, [], _∷_, _++_, append-assoc}
+use mathlib.Core.List.{List, [], _∷_, _++_, append-nil, append-assoc}
 use native.Mathlib.Omega.{arith}
-use native.Mathlib.Nat.{add-assoc, add-zero}
-use lib.Dec.{T, eqb}
-use lib.ListN.{getD, set, length, take, drop, length-append, length-take, length-drop, List·getD-eq-default}
+use native.Mathlib.Nat.{add-assoc, add-zero, zero-add}
+use lib.Dec.{T, eqb, leb, leb→le}
+use lib.ListN.{getD, set, length, take, drop, length-append, length-take, length-drop, take-append-drop, List·getD-eq-default}
 use lib.Seq.{getD-append-add, getD-take, getD-drop, take-at, drop-drop, drop-append-add, take-add, sets-eq}
-use lib.Ieee.{Float, binary64, ofBits, toBits, fits, isNan, ofFields}
+use lib.Ieee.{Float, nan, inf, fin, binary64, ofBits, toBits, fits, isNan, ofFields}
 use lib.Ieee.Bits.{ofBits-toBits, toBits-lt, toBits-ofBits}
 use borrow.Author.Tests.{le-leb, lt-leb, eqb-true}
 use Rattle.words.specs.Words.{Bytes, word32, word64, numberAt, oneNanAt, le32, le64, leNumber, put, putOf}
@@ -76,6 +76,22 @@ word-back n h = word32-le32 n [] h
 pub number-back : (x : Float) → T (fits binary64 x) → numberAt (leNumber x) 0 ≡ x
 unfolding numberAt leNumber le64 le32
 number-back x h = rw (word64-le64 (toBits binary64 x) [] (toBits-lt binary64 x h)) (ofBits-toBits binary64 x h)
+
+-- 64 bits come back, and a NaN's are those of "not given"
+pub bits-of-number : (x : Float) → T (fits binary64 x) → word64 (leNumber x) 0 ≡ toBits binary64 x
+unfolding leNumber le64 le32
+bits-of-number x h = word64-le64 (toBits binary64 x) [] (toBits-lt binary64 x h)
+
+nan-in-rule : (x : Float) → cond (isNan x) (eqb (toBits binary64 x) 0x7ff8_0000_0000_0000) true ≡ true
+unfolding isNan toBits
+nan-in-rule nan = refl
+nan-in-rule (inf s) = refl
+nan-in-rule (fin s m e) = refl
+
+-- a number is written in the one way
+pub number-in-rule : (x : Float) → T (fits binary64 x) → oneNanAt (leNumber x) 0 ≡ true
+unfolding oneNanAt
+number-in-rule x h = rw (number-back x h, bits-of-number x h) (nan-in-rule x)
 
 -- ---- a part of a list
 
@@ -170,6 +186,18 @@ pub length-put : (l : List ℕ) (at : ℕ) (bs : List ℕ) → at + length bs �
 unfolding put
 length-put l at bs h = simp (length-append, length-take, length-drop) (omega arith)
 
+there : (l : List ℕ) (at : ℕ) (bs : List ℕ) → take at l ++ (bs ++ drop (length bs) (drop at l)) ≡ put l at bs
+unfolding put
+there l at bs = simp (drop-drop, append-assoc)
+
+-- a part of a list, lent and given back with bs in it, is a put
+pub put-part : (l : List ℕ) (at n : ℕ) {part : List ℕ} (bs : List ℕ) → part ≡ bs → length bs ≡ n → at + n ≤ length l
+    → take at l ++ (part ++ drop (at + n - at) (drop at l)) ≡ putOf l at bs
+put-part l at n bs p e h =
+    let k : at + n - at ≡ length bs = omega arith in
+    let fits : at + length bs ≤ length l = omega arith in
+    rw (p, k, put-fits l at bs fits) (there l at bs)
+
 -- two puts, the second where the first ends, are one
 pub put-put : (l xs ys : List ℕ) (at n : ℕ) → length xs ≡ n → at + n ≤ length l → put (put l at xs) (at + n) ys ≡ put l at (xs ++ ys)
 unfolding put
@@ -203,3 +231,69 @@ put-four l at a b c d h =
     let e2 : at + 2 ≡ suc (suc at) = omega arith in
     let e3 : at + 3 ≡ suc (suc (suc at)) = omega arith in
     rw (e1, e2, e3) (sets-eq (a ∷ b ∷ c ∷ d ∷ []) l at h)
+
+-- ---- a run of puts, each where the one before ends
+
+pub put-none : (l : List ℕ) (at : ℕ) → put l at [] ≡ l
+unfolding put
+put-none l at = simp (append-nil, add-zero, take-append-drop)
+
+-- where there is room for n bytes from a place on, l₀ became l by putting the first k of them, xs
+pub record Run (l₀ : List ℕ) (at n : ℕ) (l : List ℕ) (k : ℕ) (xs : List ℕ) : Type 0 where
+  pub room : at + n ≤ length l₀
+  pub became : l ≡ put l₀ at xs
+  pub far : length xs ≡ k
+
+pub run-starts : (l : List ℕ) (at n : ℕ) → at + n ≤ length l → Run l at n l 0 []
+run-starts l at n h = record { room = h; became = sym (put-none l at); far = refl }
+
+pub run-puts : {l₀ l l' xs : List ℕ} {at n k : ℕ} (ys : List ℕ) (j : ℕ) → Run l₀ at n l k xs → length ys ≡ j → T (leb (k + j) n)
+    → l' ≡ put l (at + k) ys → Run l₀ at n l' (k + j) (xs ++ ys)
+run-puts {l₀} {l} {l'} {xs} {at} {n} {k} ys j r e t p =
+    let h = leb→le (k + j) n t in
+    let a = r .room in
+    let f = r .far in
+    record {
+      room = r .room;
+      became = p ∙ ap (λ (m : List ℕ). put m (at + k) ys) (r .became) ∙ put-put l₀ xs ys at k (r .far) (omega arith);
+      far = length-append xs ys ∙ (omega arith);
+    }
+
+-- where it fits, a put that looks whether it does is a put
+run-looks : {l₀ l l' xs : List ℕ} {at n k : ℕ} (ys : List ℕ) (j : ℕ) → Run l₀ at n l k xs → length ys ≡ j → T (leb (k + j) n)
+    → l' ≡ putOf l (at + k) ys → Run l₀ at n l' (k + j) (xs ++ ys)
+run-looks {l₀} {l} {l'} {xs} {at} {n} {k} ys j r e t p =
+    let h = leb→le (k + j) n t in
+    let a = r .room in
+    let f = r .far in
+    let same : length l ≡ length l₀ = ap length (r .became) ∙ length-put l₀ at xs (omega arith) in
+    run-puts ys j r e t (p ∙ put-fits l (at + k) ys (omega arith))
+
+pub run-word : {l₀ l l' xs : List ℕ} {at n k : ℕ} (w : ℕ) → Run l₀ at n l k xs → T (leb (k + 4) n)
+    → l' ≡ putOf l (at + k) (le32 w) → Run l₀ at n l' (k + 4) (xs ++ le32 w)
+run-word w r t p = run-looks (le32 w) 4 r (length-le32 w) t p
+
+pub run-number : {l₀ l l' xs : List ℕ} {at n k : ℕ} (x : Float) → Run l₀ at n l k xs → T (leb (k + 8) n)
+    → l' ≡ putOf l (at + k) (leNumber x) → Run l₀ at n l' (k + 8) (xs ++ leNumber x)
+run-number x r t p = run-looks (leNumber x) 8 r (length-leNumber x) t p
+
+no-more : (m : List ℕ) → length m ≡ 0 → m ≡ []
+no-more [] h = refl
+no-more (a ∷ m) h = absurd (omega arith)
+
+put-all : (l xs : List ℕ) → drop (length xs) l ≡ [] → put l 0 xs ≡ xs
+unfolding put
+put-all l xs e = simp (zero-add, e) (append-nil xs)
+
+-- the first of a run
+pub run-starts-number : {l l' : List ℕ} {at n : ℕ} (x : Float) → at + n ≤ length l → T (leb 8 n) → l' ≡ putOf l at (leNumber x)
+    → Run l at n l' 8 (leNumber x)
+run-starts-number {l} {l'} {at} {n} x h t p =
+    run-number x (run-starts l at n h) t (p ∙ ap (λ (k : ℕ). putOf l k (leNumber x)) (sym (add-zero at)))
+
+-- a run that fills its list is all of it
+pub run-fills : {l₀ l xs : List ℕ} {n : ℕ} → Run l₀ 0 n l n xs → length l₀ ≡ n → l ≡ xs
+run-fills {l₀} {l} {xs} {n} r e =
+    let f = r .far in
+    let none : length (drop (length xs) l₀) ≡ 0 = simp length-drop (omega arith) in
+    r .became ∙ put-all l₀ xs (no-more (drop (length xs) l₀) none)

@@ -1,0 +1,93 @@
+-- `chain::run_step` meets its contract. Assumes nothing.
+use borrow.Author.Needs.{needs}
+use Rattle.chain.proofs.run_step.Statement.{statement}
+use Rattle.chain.proofs.run_step.Tie as tie
+
+turned-requires : tie.Need-turned-requires
+turned-requires c κs = search needs
+
+enum-known-step : tie.Need-enum-known-step
+enum-known-step c = search needs
+
+run-cart-requires : tie.Need-run-cart-requires
+run-cart-requires c κs = search needs
+
+same-length : tie.Need-same-length
+same-length c = search needs
+
+returns : tie.Need-returns
+returns c = ?
+
+enum-known-step-2 : tie.Need-enum-known-step-2
+enum-known-step-2 c = search needs
+
+run-permtide-requires : tie.Need-run-permtide-requires
+run-permtide-requires c κs = search needs
+
+same-length-2 : tie.Need-same-length-2
+same-length-2 c = search needs
+
+returns-2 : tie.Need-returns-2
+returns-2 c = ?
+
+enum-known-step-3 : tie.Need-enum-known-step-3
+enum-known-step-3 c = search needs
+
+run-deformation-requires : tie.Need-run-deformation-requires
+run-deformation-requires c κs = search needs
+
+same-length-3 : tie.Need-same-length-3
+same-length-3 c = search needs
+
+returns-3 : tie.Need-returns-3
+returns-3 c = ?
+
+enum-known-step-4 : tie.Need-enum-known-step-4
+enum-known-step-4 c = search needs
+
+run-molodensky-requires : tie.Need-run-molodensky-requires
+run-molodensky-requires c κs = search needs
+
+same-length-4 : tie.Need-same-length-4
+same-length-4 c = search needs
+
+returns-4 : tie.Need-returns-4
+returns-4 c = ?
+
+enum-known-step-5 : tie.Need-enum-known-step-5
+enum-known-step-5 c = search needs
+
+run-helmert-requires : tie.Need-run-helmert-requires
+run-helmert-requires c κs = search needs
+
+same-length-5 : tie.Need-same-length-5
+same-length-5 c = search needs
+
+returns-5 : tie.Need-returns-5
+returns-5 c = ?
+
+pub run-step-spec : {M : Type 1} → statement M
+run-step-spec =
+    tie.close
+    (tie.spec
+    turned-requires
+    enum-known-step
+    run-cart-requires
+    same-length
+    returns
+    enum-known-step-2
+    run-permtide-requires
+    same-length-2
+    returns-2
+    enum-known-step-3
+    run-deformation-requires
+    same-length-3
+    returns-3
+    enum-known-step-4
+    run-molodensky-requires
+    same-length-4
+    returns-4
+    enum-known-step-5
+    run-helmert-requires
+    same-length-5
+    returns-5)

@@ -1,0 +1,12 @@
+-- `chain::turned` meets its contract. Assumes nothing.
+use Rattle.chain.proofs.turned.Statement.{statement}
+use Rattle.chain.proofs.turned.Tie as tie
+
+returns : tie.Need-returns
+returns c = ?
+
+returns-2 : tie.Need-returns-2
+returns-2 c = ?
+
+pub turned-spec : {M : Type 1} → statement M
+turned-spec = tie.close (tie.spec returns returns-2)

@@ -1,0 +1,78 @@
+-- A chain: the steps of a sheet over a list, in order, inverse in reverse with each turned round. Velocities and marks are those that the caller lends.
+use Prim.Native.Nat.{ℕ, zero, suc, _-_}
+use mathlib.Core.Bool.{Bool, true, false, not, cond}
+use mathlib.Core.List.{List, [], _∷_, _++_}
+use lib.Dec.{eqb}
+use lib.ListN.{length, replicate}
+use lib.Ieee.{Float}
+use Rattle.helmert.specs.declared.State.{State}
+use Rattle.helmert.specs.Modes.{prepareOf, startOf}
+use Rattle.bodies.specs.declared.Step.{Step}
+use Rattle.bodies.specs.declared.Step.the-variants.{Cart, Permtide, Deformation, Molodensky, Helmert}
+use Rattle.sheet.specs.declared.Entry.{Entry}
+use Rattle.lists.specs.Run.{Turns, ranOf, countOf}
+use Rattle.runs.specs.Turns.{noState, cartTurns, permtideTurns, molodenskyTurns, deformationTurns, helmertTurns}
+
+-- ---- one step over a list
+
+-- what a step makes of one tuple, by its kind
+abbrev pub turnsOf : Bool → List Float → List ℕ → Step → Turns State
+turnsOf inverse velocities marks (Cart r) = cartTurns inverse r
+turnsOf inverse velocities marks (Permtide r) = permtideTurns inverse r
+turnsOf inverse velocities marks (Deformation r) = deformationTurns inverse r velocities marks
+turnsOf inverse velocities marks (Molodensky r) = molodenskyTurns inverse r
+turnsOf inverse velocities marks (Helmert h) = helmertTurns inverse (prepareOf h)
+
+-- the state that a step starts each list in
+abbrev pub stateOf : Step → State
+stateOf (Cart r) = noState
+stateOf (Permtide r) = noState
+stateOf (Deformation r) = noState
+stateOf (Molodensky r) = noState
+stateOf (Helmert h) = startOf (prepareOf h)
+
+-- a step runs in the chain's direction, turned round where its inverted word is 1
+abbrev pub turnedOf : Bool → Entry → Bool
+turnedOf inverse e = cond (eqb (e .inverted) 1) (not inverse) inverse
+
+-- the list after a step, and how many tuples the step counted
+unfoldable pub stepListOf : Bool → List Float → List ℕ → Entry → List Float → List Float
+stepListOf inverse velocities marks e l =
+    ranOf (turnsOf (turnedOf inverse e) velocities marks (e .step)) 0 (stateOf (e .step)) l
+
+unfoldable pub stepCountOf : Bool → List Float → List ℕ → Entry → List Float → ℕ
+stepCountOf inverse velocities marks e l =
+    countOf (turnsOf (turnedOf inverse e) velocities marks (e .step)) 0 (stateOf (e .step)) l
+
+-- ---- steps one after another
+
+-- the list after some steps, and the count of each in the sheet's order
+pub record Run : Type 0 where
+  pub list : List Float
+  pub counts : List ℕ
+
+-- forward: the first step first
+unfoldable pub forwardOf : List Float → List ℕ → List Entry → List Float → Run
+forwardOf velocities marks [] l = record { list = l; counts = [] }
+forwardOf velocities marks (e ∷ es) l =
+    let later = forwardOf velocities marks es (stepListOf false velocities marks e l) in
+    record { list = later .list; counts = stepCountOf false velocities marks e l ∷ later .counts }
+
+-- inverse: the last step first
+unfoldable pub inverseOf : List Float → List ℕ → List Entry → List Float → Run
+inverseOf velocities marks [] l = record { list = l; counts = [] }
+inverseOf velocities marks (e ∷ es) l =
+    let later = inverseOf velocities marks es l in
+    record { list = stepListOf true velocities marks e (later .list); counts = stepCountOf true velocities marks e (later .list) ∷ later .counts }
+
+abbrev pub chainOf : Bool → List Float → List ℕ → List Entry → List Float → Run
+chainOf inverse velocities marks es l = cond inverse (inverseOf velocities marks es l) (forwardOf velocities marks es l)
+
+-- sixteen places: each step's count, and 0 in the others
+abbrev pub placesOf : List ℕ → List ℕ
+placesOf counts = counts ++ replicate (16 - length counts) 0
+
+-- the first k entries from index i on
+unfoldable pub entriesOf : (ℕ → Entry) → ℕ → ℕ → List Entry
+entriesOf entry zero i = []
+entriesOf entry (suc k) i = entry i ∷ entriesOf entry k (suc i)

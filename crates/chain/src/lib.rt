@@ -1,0 +1,184 @@
+// The chain: a sheet's steps over a lent flat list, where the list stands.
+//
+// Document 01, "The sheet" (a chain runs steps in order, inverse in reverse with each turned round) and "Numbers of refusal". `shift` checks the sheet where
+// it lies and decodes one body at a time, steps outermost and list innermost; `shift_record` does the same over a record that is already read, and the two
+// agree (proved). The answer, the counts and the list are fixed for every input by specs/Rules.antt over specs/Chain.antt, which is made of the steps' own
+// definitions; nothing is written before the last test has passed. No rounding but the steps' own. Used by the program and by callers that keep lists.
+ghost use mathlib.Core.Path.{_≡_};
+ghost use mathlib.Core.Bool.{true, false};
+ghost use Prim.Native.Nat.{_*_, _≤_, _<_};
+ghost use lib.ListN.{length};
+ghost use Rattle.sheet.specs.Layout.{kindAt, entryAt};
+ghost use Rattle.sheet.specs.Rules.{deformationBefore};
+ghost use Rattle.chain.specs.Chain.{turnedOf, stepListOf, stepCountOf, forwardOf, inverseOf, placesOf, entriesOf};
+ghost use Rattle.chain.specs.Rules.{refusal9, overOne, refusal10, refusedAnswer, outcome, shiftOf, shiftRecordOf};
+use bodies::Step;
+use sheet::Entry;
+use sheet::Refusal;
+use sheet::Sheet;
+
+// What a call answers: no refusal and each step's count in the sheet's order, 0 in the other places; or a refusal and zeros.
+pub struct Answer {
+    pub refusal: Refusal,
+    pub counts: [usize; 16],
+}
+
+// ----- one step over the list ----------------------------------------------------------------
+
+// A step's direction: turned round where its inverted word is 1.
+fn turned(inverse: bool, entry: Entry) -> bool
+    ensures { λ r. ⌜ r ≡ turnedOf inverse entry ⌝ }
+{
+    if entry.inverted == 1 { !inverse } else { inverse }
+}
+
+// The kind is decided here, once a list.
+fn run_step(inverse: bool, entry: Entry, list: &mut [f64], velocities: &[f64], marks: &[u8]) -> usize
+    ensures { λ r. ⌜ (now (list .exit) ≡ stepListOf inverse (now (velocities .entry)) (now (marks .entry)) entry (now (list .entry)))
+        × (r ≡ stepCountOf inverse (now (velocities .entry)) (now (marks .entry)) entry (now (list .entry))) ⌝ }
+{
+    let inv = turned(inverse, entry);
+    let step = entry.step;
+    match step {
+        Step::Cart(r) => {
+            return runs::run_cart(list, inv, r);
+        }
+        Step::Permtide(r) => {
+            return runs::run_permtide(list, inv, r);
+        }
+        Step::Deformation(r) => {
+            return runs::run_deformation(list, inv, r, velocities, marks);
+        }
+        Step::Molodensky(r) => {
+            return runs::run_molodensky(list, inv, r);
+        }
+        Step::Helmert(h) => {
+            return runs::run_helmert(list, inv, h);
+        }
+    }
+}
+
+// ----- a sheet's steps, one after another ------------------------------------------------------
+
+fn forward(s: &[u8], n: usize, list: &mut [f64], velocities: &[f64], marks: &[u8]) -> [usize; 16]
+    requires { ⌜ n ≤ 16 ⌝ }
+    ensures { λ r. ⌜ (now (list .exit) ≡ forwardOf (now (velocities .entry)) (now (marks .entry)) (entriesOf (entryAt (now (s .entry))) n 0) (now (list .entry)) .list)
+        × (r ≡ placesOf (forwardOf (now (velocities .entry)) (now (marks .entry)) (entriesOf (entryAt (now (s .entry))) n 0) (now (list .entry)) .counts)) ⌝ }
+{
+    let mut counts = [0usize; 16];
+    let mut i = 0;
+    while i < n {
+        let entry = sheet::entry_at(s, i);
+        let count = run_step(false, entry, list, velocities, marks);
+        counts[i] = count;
+        i += 1;
+    }
+    counts
+}
+
+fn backward(s: &[u8], n: usize, list: &mut [f64], velocities: &[f64], marks: &[u8]) -> [usize; 16]
+    requires { ⌜ n ≤ 16 ⌝ }
+    ensures { λ r. ⌜ (now (list .exit) ≡ inverseOf (now (velocities .entry)) (now (marks .entry)) (entriesOf (entryAt (now (s .entry))) n 0) (now (list .entry)) .list)
+        × (r ≡ placesOf (inverseOf (now (velocities .entry)) (now (marks .entry)) (entriesOf (entryAt (now (s .entry))) n 0) (now (list .entry)) .counts)) ⌝ }
+{
+    let mut counts = [0usize; 16];
+    let mut i = n;
+    while 0 < i {
+        i -= 1;
+        let entry = sheet::entry_at(s, i);
+        let count = run_step(true, entry, list, velocities, marks);
+        counts[i] = count;
+    }
+    counts
+}
+
+// ----- the rules of the lent lists --------------------------------------------------------------
+
+// Rule 9.
+fn list_broken(numbers: usize) -> bool
+    ensures { λ r. ⌜ r ≡ refusal9 numbers ⌝ }
+{
+    (numbers % 4 != 0) | (8192 < numbers)
+}
+
+// A mark over 1.
+fn over_one(marks: &[u8]) -> bool
+    ensures { λ r. ⌜ r ≡ overOne (now (marks .entry)) ⌝ }
+{
+    let mut i = 0;
+    while i < marks.len() {
+        if 1 < marks[i] {
+            return true;
+        }
+        i += 1;
+    }
+    false
+}
+
+// Rule 10.
+fn lent_broken(deforms: bool, numbers: usize, velocities: &[f64], marks: &[u8]) -> bool
+    ensures { λ r. ⌜ r ≡ refusal10 deforms numbers (now (velocities .entry)) (now (marks .entry)) ⌝ }
+{
+    let tuples = if deforms { numbers / 4 } else { 0 };
+    if velocities.len() != 3 * tuples {
+        return true;
+    }
+    if marks.len() != tuples {
+        return true;
+    }
+    over_one(marks)
+}
+
+// Whether one of the first n steps is a deformation step.
+fn deforms(s: &[u8], n: usize) -> bool
+    requires { ⌜ n < 4294967296 ⌝ }
+    ensures { λ r. ⌜ r ≡ deformationBefore (kindAt (now (s .entry))) n ⌝ }
+{
+    let mut found = false;
+    let mut i = 0;
+    while i < n {
+        found = found | (words::read32(s, 16 + 16 * i) == 5);
+        i += 1;
+    }
+    found
+}
+
+// ----- the entries ------------------------------------------------------------------------------
+
+fn refused(refusal: Refusal) -> Answer
+    ensures { λ r. ⌜ r ≡ refusedAnswer refusal ⌝ }
+{
+    Answer {
+        refusal: refusal,
+        counts: [0usize; 16],
+    }
+}
+
+// A sheet's bytes over a list.
+pub fn shift(inverse: bool, s: &[u8], list: &mut [f64], velocities: &[f64], marks: &[u8]) -> Answer
+    ensures { λ r. ⌜ outcome r (now (list .exit)) ≡ shiftOf inverse (now (s .entry)) (now (list .entry)) (now (velocities .entry)) (now (marks .entry)) ⌝ }
+{
+    let own = sheet::check(s);
+    if own.number != 0 {
+        return refused(own);
+    }
+    if list_broken(list.len()) {
+        return refused(Refusal { number: 9, step: 0 });
+    }
+    let n = sheet::step_count(s);
+    if lent_broken(deforms(s, n), list.len(), velocities, marks) {
+        return refused(Refusal { number: 10, step: 0 });
+    }
+    if inverse {
+        let counts = backward(s, n, list, velocities, marks);
+        return Answer {
+            refusal: own,
+            counts: counts,
+        };
+    }
+    let counts = forward(s, n, list, velocities, marks);
+    Answer {
+        refusal: own,
+        counts: counts,
+    }
+}

@@ -1,0 +1,33 @@
+-- `runs::run_running` meets its contract. Assumes nothing.
+use borrow.Author.Needs.{needs}
+use Rattle.runs.proofs.run_running.Statement.{statement}
+use Rattle.runs.proofs.run_running.Tie as tie
+
+running-inverse-requires : tie.Need-running-inverse-requires
+running-inverse-requires c κs = search needs
+
+running-forward-requires : tie.Need-running-forward-requires
+running-forward-requires c κs = search needs
+
+same-length : tie.Need-same-length
+same-length c = search needs
+
+returns : tie.Need-returns
+returns c = rw (c .before .before .before .before .if1 .taken) (c .before .before .running-inverse .ensures)
+
+same-length-2 : tie.Need-same-length-2
+same-length-2 c = search needs
+
+returns-2 : tie.Need-returns-2
+returns-2 c = rw (c .before .before .before .before .if1 .left) (c .before .before .running-forward .ensures)
+
+pub run-running-spec : {M : Type 1} → statement M
+run-running-spec =
+    tie.close
+    (tie.spec
+    running-inverse-requires
+    running-forward-requires
+    same-length
+    returns
+    same-length-2
+    returns-2)

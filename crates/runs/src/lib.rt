@@ -1,0 +1,331 @@
+// The five kinds of step over a lent flat list, a loop each, written where the list stands.
+//
+// What depends on the record alone is worked out once a list: the ellipsoid, the inverse's constants, the coefficient, the prepared shift, the matrix of a
+// static or fixed shift. Kind, mode and direction are decided before a loop starts. Every function is proved equal, list and count, to the step's own
+// definition from tuple to tuple (specs/Turns.antt over `lists`). Exact: no rounding but the steps' own. Used by the chain.
+ghost use mathlib.Core.Path.{_≡_};
+ghost use mathlib.Core.Bool.{true, false, cond};
+ghost use Prim.Native.Nat.{_+_, _<_};
+ghost use lib.ListN.{getD, length};
+ghost use Rattle.cart.specs.Step.{cartFwdOf, cartInvOf};
+ghost use Rattle.permtide.specs.Step.{fwdOf, invOf};
+ghost use Rattle.molodensky.specs.Step.{commonOf};
+ghost use Rattle.helmert.specs.Apply.{forwardOf, inverseOf};
+ghost use Rattle.helmert.specs.Modes.{prepareOf, startOf, fixedStepOf, runningOf, ownEpochStepOf};
+ghost use Rattle.lists.specs.Run.{ranOf, countOf};
+ghost use Rattle.runs.specs.Turns.{noState, plainTurns, allTurns, steppedTurns, velocityAt, markAt, movedTurns, cartTurns, permtideTurns, molodenskyTurns, deformationTurns, helmertTurns};
+use cart::Cart;
+use cart::Inverse;
+use deformation::Deformation;
+use deformation::Motion;
+use deformation::Velocity;
+use ellipsoid::Ellipsoid;
+use helmert::Helmert;
+use helmert::Shift;
+use molodensky::Molodensky;
+use molodensky::Moped;
+use permtide::Permtide;
+use permtide::Tide;
+use rotation::Vec3;
+
+// One more where a tuple counts.
+fn tally(n: usize, counted: bool) -> usize
+    requires { ⌜ n < 18446744073709551615 ⌝ }
+    ensures { λ r. ⌜ r ≡ n + cond counted 1 0 ⌝ }
+{
+    if counted { n + 1 } else { n }
+}
+
+// ----- cart ------------------------------------------------------------------------------
+
+fn cart_forward(list: &mut [f64], ellps: Ellipsoid) -> usize
+    ensures { λ r. ⌜ (now (list .exit) ≡ ranOf (plainTurns (cartFwdOf ellps)) 0 noState (now (list .entry))) × (r ≡ countOf (plainTurns (cartFwdOf ellps)) 0 noState (now (list .entry))) ⌝ }
+{
+    let mut n = 0;
+    let mut i = 0;
+    while 4 <= list.len() - i {
+        let r = cart::cart_fwd(ellps, lists::read4(list, i));
+        lists::write4(list, i, r.tuple);
+        n = tally(n, r.counted);
+        i += 4;
+    }
+    n
+}
+
+fn cart_inverse(list: &mut [f64], k: Inverse) -> usize
+    ensures { λ r. ⌜ (now (list .exit) ≡ ranOf (plainTurns (cartInvOf k)) 0 noState (now (list .entry))) × (r ≡ countOf (plainTurns (cartInvOf k)) 0 noState (now (list .entry))) ⌝ }
+{
+    let mut n = 0;
+    let mut i = 0;
+    while 4 <= list.len() - i {
+        let r = cart::cart_inv(k, lists::read4(list, i));
+        lists::write4(list, i, r.tuple);
+        n = tally(n, r.counted);
+        i += 4;
+    }
+    n
+}
+
+pub fn run_cart(list: &mut [f64], inverse: bool, step: Cart) -> usize
+    ensures { λ r. ⌜ (now (list .exit) ≡ ranOf (cartTurns inverse step) 0 noState (now (list .entry))) × (r ≡ countOf (cartTurns inverse step) 0 noState (now (list .entry))) ⌝ }
+{
+    let ellps = Ellipsoid::named(step.ellipsoid);
+    if inverse {
+        return cart_inverse(list, Inverse::new(ellps));
+    }
+    cart_forward(list, ellps)
+}
+
+// ----- permtide --------------------------------------------------------------------------
+
+fn permtide_forward(list: &mut [f64], op: Tide)
+    ensures { λ _. ⌜ now (list .exit) ≡ ranOf (allTurns (fwdOf op)) 0 noState (now (list .entry)) ⌝ }
+{
+    let mut i = 0;
+    while 4 <= list.len() - i {
+        let v = permtide::fwd(op, lists::read4(list, i));
+        lists::write4(list, i, v);
+        i += 4;
+    }
+}
+
+fn permtide_inverse(list: &mut [f64], op: Tide)
+    ensures { λ _. ⌜ now (list .exit) ≡ ranOf (allTurns (invOf op)) 0 noState (now (list .entry)) ⌝ }
+{
+    let mut i = 0;
+    while 4 <= list.len() - i {
+        let v = permtide::inv(op, lists::read4(list, i));
+        lists::write4(list, i, v);
+        i += 4;
+    }
+}
+
+pub fn run_permtide(list: &mut [f64], inverse: bool, step: Permtide) -> usize
+    ensures { λ r. ⌜ (now (list .exit) ≡ ranOf (permtideTurns inverse step) 0 noState (now (list .entry))) × (r ≡ countOf (permtideTurns inverse step) 0 noState (now (list .entry))) ⌝ }
+{
+    let op = Tide::new(step);
+    if inverse {
+        permtide_inverse(list, op);
+        return list.len() / 4;
+    }
+    permtide_forward(list, op);
+    list.len() / 4
+}
+
+// ----- molodensky ------------------------------------------------------------------------
+
+fn molodensky_common(list: &mut [f64], op: Moped, inverse: bool)
+    ensures { λ _. ⌜ now (list .exit) ≡ ranOf (allTurns (commonOf op inverse)) 0 noState (now (list .entry)) ⌝ }
+{
+    let mut i = 0;
+    while 4 <= list.len() - i {
+        let v = molodensky::common(op, inverse, lists::read4(list, i));
+        lists::write4(list, i, v);
+        i += 4;
+    }
+}
+
+pub fn run_molodensky(list: &mut [f64], inverse: bool, step: Molodensky) -> usize
+    ensures { λ r. ⌜ (now (list .exit) ≡ ranOf (molodenskyTurns inverse step) 0 noState (now (list .entry))) × (r ≡ countOf (molodenskyTurns inverse step) 0 noState (now (list .entry))) ⌝ }
+{
+    molodensky_common(list, Moped::new(step), inverse);
+    list.len() / 4
+}
+
+// ----- deformation -----------------------------------------------------------------------
+
+// The velocity of fix k; NaNs where none is lent.
+fn velocity_at(velocities: &[f64], k: usize) -> Velocity
+    ensures { λ r. ⌜ r ≡ velocityAt (now (velocities .entry)) k ⌝ }
+{
+    if k < velocities.len() / 3 {
+        let at = 3 * k;
+        return Velocity {
+            east: velocities[at],
+            north: velocities[at + 1],
+            up: velocities[at + 2],
+        };
+    }
+    let none = 0.0 / 0.0;
+    Velocity {
+        east: none,
+        north: none,
+        up: none,
+    }
+}
+
+// The mark of fix k; absent where none is lent.
+fn mark_at(marks: &[u8], k: usize) -> u8
+    ensures { λ r. ⌜ r ≡ markAt (now (marks .entry)) k ⌝ }
+{
+    if k < marks.len() {
+        return marks[k];
+    }
+    0
+}
+
+fn deformation_common(
+    list: &mut [f64],
+    op: Motion,
+    inverse: bool,
+    velocities: &[f64],
+    marks: &[u8],
+) -> usize
+    ensures { λ r. ⌜ (now (list .exit) ≡ ranOf (movedTurns op inverse (now (velocities .entry)) (now (marks .entry))) 0 noState (now (list .entry)))
+        × (r ≡ countOf (movedTurns op inverse (now (velocities .entry)) (now (marks .entry))) 0 noState (now (list .entry))) ⌝ }
+{
+    let mut n = 0;
+    let mut i = 0;
+    while 4 <= list.len() - i {
+        let k = i / 4;
+        let r = deformation::common(
+            op,
+            inverse,
+            velocity_at(velocities, k),
+            mark_at(marks, k),
+            lists::read4(list, i),
+        );
+        lists::write4(list, i, r.tuple);
+        n = tally(n, r.counted);
+        i += 4;
+    }
+    n
+}
+
+// A fix's velocity and mark stand at its index.
+pub fn run_deformation(
+    list: &mut [f64],
+    inverse: bool,
+    step: Deformation,
+    velocities: &[f64],
+    marks: &[u8],
+) -> usize
+    ensures { λ r. ⌜ (now (list .exit) ≡ ranOf (deformationTurns inverse step (now (velocities .entry)) (now (marks .entry))) 0 noState (now (list .entry)))
+        × (r ≡ countOf (deformationTurns inverse step (now (velocities .entry)) (now (marks .entry))) 0 noState (now (list .entry))) ⌝ }
+{
+    deformation_common(list, Motion::new(step), inverse, velocities, marks)
+}
+
+// ----- helmert ---------------------------------------------------------------------------
+
+// Static and fixed: one matrix for the whole list.
+fn helmert_forward(list: &mut [f64], t: Vec3, s: f64, rotated: bool, m: [[f64; 3]; 3])
+    ensures { λ _. ⌜ now (list .exit) ≡ ranOf (allTurns (forwardOf t s rotated m)) 0 noState (now (list .entry)) ⌝ }
+{
+    let mut i = 0;
+    while 4 <= list.len() - i {
+        let v = helmert::forward(t, s, rotated, m, lists::read4(list, i));
+        lists::write4(list, i, v);
+        i += 4;
+    }
+}
+
+fn helmert_inverse(list: &mut [f64], t: Vec3, s: f64, rotated: bool, m: [[f64; 3]; 3])
+    ensures { λ _. ⌜ now (list .exit) ≡ ranOf (allTurns (inverseOf t s rotated m)) 0 noState (now (list .entry)) ⌝ }
+{
+    let mut i = 0;
+    while 4 <= list.len() - i {
+        let v = helmert::inverse(t, s, rotated, m, lists::read4(list, i));
+        lists::write4(list, i, v);
+        i += 4;
+    }
+}
+
+fn own_epoch_forward(list: &mut [f64], shift: Shift)
+    ensures { λ _. ⌜ now (list .exit) ≡ ranOf (allTurns (ownEpochStepOf shift false)) 0 noState (now (list .entry)) ⌝ }
+{
+    let mut i = 0;
+    while 4 <= list.len() - i {
+        let v = helmert::own_epoch_step(shift, false, lists::read4(list, i));
+        lists::write4(list, i, v);
+        i += 4;
+    }
+}
+
+fn own_epoch_inverse(list: &mut [f64], shift: Shift)
+    ensures { λ _. ⌜ now (list .exit) ≡ ranOf (allTurns (ownEpochStepOf shift true)) 0 noState (now (list .entry)) ⌝ }
+{
+    let mut i = 0;
+    while 4 <= list.len() - i {
+        let v = helmert::own_epoch_step(shift, true, lists::read4(list, i));
+        lists::write4(list, i, v);
+        i += 4;
+    }
+}
+
+fn running_forward(list: &mut [f64], shift: Shift)
+    ensures { λ _. ⌜ now (list .exit) ≡ ranOf (steppedTurns (runningOf shift false)) 0 (startOf shift) (now (list .entry)) ⌝ }
+{
+    let mut state = helmert::start(shift);
+    let mut i = 0;
+    while 4 <= list.len() - i {
+        let r = helmert::running(shift, false, state, lists::read4(list, i));
+        lists::write4(list, i, r.tuple);
+        state = r.state;
+        i += 4;
+    }
+}
+
+fn running_inverse(list: &mut [f64], shift: Shift)
+    ensures { λ _. ⌜ now (list .exit) ≡ ranOf (steppedTurns (runningOf shift true)) 0 (startOf shift) (now (list .entry)) ⌝ }
+{
+    let mut state = helmert::start(shift);
+    let mut i = 0;
+    while 4 <= list.len() - i {
+        let r = helmert::running(shift, true, state, lists::read4(list, i));
+        lists::write4(list, i, r.tuple);
+        state = r.state;
+        i += 4;
+    }
+}
+
+// A static or fixed shift.
+fn run_fixed(list: &mut [f64], inverse: bool, shift: Shift)
+    ensures { λ _. ⌜ now (list .exit) ≡ ranOf (allTurns (fixedStepOf shift inverse)) 0 noState (now (list .entry)) ⌝ }
+{
+    let p = shift.parameters;
+    let m = rotation::rotation_matrix(p.r, shift.exact, shift.position_vector);
+    if inverse {
+        helmert_inverse(list, p.t, p.s, shift.rotated, m);
+    } else {
+        helmert_forward(list, p.t, p.s, shift.rotated, m);
+    }
+}
+
+fn run_own_epoch(list: &mut [f64], inverse: bool, shift: Shift)
+    ensures { λ _. ⌜ now (list .exit) ≡ ranOf (allTurns (ownEpochStepOf shift inverse)) 0 noState (now (list .entry)) ⌝ }
+{
+    if inverse {
+        own_epoch_inverse(list, shift);
+    } else {
+        own_epoch_forward(list, shift);
+    }
+}
+
+fn run_running(list: &mut [f64], inverse: bool, shift: Shift)
+    ensures { λ _. ⌜ now (list .exit) ≡ ranOf (steppedTurns (runningOf shift inverse)) 0 (startOf shift) (now (list .entry)) ⌝ }
+{
+    if inverse {
+        running_inverse(list, shift);
+    } else {
+        running_forward(list, shift);
+    }
+}
+
+// The mode is decided once. Helmert's state starts afresh for each list.
+pub fn run_helmert(list: &mut [f64], inverse: bool, step: Helmert) -> usize
+    ensures { λ r. ⌜ (now (list .exit) ≡ ranOf (helmertTurns inverse (prepareOf step)) 0 (startOf (prepareOf step)) (now (list .entry)))
+        × (r ≡ countOf (helmertTurns inverse (prepareOf step)) 0 (startOf (prepareOf step)) (now (list .entry))) ⌝ }
+{
+    let shift = helmert::prepare(step);
+    if helmert::is_running(shift) {
+        run_running(list, inverse, shift);
+        return list.len() / 4;
+    }
+    if helmert::is_own_epoch(shift) {
+        run_own_epoch(list, inverse, shift);
+        return list.len() / 4;
+    }
+    run_fixed(list, inverse, shift);
+    list.len() / 4
+}

@@ -1,0 +1,13 @@
+-- `sheet::Sheet::blank` meets its contract. Assumes nothing.
+use borrow.Author.Needs.{needs}
+use Rattle.sheet.proofs.Sheet.blank.Statement.{statement}
+use Rattle.sheet.proofs.Sheet.blank.Tie as tie
+
+blank-requires : tie.Need-blank-requires
+blank-requires c κs = search needs
+
+returns : tie.Need-returns
+returns c = rw (c .blank .ensures)
+
+pub blank-spec : {M : Type 1} → statement M
+blank-spec = tie.close (tie.spec blank-requires returns)

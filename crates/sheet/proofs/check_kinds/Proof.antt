@@ -1,0 +1,80 @@
+-- `sheet::check_kinds` meets its contract. Assumes nothing.
+use borrow.Author.Needs.{needs}
+use native.Mathlib.Omega.{arith}
+use mathlib.Core.Path.{_≡_, refl, sym, ap, _∙_}
+use Prim.Native.Nat.{suc, _+_, _*_, _-_, _≤_, _<_}
+use native.Mathlib.Nat.{sub-zero}
+use mathlib.Core.Bool.{true, false}
+use Rattle.sheet.specs.Rules.{refusal11, deformationBefore, elevens, firstBroken}
+use Rattle.sheet.specs.Layout.{kindAt}
+use Rattle.sheet.proofs.Order.{elevens-on, elevens-off, elevens-end, before-next}
+use Rattle.sheet.proofs.check_kinds.Statement.{statement}
+use Rattle.sheet.proofs.check_kinds.Tie as tie
+
+abbrev Inv-loop : tie.InvT-loop
+Inv-loop s n before₀ i₀ before i = (i ≤ n) × ((before ≡ deformationBefore (kindAt s) i) × (firstBroken (elevens (kindAt s) n 0) ≡ firstBroken (elevens (kindAt s) (n - i) i)))
+
+abbrev μ-loop : tie.MeasureT-loop
+μ-loop s n before₀ i₀ before i = n - i
+
+loop-holds : tie.Need-loop-holds Inv-loop μ-loop
+unfolding deformationBefore
+loop-holds c = (omega arith, (refl, rw sub-zero))
+
+mul-read32 : tie.Need-mul-read32 Inv-loop μ-loop
+mul-read32 c = search needs
+
+add-read32 : tie.Need-add-read32 Inv-loop μ-loop
+add-read32 c = search needs
+
+read32-requires : tie.Need-read32-requires Inv-loop μ-loop
+read32-requires c κs = search needs
+
+of-step-requires : tie.Need-of-step-requires Inv-loop μ-loop
+of-step-requires c κs = search needs
+
+returns : tie.Need-returns Inv-loop μ-loop
+unfolding refusal11
+returns c = let l = c .before .before .before .before in
+    let a = l .before .before .args in
+    let left : a .n - l .loop .i ≡ suc (a .n - (l .loop .i + 1)) = omega arith in
+    let second : refusal11 (kindAt (a .s .now)) (l .loop .i) ≡ true = rw (← c .before .before .read32 .ensures, ← l .loop .inv .1 .0) (c .before .if1 .taken) in
+    rw (c .of-step .ensures) (sym (l .loop .inv .1 .1 ∙ elevens-off _ _ _ _ left second))
+
+add-i : tie.Need-add-i Inv-loop μ-loop
+add-i c = search needs
+
+loop-less : tie.Need-loop-less Inv-loop μ-loop
+loop-less c = search needs
+
+loop-again : tie.Need-loop-again Inv-loop μ-loop
+unfolding refusal11
+loop-again c = let l = c .before .before .before in
+    let a = l .before .before .args in
+    let left : a .n - l .loop .i ≡ suc (a .n - (l .loop .i + 1)) = omega arith in
+    let alone : refusal11 (kindAt (a .s .now)) (l .loop .i) ≡ false = rw (← c .before .read32 .ensures, ← l .loop .inv .1 .0) (c .if1 .left) in
+    (omega arith, (rw (before-next, ← c .before .read32 .ensures, ← l .loop .inv .1 .0), l .loop .inv .1 .1 ∙ elevens-on _ _ _ _ left alone))
+
+none-requires : tie.Need-none-requires Inv-loop μ-loop
+none-requires c κs = search needs
+
+returns-2 : tie.Need-returns-2 Inv-loop μ-loop
+returns-2 c = rw (c .none .ensures) (sym (c .before .before .loop .inv .1 .1 ∙ elevens-end _ _ _ (omega arith)))
+
+pub check-kinds-spec : {M : Type 1} → statement M
+check-kinds-spec =
+    tie.close
+    (tie.spec
+    Inv-loop
+    μ-loop
+    loop-holds
+    mul-read32
+    add-read32
+    read32-requires
+    of-step-requires
+    returns
+    add-i
+    loop-less
+    loop-again
+    none-requires
+    returns-2)

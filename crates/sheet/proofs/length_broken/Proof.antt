@@ -1,0 +1,18 @@
+-- `sheet::length_broken` meets its contract. Assumes nothing.
+use Rattle.sheet.specs.Rules.{refusal1}
+use borrow.Author.Needs.{needs}
+use Rattle.sheet.proofs.length_broken.Statement.{statement}
+use Rattle.sheet.proofs.length_broken.Tie as tie
+
+read32-requires : tie.Need-read32-requires
+read32-requires c κs = search needs
+
+wide-requires : tie.Need-wide-requires
+wide-requires c κs = search needs
+
+returns : tie.Need-returns
+unfolding refusal1
+returns c = rw (c .wide .ensures .0, c .before .read32 .ensures)
+
+pub length-broken-spec : {M : Type 1} → statement M
+length-broken-spec = tie.close (tie.spec read32-requires wide-requires returns)

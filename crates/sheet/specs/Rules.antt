@@ -1,0 +1,185 @@
+-- The rules of the sheet by document 01's numbers. `refusalN` says when refusal N is given: its rule is broken.
+-- The order in which they are asked stands in `readerOrder`, and the writer's in `writerOrder`; an answer is the first that is broken.
+use Prim.Native.Nat.{ℕ, zero, suc, _+_, _*_}
+use mathlib.Core.List.{List, [], _∷_, _++_}
+use mathlib.Core.Bool.{Bool, false, not, cond, _&&_, _||_}
+use lib.Dec.{eqb, ltb}
+use lib.ListN.{length}
+use Rattle.words.specs.Words.{put}
+use Rattle.bodies.specs.declared.Step.{Step}
+use Rattle.bodies.specs.Kinds.{lengthOf}
+use Rattle.bodies.specs.Rules.{bodyInRule, stepInRule, lacksConvention, lacksEpoch, lacksDuration}
+use Rattle.sheet.specs.declared.Refusal.{Refusal}
+use Rattle.sheet.specs.declared.Reading.{Reading}
+use Rattle.sheet.specs.declared.Sheet.{Sheet}
+use Rattle.sheet.specs.Layout.{formOf, totalLengthOf, stepCountOf, directoryOffsetOf, kindAt, invertedAt, offsetAt, lengthAt, directoryEnd, bodyAt, stepAt, recordOf, blankSheet}
+use Rattle.sheet.specs.Bytes.{entryOf, stepIn, kindIn, sheetLength, sheetBytesOf}
+
+-- ---- the sheet as a whole
+
+-- fewer than 16 or more than 4,240 bytes, or total length differs
+unfoldable pub refusal1 : List ℕ → Bool
+refusal1 s = ltb (length s) 16 || ltb 4240 (length s) || not (eqb (totalLengthOf s) (length s))
+
+-- form not 1
+unfoldable pub refusal2 : List ℕ → Bool
+refusal2 s = not (eqb (formOf s) 1)
+
+-- step count 0 or over 16
+unfoldable pub refusal3 : ℕ → Bool
+refusal3 count = eqb count 0 || ltb 16 count
+
+-- where the body before step i ends; before the first step's body the directory ends
+unfoldable pub endBefore : List ℕ → ℕ → ℕ
+endBefore s zero = directoryEnd (stepCountOf s)
+endBefore s (suc i) = offsetAt s i + lengthAt s i
+
+-- inverted 0 or 1
+abbrev pub invertedBroken : ℕ → Bool
+invertedBroken inverted = ltb 1 inverted
+
+-- a kind, inverted word or body length outside its rule, or an offset not where the body before it ends
+unfoldable pub placeBroken : List ℕ → ℕ → Bool
+placeBroken s i =
+    eqb (lengthOf (kindAt s i)) 0
+    || invertedBroken (invertedAt s i)
+    || not (eqb (lengthAt s i) (lengthOf (kindAt s i)))
+    || not (eqb (offsetAt s i) (endBefore s i))
+
+-- at some step, of k from step i on
+unfoldable pub someFrom : (ℕ → Bool) → ℕ → ℕ → Bool
+someFrom broken zero i = false
+someFrom broken (suc k) i = broken i || someFrom broken k (i + 1)
+
+-- directory offset not 16, a directory outside the sheet, a place of it out of rule, or bodies not ending at the total length
+unfoldable pub refusal4 : List ℕ → Bool
+refusal4 s =
+    not (eqb (directoryOffsetOf s) 16)
+    || ltb (length s) (directoryEnd (stepCountOf s))
+    || someFrom (placeBroken s) (stepCountOf s) 0
+    || not (eqb (endBefore s (stepCountOf s)) (totalLengthOf s))
+
+abbrev pub invertedBrokenIn : Sheet → ℕ → Bool
+invertedBrokenIn sheet i = invertedBroken (entryOf sheet i .inverted)
+
+-- the writer's 4: an inverted word outside its rule (a record has no kind outside it)
+unfoldable pub recordRefusal4 : Sheet → Bool
+recordRefusal4 sheet = someFrom (invertedBrokenIn sheet) (sheet .count) 0
+
+-- ---- a step
+
+-- a body field outside its rule
+unfoldable pub refusal5 : ℕ → List ℕ → Bool
+refusal5 kind body = not (bodyInRule kind body)
+
+-- the same at step i of a sheet
+abbrev pub refusal5At : List ℕ → ℕ → Bool
+refusal5At s i = refusal5 (kindAt s i) (bodyAt s i)
+
+-- the writer's 5, on the fields of step i of a record
+unfoldable pub recordRefusal5 : Sheet → ℕ → Bool
+recordRefusal5 sheet i = not (stepInRule (stepIn sheet i))
+
+-- rotated, convention none
+abbrev pub refusal6 : Step → Bool
+refusal6 step = lacksConvention step
+
+-- dynamic, t_epoch not given
+abbrev pub refusal7 : Step → Bool
+refusal7 step = lacksEpoch step
+
+-- neither dt nor t_epoch
+abbrev pub refusal8 : Step → Bool
+refusal8 step = lacksDuration step
+
+-- whether a step before step i is a deformation step, by the steps' kinds
+unfoldable pub deformationBefore : (ℕ → ℕ) → ℕ → Bool
+deformationBefore kind zero = false
+deformationBefore kind (suc i) = deformationBefore kind i || eqb (kind i) 5
+
+-- second deformation step: a deformation step after another; the first such is the second one
+unfoldable pub refusal11 : (ℕ → ℕ) → ℕ → Bool
+refusal11 kind i = eqb (kind i) 5 && deformationBefore kind i
+
+-- writer: room too short
+unfoldable pub refusal15 : Sheet → ℕ → Bool
+refusal15 sheet room = ltb room (sheetLength sheet)
+
+-- ---- the order
+
+-- a rule in its place: the refusal that is given where it is broken, and whether it is
+pub record Rule : Type 0 where
+  pub answer : Refusal
+  pub broken : Bool
+
+-- no refusal
+abbrev pub accepted : Refusal
+accepted = record { number = 0; step = 0 }
+
+-- of the sheet as a whole: step 0
+abbrev pub ofSheet : ℕ → Refusal
+ofSheet number = record { number = number; step = 0 }
+
+-- of step i, which is answered from 1
+abbrev pub ofStep : ℕ → ℕ → Refusal
+ofStep number i = record { number = number; step = i + 1 }
+
+abbrev pub rule : Refusal → Bool → Rule
+rule answer broken = record { answer = answer; broken = broken }
+
+-- a step's rules, 5 to 8
+unfoldable pub rulesOfStep : ℕ → Bool → Step → List Rule
+rulesOfStep i five step =
+    rule (ofStep 5 i) five ∷ rule (ofStep 6 i) (refusal6 step) ∷ rule (ofStep 7 i) (refusal7 step) ∷ rule (ofStep 8 i) (refusal8 step) ∷ []
+
+-- step by step 5 to 8, for k steps from step i on
+unfoldable pub fiveToEight : (ℕ → Bool) → (ℕ → Step) → ℕ → ℕ → List Rule
+fiveToEight five step zero i = []
+fiveToEight five step (suc k) i = rulesOfStep i (five i) (step i) ++ fiveToEight five step k (i + 1)
+
+-- 11 of each step, for k steps from step i on
+unfoldable pub elevens : (ℕ → ℕ) → ℕ → ℕ → List Rule
+elevens kind zero i = []
+elevens kind (suc k) i = rule (ofStep 11 i) (refusal11 kind i) ∷ elevens kind k (i + 1)
+
+-- the reader's order: 1, 2, 3, 4; then step by step 5 to 8; then 11
+unfoldable pub readerOrder : List ℕ → List Rule
+readerOrder s =
+    rule (ofSheet 1) (refusal1 s)
+    ∷ rule (ofSheet 2) (refusal2 s)
+    ∷ rule (ofSheet 3) (refusal3 (stepCountOf s))
+    ∷ rule (ofSheet 4) (refusal4 s)
+    ∷ (fiveToEight (refusal5At s) (stepAt s) (stepCountOf s) 0
+    ++ elevens (kindAt s) (stepCountOf s) 0)
+
+-- the writer's order: 3; inverted words by 4; then step by step 5 to 8; 11; then 15
+unfoldable pub writerOrder : Sheet → ℕ → List Rule
+writerOrder sheet room =
+    rule (ofSheet 3) (refusal3 (sheet .count))
+    ∷ rule (ofSheet 4) (recordRefusal4 sheet)
+    ∷ (fiveToEight (recordRefusal5 sheet) (stepIn sheet) (sheet .count) 0
+    ++ (elevens (kindIn sheet) (sheet .count) 0
+    ++ (rule (ofSheet 15) (refusal15 sheet room) ∷ [])))
+
+-- ---- the answers
+
+-- the first rule that is broken
+unfoldable pub firstBroken : List Rule → Refusal
+firstBroken [] = accepted
+firstBroken (r ∷ rules) = cond (r .broken) (r .answer) (firstBroken rules)
+
+-- the reader's refusal
+unfoldable pub refusalOf : List ℕ → Refusal
+refusalOf s = firstBroken (readerOrder s)
+
+-- the record, or the refusal with a blank sheet
+unfoldable pub readingOf : List ℕ → Reading
+readingOf s = record { refusal = refusalOf s; sheet = cond (eqb (refusalOf s .number) 0) (recordOf s) blankSheet }
+
+-- the writer's refusal, of a record and a room's length
+unfoldable pub writerRefusalOf : Sheet → ℕ → Refusal
+writerRefusalOf sheet room = firstBroken (writerOrder sheet room)
+
+-- the room afterwards: the sheet's bytes at its start and nothing after them touched; on refusal what it held
+unfoldable pub writtenOf : Sheet → List ℕ → List ℕ
+writtenOf sheet room = cond (eqb (writerRefusalOf sheet (length room) .number) 0) (put room 0 (sheetBytesOf sheet)) room
