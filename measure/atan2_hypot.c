@@ -1,16 +1,16 @@
-// How far atan2 and hypot are from the truth, and how long they take beside the C library.
+// How far atan2 and hypot are from the truth, beside the C library's.
 //
 // Links against an archive that exports `sillfeather_atan2` and `sillfeather_hypot`, and MPFR:
 //     cc -O2 measure/atan2_hypot.c ARCHIVE -lmpfr -lgmp -lm -o atan2_hypot && ./atan2_hypot 100000
 // The argument is the number of points of each class. Prints the largest error of each class in units in the last place, and where the
-// largest of all is; then how many special cases differ from the C library's bits; then nanoseconds a call, ours and the C library's.
+// largest of all is; then how many special cases differ from the C library's bits. Ends with status 1 where one does, or where an error exceeds
+// what docs/KERNELS.md states.
 #include <math.h>
 #include <mpfr.h>
 #include <stdint.h>
 #include <stdio.h>
 #include <stdlib.h>
 #include <string.h>
-#include <time.h>
 
 double sillfeather_atan2(double y, double x);
 double sillfeather_hypot(double x, double y);
@@ -99,28 +99,7 @@ static void note(struct worst *w, double error, double x, double y) {
 
 static int same(double a, double b) { return (isnan(a) && isnan(b)) || to_bits(a) == to_bits(b); }
 
-static double now(void) {
-    struct timespec t;
-    clock_gettime(CLOCK_MONOTONIC, &t);
-    return t.tv_sec * 1e9 + t.tv_nsec;
-}
-
-enum { POINTS = 4096 };
-static double xs[POINTS], ys[POINTS];
-
-static double nanoseconds(double (*f)(double, double)) {
-    double best = INFINITY;
-    volatile double kept;
-    for (int round = 0; round < 300; round++) {
-        double sum = 0, start = now();
-        for (int i = 0; i < POINTS; i++) sum += f(xs[i], ys[i]);
-        double each = (now() - start) / POINTS;
-        kept = sum;
-        if (each < best) best = each;
-    }
-    (void)kept;
-    return best;
-}
+static const double stated_angle = 0.80, stated_length = 0.98; // units in the last place
 
 int main(int count, char **words) {
     long points = count > 1 ? atol(words[1]) : 100000;
@@ -170,8 +149,7 @@ int main(int count, char **words) {
         }
     printf("special cases: %d; atan2 differs from the C library's bits in %d, hypot in %d\n", cases, angles_differ, lengths_differ);
 
-    for (int i = 0; i < POINTS; i++) point(METRES, &xs[i], &ys[i]);
-    double a = nanoseconds(sillfeather_atan2), ca = nanoseconds(atan2), h = nanoseconds(sillfeather_hypot), ch = nanoseconds(hypot);
-    printf("time: atan2 %.1f ns, C library %.1f, ratio %.2f; hypot %.1f ns, C library %.1f, ratio %.2f\n", a, ca, a / ca, h, ch, h / ch);
-    return angles_differ || lengths_differ || angle_absolute.error > 0x1p-50 || length.error > 2;
+    int held = !angles_differ && !lengths_differ && angle.error <= stated_angle && angle_absolute.error <= 0x1p-50 && length.error <= stated_length;
+    printf("stated: atan2 %.2f units, hypot %.2f units: %s\n", stated_angle, stated_length, held ? "held" : "NOT HELD");
+    return !held;
 }
