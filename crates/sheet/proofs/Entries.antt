@@ -53,10 +53,10 @@ filled-all s n h e =
     ∙ ap (λ (l : List Entry). entriesFrom s n 0 ++ l) (entries-past s (16 - n) (0 + n) (omega arith))
 
 -- step i of the record
-pub entry-from : (s : List ℕ) (k i j : ℕ) → j < k → getD (entriesFrom s k i) j blankEntry ≡ entryAt s (i + j)
+pub entry-from : (s : List ℕ) (d : Entry) (k i j : ℕ) → j < k → getD (entriesFrom s k i) j d ≡ entryAt s (i + j)
 unfolding entriesFrom
-entry-from s zero i j h = absurd (omega arith)
-entry-from s (suc k) i zero h = rw add-zero
-entry-from s (suc k) i (suc j) h =
+entry-from s d zero i j h = absurd (omega arith)
+entry-from s d (suc k) i zero h = rw add-zero
+entry-from s d (suc k) i (suc j) h =
     let e : i + 1 + j ≡ i + suc j = omega arith in
-    entry-from s k (i + 1) j (omega arith) ∙ ap (entryAt s) e
+    entry-from s d k (i + 1) j (omega arith) ∙ ap (entryAt s) e

@@ -2,3 +2,6 @@
 pub mod Order
 pub mod Entries
 pub mod Writing
+pub mod WriterOrder
+pub mod Examples
+pub mod Each

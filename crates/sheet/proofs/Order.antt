@@ -17,7 +17,7 @@ pub data Numbered : List Rule → Type 0 where
   none : Numbered []
   next : {r : Rule} {l : List Rule} → (r .answer .number ≡ 0 → ⊥) → Numbered l → Numbered (r ∷ l)
 
-not-zero : (n : ℕ) → suc n ≡ 0 → ⊥
+pub not-zero : (n : ℕ) → suc n ≡ 0 → ⊥
 not-zero n e = omega arith
 
 pub numbered-append : {l m : List Rule} → Numbered l → Numbered m → Numbered (l ++ m)

@@ -6,6 +6,7 @@ use mathlib.Core.Bool.{Bool, true, false, cond}
 use native.Mathlib.Omega.{arith}
 use native.Mathlib.Nat.{add-zero, add-suc}
 use native.Mathlib.Numerals.{add-one}
+use lib.Dec.{eqb}
 use lib.ListN.{length, length-append}
 use Rattle.words.specs.Words.{le32, put}
 use Rattle.words.proofs.Laws.{length-le32, put-put}
@@ -22,7 +23,9 @@ at-most false x y m p q = q
 -- no body is longer than Helmert's
 pub length-small : (kind : ℕ) → lengthOf kind ≤ 248
 unfolding lengthOf
-length-small kind = omega arith
+length-small kind =
+    at-most (eqb kind 1) _ _ 248 (omega arith) (at-most (eqb kind 2) _ _ 248 (omega arith) (at-most (eqb kind 3) _ _ 248 (omega arith)
+    (at-most (eqb kind 4) _ _ 248 (omega arith) (at-most (eqb kind 5) _ _ 248 (omega arith) (omega arith)))))
 
 module _ (sheet : Sheet) where
   pub start-next : (i : ℕ) → bodyStart sheet (i + 1) ≡ bodyStart sheet i + lengthIn sheet i
@@ -93,9 +96,9 @@ module _ (sheet : Sheet) where
       let d = bodies-length (sheet .count) in
       let from : 0 + (16 + 16 * sheet .count) ≡ 16 + 16 * sheet .count = omega arith in
       let short : length (headerBytes sheet ++ directoryBytes sheet (sheet .count)) ≡ 16 + 16 * sheet .count =
-          simp (length-append, header-length, directory-length) in
+      simp (length-append, header-length, directory-length) in
       let first : put (put l 0 (headerBytes sheet)) 16 (directoryBytes sheet (sheet .count)) ≡ put l 0 (headerBytes sheet ++ directoryBytes sheet (sheet .count)) =
-          put-put l (headerBytes sheet) (directoryBytes sheet (sheet .count)) 0 16 header-length (omega arith) in
+      put-put l (headerBytes sheet) (directoryBytes sheet (sheet .count)) 0 16 header-length (omega arith) in
       rw first
       (rw from at
       (put-put l (headerBytes sheet ++ directoryBytes sheet (sheet .count)) (bodiesBytes sheet (sheet .count)) 0 (16 + 16 * sheet .count) short (omega arith)))

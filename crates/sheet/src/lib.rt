@@ -493,7 +493,14 @@ fn put_place(room: &mut [u8], sheet: Sheet, i: usize, start: usize)
 {
     let entry = entry_in(sheet, i);
     let kind = kind_in(sheet, i);
-    put_words(room, 16 + 16 * i, kind, entry.inverted, start as u32, bodies::length_of(kind));
+    put_words(
+        room,
+        16 + 16 * i,
+        kind,
+        entry.inverted,
+        start as u32,
+        bodies::length_of(kind),
+    );
 }
 
 fn put_directory(room: &mut [u8], sheet: Sheet, n: usize)

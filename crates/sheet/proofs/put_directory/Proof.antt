@@ -2,7 +2,7 @@
 use borrow.Author.Needs.{needs}
 use native.Mathlib.Omega.{arith}
 use mathlib.Core.Path.{_≡_, refl, sym, ap, _∙_}
-use Prim.Native.Nat.{suc, _+_, _*_, _-_, _≤_, _<_}
+use Prim.Native.Nat.{ℕ, suc, _+_, _*_, _-_, _≤_, _<_}
 use native.Mathlib.Nat.{sub-zero}
 use Rattle.sheet.specs.Bytes.{bodyStart, directoryBytes}
 use Rattle.sheet.proofs.Writing.{start-next, directory-next}
@@ -57,8 +57,9 @@ same-length c = search needs
 returns : tie.Need-returns Inv-loop μ-loop
 returns c =
     let l = c .before in
-    let all : l .loop .i ≡ l .before .before .args .n = omega arith in
-    rw (← all) (l .loop .inv .1 .1 .1 .1)
+    let a = l .before .before .args in
+    let all : l .loop .i ≡ a .n = omega arith in
+    l .loop .inv .1 .1 .1 .1 ∙ ap (λ (k : ℕ). put (a .room .now) 16 (directoryBytes (a .sheet) k)) all
 
 pub put-directory-spec : {M : Type 1} → statement M
 put-directory-spec =

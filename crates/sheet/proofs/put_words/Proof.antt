@@ -1,4 +1,7 @@
 -- `sheet::put_words` meets its contract. Assumes nothing.
+use mathlib.Core.Path.{_∙_, ap, sym}
+use Prim.Native.Nat.{ℕ}
+use Rattle.words.specs.Words.{le32, putOf}
 use native.Mathlib.Omega.{arith}
 use native.Mathlib.Nat.{add-zero}
 use Rattle.words.proofs.Laws.{run-starts, run-word}
@@ -31,14 +34,14 @@ same-length : tie.Need-same-length
 same-length c = search needs
 
 returns : tie.Need-returns
-returns c = 
+returns c =
     let c4 = c .before .before in
     let c3 = c4 .before .before .before .before in
     let c2 = c3 .before .before .before .before in
     let c1 = c2 .before .before .before .before in
     let a = c1 .before .before .before .args in
     let r0 = run-starts (a .room .now) (a .at) 16 (omega arith) in
-    let r1 = run-word (a .a) r0 tt (rw add-zero (c1 .put32 .ensures)) in
+    let r1 = run-word (a .a) r0 tt (c1 .put32 .ensures ∙ ap (λ (k : ℕ). putOf (a .room .now) k (le32 (a .a))) (sym (add-zero (a .at)))) in
     let r2 = run-word (a .b) r1 tt (c2 .put322 .ensures) in
     let r3 = run-word (a .c) r2 tt (c3 .put323 .ensures) in
     let r4 = run-word (a .d) r3 tt (c4 .put324 .ensures) in

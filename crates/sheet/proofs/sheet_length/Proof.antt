@@ -44,7 +44,7 @@ loop-again c = let l = c .before .before in
 returns : tie.Need-returns Inv-loop μ-loop
 returns c = let l = c .before in
     let all : l .loop .i ≡ l .before .args .sheet .count = omega arith in
-    (rw (← all) (l .loop .inv .1 .0), omega arith)
+    (l .loop .inv .1 .0 ∙ ap (bodyStart (l .before .args .sheet)) all, omega arith)
 
 pub sheet-length-spec : {M : Type 1} → statement M
 sheet-length-spec =
