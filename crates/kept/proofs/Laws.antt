@@ -3,11 +3,12 @@ use Prim.Native.Nat.{ℕ, zero, suc, _+_, _-_, _*_, _/_, _≤_, _<_}
 use native.Mathlib.Omega.{arith}
 use native.Mathlib.Nat.{zero-add, add-zero}
 use mathlib.Core.Bool.{Bool, true, false, cond}
+use mathlib.Core.Logic.{inl}
 use mathlib.Core.Path.{_≡_, refl, sym, ap, _∙_, subst}
 use mathlib.Core.List.{List, [], _∷_, _++_, append-assoc}
 use lib.Dec.{leb}
 use lib.ListN.{length, take, drop, length-drop, take-append-drop}
-use lib.Seq.{take-at, drop-at, length-take-le}
+use lib.Seq.{take-at, drop-at, length-take-le, drop-paste, length-paste}
 use lib.Ieee.{Float}
 use borrow.Author.Tests.{leb-true, leb-false}
 use Rattle.tuple.specs.declared.Tuple.{Tuple}
@@ -16,13 +17,15 @@ use Rattle.helmert.specs.declared.State.{State}
 use Rattle.helmert.specs.Modes.{startOf, isRunningOf, stepOf}
 use Rattle.lists.specs.Flat.{numbersOf, tupleAt, putAt}
 use Rattle.lists.specs.Run.{Turns, ranOf, trackOf, stateAfterOf}
-use Rattle.lists.proofs.Places.{from-place, put-there, put-none}
+use Rattle.lists.proofs.Places.{from-place, put-there, put-none, put-length, put-drop}
 use Rattle.lists.proofs.Laws.{ran-length, ran-short}
 use Rattle.kept.specs.Same.{alikeOf}
-use Rattle.kept.specs.Kept.{helmertTurns, trackedOf, stateOf, Kept, keptOf, freshOf, stretchOf, stretchFrom, Redone, redoOf, beforeOf, putFix, correctedOf}
+use Rattle.kept.specs.Kept.{trackedOf, heldOf, Kept, keptOf, freshOf, writtenOf, carriedAt, keptAt, Stretch, Redone, redoOf, beforeOf, putFix, correctedOf, Correction}
+use Rattle.runs.specs.Turns.{helmertTurns}
 use Rattle.kept.proofs.Again.{Again, againOf, again-short}
 use Rattle.kept.proofs.Stretch.{redo-is-again, stretch-open}
 use Rattle.kept.proofs.Meeting.{track-at, state-stays, Renewed, again-first, Whole, whole-take, ran-append, track-append, track-length}
+use Rattle.kept.proofs.Words.{stretch-by-states, stretch-is-unique}
 use Rattle.kept.proofs.Start.{before-first, before-running, before-else}
 
 -- ---- the state before an index
@@ -32,6 +35,11 @@ step-stays : (shift : Shift) (inverse : Bool) → isRunningOf shift ≡ false
     → (k : ℕ) (state : State) (v : Tuple) → helmertTurns inverse shift k state v .state ≡ state
 unfolding stepOf
 step-stays shift inverse e k state v = rw e
+
+-- a fresh run keeps the list as it is
+fresh-list : (shift : Shift) (inverse : Bool) (l : List Float) → freshOf shift inverse l .list ≡ l
+unfolding freshOf
+fresh-list shift inverse l = refl
 
 -- of a fresh run, redoing starts from the state that the run carried there
 module _ (shift : Shift) (inverse : Bool) (l : List Float) where
@@ -49,8 +57,8 @@ module _ (shift : Shift) (inverse : Bool) (l : List Float) where
   before-running-is (suc k) h e =
       let d : suc k - 1 ≡ k = omega arith in
       before-running shift (freshOf shift inverse l .track) (suc k) (λ z. omega arith) e
-      ∙ ap (λ (j : ℕ). stateOf (tupleAt (freshOf shift inverse l .track) (4 * j))) d
-      ∙ ap stateOf (track-at (helmertTurns inverse shift) 0 (startOf shift) l k (omega arith))
+      ∙ ap (λ (j : ℕ). heldOf (tupleAt (freshOf shift inverse l .track) (4 * j))) d
+      ∙ ap heldOf (track-at (helmertTurns inverse shift) 0 (startOf shift) l k (omega arith))
 
   by-mode : (running : Bool) → isRunningOf shift ≡ running → (index : ℕ) → 4 * index ≤ length l → beforeOf shift (freshOf shift inverse l .track) index ≡ carried index
   by-mode true e index h = before-running-is index h e
@@ -190,3 +198,121 @@ module _ (shift : Shift) (inverse : Bool) (l : List Float) (index : ℕ) (fix : 
 
   pub corrected-equals-fresh : correctedOf shift inverse (freshOf shift inverse l) index fix .kept ≡ freshOf shift inverse (putAt l (4 * index) fix)
   corrected-equals-fresh = either (leb (4 * index + 4) (length l)) refl
+
+-- After any corrections, one after another, a kept run equals a fresh run of the list as it stands.
+abbrev pub keptAfter : Shift → Bool → Kept → List Correction → Kept
+keptAfter shift inverse kept [] = kept
+keptAfter shift inverse kept (c ∷ later) = keptAfter shift inverse (correctedOf shift inverse kept (c .index) (c .fix) .kept) later
+
+abbrev pub listAfter : List Float → List Correction → List Float
+listAfter l [] = l
+listAfter l (c ∷ later) = listAfter (putAt l (4 * c .index) (c .fix)) later
+
+pub kept-stays-fresh : (shift : Shift) (inverse : Bool) (l : List Float) (corrections : List Correction)
+    → keptAfter shift inverse (freshOf shift inverse l) corrections ≡ freshOf shift inverse (listAfter l corrections)
+kept-stays-fresh shift inverse l [] = refl
+kept-stays-fresh shift inverse l (c ∷ later) =
+    ap (λ (k : Kept). keptAfter shift inverse k later) (corrected-equals-fresh shift inverse l (c .index) (c .fix))
+    ∙ kept-stays-fresh shift inverse (putAt l (4 * c .index) (c .fix)) later
+
+-- ---- the stretch
+
+-- The number of fixes redone is the stretch that the words define, whatever the lists held.
+pub redone-is-the-stretch : (shift : Shift) (inverse : Bool) (old : Kept) (index : ℕ) (fix : Tuple) → 4 * index + 4 ≤ length (old .list)
+    → Stretch (carriedAt (helmertTurns inverse shift) index (beforeOf shift (old .track) index) (putAt (old .list) (4 * index) fix)) (keptAt (old .track))
+      index (length (old .list) / 4) (correctedOf shift inverse old index fix .count)
+unfolding correctedOf redoOf
+redone-is-the-stretch shift inverse old index fix h =
+    let at = 4 * index in
+    let long : length (putAt (old .list) at fix) ≡ length (old .list) = put-length (old .list) at fix h in
+    rw long at (stretch-by-states (helmertTurns inverse shift) (beforeOf shift (old .track) index) (putAt (old .list) at fix) (old .track) index (rw long h))
+
+-- a list is as it was before a place and from another on
+pub record Unwritten (old new : List Float) (start end : ℕ) : Type 0 where
+  pub before : take start new ≡ take start old
+  pub after : drop end new ≡ drop end old
+  pub long : length new ≡ length old
+
+written-between : (old new : List Float) (at n : ℕ) → at + n ≤ length old → n ≤ length new → Unwritten old (writtenOf old at new n) at (at + n)
+written-between old new at n h k =
+    record {
+      before =
+        ap (take at) (append-assoc (take at old) (take n new) (drop (at + n) old))
+        ∙ take-at (take at old) (take n new ++ drop (at + n) old) at (length-take-le at old (omega arith));
+      after = drop-paste old at new n (omega arith) k;
+      long = length-paste old at new n h k;
+    }
+
+-- Nothing outside the stretch is written, in results and track, whatever they held; and nothing of the list but the fix.
+module _ (shift : Shift) (inverse : Bool) (old : Kept) (index : ℕ) (fix : Tuple) (h : 4 * index + 4 ≤ length (old .list))
+    (er : length (old .results) ≡ length (old .list)) (et : length (old .track) ≡ length (old .list)) where
+  abbrev done : Redone
+  done = correctedOf shift inverse old index fix
+
+  fits-in : 4 * index + 4 * done .count ≤ length (old .list)
+  fits-in = let s = redone-is-the-stretch shift inverse old index fix h in omega (arith, s .within)
+
+  list-long : length (drop (4 * index) (putAt (old .list) (4 * index) fix)) ≡ length (old .list) - 4 * index
+  list-long = length-drop (4 * index) (putAt (old .list) (4 * index) fix) ∙ ap (λ (n : ℕ). n - 4 * index) (put-length (old .list) (4 * index) fix h)
+
+  pub results-outside : Unwritten (old .results) (done .kept .results) (4 * index) (4 * index + 4 * done .count)
+  unfolding correctedOf redoOf
+  results-outside =
+      let f = helmertTurns inverse shift in
+      let state = beforeOf shift (old .track) index in
+      let rest = drop (4 * index) (putAt (old .list) (4 * index) fix) in
+      let k : length (ranOf f index state rest) ≡ length (old .list) - 4 * index = ran-length f index state rest ∙ list-long in
+      written-between (old .results) (ranOf f index state rest) (4 * index) (4 * done .count) (rw er fits-in) (omega (arith, fits-in, k))
+
+  pub track-outside : Unwritten (old .track) (done .kept .track) (4 * index) (4 * index + 4 * done .count)
+  unfolding correctedOf redoOf
+  track-outside =
+      let f = helmertTurns inverse shift in
+      let state = beforeOf shift (old .track) index in
+      let rest = drop (4 * index) (putAt (old .list) (4 * index) fix) in
+      let k : length (trackOf trackedOf f index state rest) ≡ length (old .list) - 4 * index = track-length f index state rest ∙ list-long in
+      written-between (old .track) (trackOf trackedOf f index state rest) (4 * index) (4 * done .count) (rw et fits-in) (omega (arith, fits-in, k))
+
+  pub list-outside : Unwritten (old .list) (done .kept .list) (4 * index) (4 * index + 4)
+  unfolding correctedOf redoOf
+  list-outside =
+      record {
+        before =
+          ap (take (4 * index)) (put-there (old .list) (4 * index) fix h ∙ append-assoc (take (4 * index) (old .list)) (numbersOf fix) (drop (4 * index + 4) (old .list)))
+          ∙ take-at (take (4 * index) (old .list)) (numbersOf fix ++ drop (4 * index + 4) (old .list)) (4 * index) (length-take-le (4 * index) (old .list) (omega arith));
+        after = put-drop (old .list) (4 * index) fix h;
+        long = put-length (old .list) (4 * index) fix h;
+      }
+
+-- ---- static, fixed and own-epoch
+
+module _ (shift : Shift) (inverse : Bool) (l : List Float) (still : isRunningOf shift ≡ false) where
+  abbrev stays : (k : ℕ) (state : State) (v : Tuple) → helmertTurns inverse shift k state v .state ≡ state
+  stays = step-stays shift inverse still
+
+  -- they track (NaN, T) throughout
+  pub still-track : (j : ℕ) → 4 * j + 4 ≤ length l → keptAt (freshOf shift inverse l .track) j ≡ startOf shift
+  unfolding freshOf
+  still-track j h =
+      ap heldOf (track-at (helmertTurns inverse shift) 0 (startOf shift) l j h)
+      ∙ state-stays (helmertTurns inverse shift) stays 0 (startOf shift) (take (4 * suc j) l)
+
+  -- and a correction redoes one fix
+  pub still-redoes-one : (index : ℕ) (fix : Tuple) → 4 * index + 4 ≤ length l → correctedOf shift inverse (freshOf shift inverse l) index fix .count ≡ 1
+  still-redoes-one index fix h =
+      stretch-is-unique (redone-is-the-stretch shift inverse (freshOf shift inverse l) index fix (rw list-is h))
+      (record {
+        some = omega arith;
+        within = rw list-is (omega arith);
+        apart = λ j a b e. omega arith;
+        ends =
+          inl
+          (let d : index + 1 - 1 ≡ index = omega arith in
+          rw d
+          (state-stays (helmertTurns inverse shift) stays index (beforeOf shift (freshOf shift inverse l .track) index) (take (4 * (suc index - index)) (drop (4 * index) (putAt (freshOf shift inverse l .list) (4 * index) fix)))
+          ∙ before-else shift (freshOf shift inverse l .track) index still
+          ∙ sym (still-track index h)));
+      })
+    where
+      list-is : freshOf shift inverse l .list ≡ l
+      list-is = fresh-list shift inverse l

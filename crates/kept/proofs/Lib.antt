@@ -3,6 +3,7 @@ pub mod Flat
 pub mod Again
 pub mod Stretch
 pub mod Meeting
+pub mod Words
 pub mod Start
 pub mod Laws
 pub mod Afresh

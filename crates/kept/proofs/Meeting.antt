@@ -12,7 +12,7 @@ use Rattle.helmert.specs.declared.State.{State}
 use Rattle.lists.specs.Flat.{fourOf, numbersOf, tupleAt}
 use Rattle.lists.specs.Run.{Turn, Turns, ranOf, trackOf, stateAfterOf}
 use Rattle.kept.specs.Same.{alikeOf}
-use Rattle.kept.specs.Kept.{trackedOf, stateOf}
+use Rattle.kept.specs.Kept.{trackedOf, heldOf}
 use Rattle.kept.proofs.Data.{alike-are-equal}
 use Rattle.kept.proofs.Flat.{tuple-beyond}
 use Rattle.kept.proofs.Again.{Again, oneOf, againOf}
@@ -60,7 +60,7 @@ one-renewed : (f : Turns State) (k : ℕ) (old : State) (rest : List Float) (tur
     → (oneOf met turn (ranOf f k old rest) (trackOf trackedOf f k old rest) d .results ≡ numbersOf (turn .tuple) ++ ranOf f k (turn .state) rest)
     × (oneOf met turn (ranOf f k old rest) (trackOf trackedOf f k old rest) d .track ≡ numbersOf (trackedOf (turn .state)) ++ trackOf trackedOf f k (turn .state) rest)
 one-renewed f k old rest turn o eo true e d r =
-    let h : old ≡ turn .state = sym (ap stateOf (alike-are-equal (trackedOf (turn .state)) o e ∙ eo)) in
+    let h : old ≡ turn .state = sym (ap heldOf (alike-are-equal (trackedOf (turn .state)) o e ∙ eo)) in
     (rw h, rw h)
 one-renewed f k old rest turn o eo false e d r = (rw (r .results-are), rw (r .track-are))
 

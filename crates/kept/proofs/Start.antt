@@ -8,7 +8,7 @@ use lib.Ieee.{Float}
 use Rattle.helmert.specs.declared.Shift.{Shift}
 use Rattle.helmert.specs.Modes.{startOf, isRunningOf}
 use Rattle.lists.specs.Flat.{tupleAt}
-use Rattle.kept.specs.Kept.{stateOf, beforeOf}
+use Rattle.kept.specs.Kept.{heldOf, beforeOf}
 
 module _ (shift : Shift) (track : List Float) (index : ℕ) where
   pub before-first : index ≡ 0 → beforeOf shift track index ≡ startOf shift
@@ -16,7 +16,7 @@ module _ (shift : Shift) (track : List Float) (index : ℕ) where
   before-first e = rw e
 
 pub before-running : (shift : Shift) (track : List Float) (index : ℕ) → (index ≡ 0 → ⊥) → isRunningOf shift ≡ true
-    → beforeOf shift track index ≡ stateOf (tupleAt track (4 * (index - 1)))
+    → beforeOf shift track index ≡ heldOf (tupleAt track (4 * (index - 1)))
 unfolding beforeOf
 before-running shift track zero h e = absurd (h refl)
 before-running shift track (suc k) h e = let d : suc k - 1 ≡ k = omega arith in rw (d, e)

@@ -2,21 +2,18 @@
 use Prim.Native.Nat.{ℕ, zero, suc, _+_, _-_, _*_, _/_, _≤_, _<_}
 use mathlib.Core.Path.{_≡_}
 use mathlib.Core.Logic.{_⊎_}
-use mathlib.Core.Bool.{Bool, true, cond}
+use mathlib.Core.Bool.{Bool, cond}
 use mathlib.Core.List.{List, _++_}
 use lib.ListN.{length, take, drop}
 use lib.Ieee.{Float}
 use Rattle.tuple.specs.declared.Tuple.{Tuple}
 use Rattle.helmert.specs.declared.Shift.{Shift}
 use Rattle.helmert.specs.declared.State.{State}
-use Rattle.helmert.specs.Modes.{startOf, isRunningOf, stepOf}
+use Rattle.helmert.specs.Modes.{startOf, isRunningOf}
 use Rattle.lists.specs.Flat.{fourOf, tupleAt, putAt}
 use Rattle.lists.specs.Run.{Turns, ranOf, trackOf, stateAfterOf}
+use Rattle.runs.specs.Turns.{helmertTurns}
 use Rattle.kept.specs.Same.{alikeOf}
-
-abbrev pub helmertTurns : Bool → Shift → Turns State
-helmertTurns inverse shift k state v =
-    record { state = stepOf shift inverse state v .state; tuple = stepOf shift inverse state v .tuple; counted = true }
 
 -- ---- a run
 
@@ -25,8 +22,8 @@ abbrev pub trackedOf : State → Tuple
 trackedOf state = fourOf (state .last) (state .t .x) (state .t .y) (state .t .z)
 
 -- the state that the track holds
-abbrev pub stateOf : Tuple → State
-stateOf v = record { last = v .x; t = record { x = v .y; y = v .z; z = v .t } }
+abbrev pub heldOf : Tuple → State
+heldOf v = record { last = v .x; t = record { x = v .y; y = v .z; z = v .t } }
 
 -- what is kept: the list, its results, and four numbers of track a fix
 pub record Kept : Type 0 where
@@ -64,7 +61,7 @@ carriedAt f index state list j = stateAfterOf f index state (take (4 * (suc j - 
 
 -- the state that the track keeps after fix j
 abbrev pub keptAt : List Float → ℕ → State
-keptAt track j = stateOf (tupleAt track (4 * j))
+keptAt track j = heldOf (tupleAt track (4 * j))
 
 -- n fixes from an index on, of count: it ends with the first fix after which the carried state equals the kept one, else with the last
 pub record Stretch (carried kept : ℕ → State) (index count n : ℕ) : Type 0 where
@@ -99,7 +96,7 @@ redoOf f state old index =
 -- where redoing starts: in running mode from the track before the index, at index 0 from the sheet's start; else from the sheet's T
 unfoldable pub beforeOf : Shift → List Float → ℕ → State
 beforeOf shift track zero = startOf shift
-beforeOf shift track (suc k) = cond (isRunningOf shift) (stateOf (tupleAt track (4 * k))) (startOf shift)
+beforeOf shift track (suc k) = cond (isRunningOf shift) (heldOf (tupleAt track (4 * k))) (startOf shift)
 
 -- the list with the new fix in it
 abbrev pub putFix : Kept → ℕ → Tuple → Kept
@@ -109,3 +106,8 @@ putFix old index fix = keptOf (putAt (old .list) (4 * index) fix) (old .results)
 unfoldable pub correctedOf : Shift → Bool → Kept → ℕ → Tuple → Redone
 correctedOf shift inverse old index fix =
     redoOf (helmertTurns inverse shift) (beforeOf shift (old .track) index) (putFix old index fix) index
+
+-- an index and the new fix
+pub record Correction : Type 0 where
+  pub index : ℕ
+  pub fix : Tuple

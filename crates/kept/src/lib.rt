@@ -4,7 +4,8 @@ ghost use mathlib.Core.Bool.{true};
 ghost use Prim.Native.Nat.{_+_, _*_, _%_, _≤_, _<_};
 ghost use lib.ListN.{length};
 ghost use Rattle.kept.specs.Same.{alikeNumberOf, alikeOf};
-ghost use Rattle.kept.specs.Kept.{trackedOf, stateOf, keptOf, freshOf, redoneOf, redoOf, beforeOf, correctedOf, helmertTurns};
+ghost use Rattle.kept.specs.Kept.{trackedOf, heldOf, keptOf, freshOf, redoneOf, redoOf, beforeOf, correctedOf};
+ghost use Rattle.runs.specs.Turns.{helmertTurns};
 use helmert::Shift;
 use helmert::State;
 use rotation::Vec3;
@@ -38,8 +39,8 @@ fn tracked(state: State) -> Tuple
     }
 }
 
-fn state_of(v: Tuple) -> State
-    ensures { λ r. ⌜ r ≡ stateOf v ⌝ }
+fn held(v: Tuple) -> State
+    ensures { λ r. ⌜ r ≡ heldOf v ⌝ }
 {
     let t = Vec3 {
         x: v.y,
@@ -78,7 +79,7 @@ fn before(shift: Shift, track: &[f64], index: usize) -> State
         return helmert::start(shift);
     }
     if helmert::is_running(shift) {
-        return state_of(lists::read4(track, 4 * (index - 1)));
+        return held(lists::read4(track, 4 * (index - 1)));
     }
     helmert::start(shift)
 }

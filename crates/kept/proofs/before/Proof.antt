@@ -1,7 +1,7 @@
 -- `kept::before` meets its contract. Assumes nothing.
 use borrow.Author.Needs.{needs}
 use mathlib.Core.Path.{sym, ap, _∙_}
-use Rattle.kept.specs.Kept.{stateOf}
+use Rattle.kept.specs.Kept.{heldOf}
 use Rattle.kept.proofs.Start.{before-first, before-running, before-else}
 use Rattle.kept.proofs.before.Statement.{statement}
 use Rattle.kept.proofs.before.Tie as tie
@@ -24,12 +24,12 @@ mul-read4 c = search needs
 read4-requires : tie.Need-read4-requires
 read4-requires c κs = search needs
 
-state-of-requires : tie.Need-state-of-requires
-state-of-requires c κs = search needs
+held-requires : tie.Need-held-requires
+held-requires c κs = search needs
 
 returns-2 : tie.Need-returns-2
 returns-2 c =
-    c .state-of .ensures ∙ ap stateOf (c .before .read4 .ensures) ∙ sym (before-running _ _ _ (c .before .before .before .before .if1 .left) (sym (c .before .before .before .is-running .ensures) ∙ c .before .before .if2 .taken))
+    c .held .ensures ∙ ap heldOf (c .before .read4 .ensures) ∙ sym (before-running _ _ _ (c .before .before .before .before .if1 .left) (sym (c .before .before .before .is-running .ensures) ∙ c .before .before .if2 .taken))
 
 start-requires-2 : tie.Need-start-requires-2
 start-requires-2 c κs = search needs
@@ -47,7 +47,7 @@ before-spec =
     sub-read4
     mul-read4
     read4-requires
-    state-of-requires
+    held-requires
     returns-2
     start-requires-2
     returns-3)
