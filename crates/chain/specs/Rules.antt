@@ -10,7 +10,7 @@ use Rattle.sheet.specs.declared.Sheet.{Sheet}
 use Rattle.sheet.specs.declared.Refusal.{Refusal}
 use Rattle.sheet.specs.Layout.{stepCountOf, kindAt, entryAt}
 use Rattle.sheet.specs.Bytes.{entryOf, kindIn}
-use Rattle.sheet.specs.Rules.{ofSheet, rule, firstBroken, deformationBefore, refusalOf, writerRefusalOf}
+use Rattle.sheet.specs.Rules.{accepted, ofSheet, rule, firstBroken, deformationBefore, refusalOf, writerRefusalOf}
 use Rattle.chain.specs.declared.Answer.{Answer}
 use Rattle.chain.specs.Chain.{Run, chainOf, placesOf, entriesOf}
 
@@ -57,14 +57,18 @@ outcome answer l = record { answer = answer; list = l }
 abbrev pub refusedAnswer : Refusal → Answer
 refusedAnswer refusal = record { refusal = refusal; counts = replicate 16 0 }
 
--- run: no refusal, each step's count, and the list after the last step
-abbrev pub runOutcome : Refusal → Run → Outcome
-runOutcome none run = outcome (record { refusal = none; counts = placesOf (run .counts) }) (run .list)
+-- run: no refusal, and the counts in their places
+abbrev pub ranAnswer : List ℕ → Answer
+ranAnswer counts = record { refusal = accepted; counts = counts }
+
+-- the list after the last step
+abbrev pub ranOutcome : Run → Outcome
+ranOutcome run = outcome (ranAnswer (placesOf (run .counts))) (run .list)
 
 unfoldable pub outcomeOf : Refusal → Bool → Bool → List Entry → List Float → List Float → List ℕ → Outcome
 outcomeOf own deforms inverse es l velocities marks =
     let refusal = shiftRefusalOf own deforms l velocities marks in
-    cond (eqb (refusal .number) 0) (runOutcome refusal (chainOf inverse velocities marks es l)) (outcome (refusedAnswer refusal) l)
+    cond (eqb (refusal .number) 0) (ranOutcome (chainOf inverse velocities marks es l)) (outcome (refusedAnswer refusal) l)
 
 -- over a sheet's bytes
 unfoldable pub shiftOf : Bool → List ℕ → List Float → List Float → List ℕ → Outcome

@@ -9,9 +9,9 @@ ghost use mathlib.Core.Bool.{true, false};
 ghost use Prim.Native.Nat.{_*_, _≤_, _<_};
 ghost use lib.ListN.{length};
 ghost use Rattle.sheet.specs.Layout.{kindAt, entryAt};
-ghost use Rattle.sheet.specs.Rules.{deformationBefore};
+ghost use Rattle.sheet.specs.Rules.{ofSheet, deformationBefore};
 ghost use Rattle.chain.specs.Chain.{turnedOf, stepListOf, stepCountOf, forwardOf, inverseOf, placesOf, entriesOf};
-ghost use Rattle.chain.specs.Rules.{refusal9, overOne, refusal10, refusedAnswer, outcome, shiftOf, shiftRecordOf};
+ghost use Rattle.chain.specs.Rules.{refusal9, overOne, lentFor, refusal10, refusedAnswer, ranAnswer, outcome, shiftOf, shiftRecordOf};
 use bodies::Step;
 use sheet::Entry;
 use sheet::Refusal;
@@ -115,11 +115,21 @@ fn over_one(marks: &[u8]) -> bool
     false
 }
 
+// How many velocities and marks a list wants.
+fn lent_for(deforms: bool, numbers: usize) -> usize
+    ensures { λ r. ⌜ (r ≡ lentFor deforms numbers) × (r < 4611686018427387904) ⌝ }
+{
+    if deforms {
+        return numbers / 4;
+    }
+    0
+}
+
 // Rule 10.
 fn lent_broken(deforms: bool, numbers: usize, velocities: &[f64], marks: &[u8]) -> bool
     ensures { λ r. ⌜ r ≡ refusal10 deforms numbers (now (velocities .entry)) (now (marks .entry)) ⌝ }
 {
-    let tuples = if deforms { numbers / 4 } else { 0 };
+    let tuples = lent_for(deforms, numbers);
     if velocities.len() != 3 * tuples {
         return true;
     }
@@ -145,12 +155,31 @@ fn deforms(s: &[u8], n: usize) -> bool
 
 // ----- the entries ------------------------------------------------------------------------------
 
+// A refusal of the lent lists carries no step.
+fn of_lists(number: u32) -> Refusal
+    ensures { λ r. ⌜ r ≡ ofSheet number ⌝ }
+{
+    Refusal {
+        number: number,
+        step: 0,
+    }
+}
+
 fn refused(refusal: Refusal) -> Answer
     ensures { λ r. ⌜ r ≡ refusedAnswer refusal ⌝ }
 {
     Answer {
         refusal: refusal,
         counts: [0usize; 16],
+    }
+}
+
+fn ran(counts: [usize; 16]) -> Answer
+    ensures { λ r. ⌜ r ≡ ranAnswer counts ⌝ }
+{
+    Answer {
+        refusal: Refusal::none(),
+        counts: counts,
     }
 }
 
@@ -163,22 +192,16 @@ pub fn shift(inverse: bool, s: &[u8], list: &mut [f64], velocities: &[f64], mark
         return refused(own);
     }
     if list_broken(list.len()) {
-        return refused(Refusal { number: 9, step: 0 });
+        return refused(of_lists(9));
     }
     let n = sheet::step_count(s);
     if lent_broken(deforms(s, n), list.len(), velocities, marks) {
-        return refused(Refusal { number: 10, step: 0 });
+        return refused(of_lists(10));
     }
     if inverse {
         let counts = backward(s, n, list, velocities, marks);
-        return Answer {
-            refusal: own,
-            counts: counts,
-        };
+        return ran(counts);
     }
     let counts = forward(s, n, list, velocities, marks);
-    Answer {
-        refusal: own,
-        counts: counts,
-    }
+    ran(counts)
 }

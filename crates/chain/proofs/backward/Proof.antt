@@ -1,42 +1,51 @@
 -- `chain::backward` meets its contract. Assumes nothing.
+use borrow.Author.Needs.{needs}
+use native.Mathlib.Omega.{arith}
+use Prim.Native.Nat.{_+_, _-_}
+use mathlib.Core.Path.{_≡_}
+use Rattle.sheet.specs.Layout.{entryAt}
+use Rattle.chain.proofs.Laws.{Backward, backward-start, backward-again, backward-end}
 use Rattle.chain.proofs.backward.Statement.{statement}
 use Rattle.chain.proofs.backward.Tie as tie
 
 abbrev Inv-loop : tie.InvT-loop
-Inv-loop s n list₀ velocities marks counts₀ i₀ list counts i = ?
+Inv-loop s n list₀ velocities marks counts₀ i₀ list counts i = Backward velocities marks (entryAt s) n list₀ i list counts
 
 abbrev μ-loop : tie.MeasureT-loop
-μ-loop s n list₀ velocities marks counts₀ i₀ list counts i = ?
+μ-loop s n list₀ velocities marks counts₀ i₀ list counts i = i
 
 loop-holds : tie.Need-loop-holds Inv-loop μ-loop
-loop-holds c = ?
+loop-holds c = backward-start _ _ _ _ _ (c .before .before .before .before .pre)
 
 sub-i : tie.Need-sub-i Inv-loop μ-loop
-sub-i c = ?
+sub-i c = search needs
 
 entry-at-requires : tie.Need-entry-at-requires Inv-loop μ-loop
-entry-at-requires c κs = ?
+entry-at-requires c κs = search needs
 
 run-step-requires : tie.Need-run-step-requires Inv-loop μ-loop
-run-step-requires c κs = ?
+run-step-requires c κs = search needs
 
 mul-counts : tie.Need-mul-counts Inv-loop μ-loop
-mul-counts c = ?
+mul-counts c = search needs
 
 array-write-counts : tie.Need-array-write-counts Inv-loop μ-loop
-array-write-counts c = ?
+array-write-counts c = search needs
 
 loop-less : tie.Need-loop-less Inv-loop μ-loop
-loop-less c = ?
+loop-less c = search needs
 
 loop-again : tie.Need-loop-again Inv-loop μ-loop
-loop-again c = ?
+loop-again c = 
+    let l = c .before .before .before .before .before .before .loop in
+    let j : l .i - 1 + 1 ≡ l .i = omega (arith, c .before .before .before .before .before .loop-test .taken) in
+    backward-again (c .before .before .before .before .before .before .before .before .before .before .before .pre) (l .i - 1) j (c .before .before .before .before .entry-at .ensures) (c .before .before .run-step .ensures .0) (c .before .before .run-step .ensures .1) (l .inv)
 
 same-length : tie.Need-same-length Inv-loop μ-loop
-same-length c = ?
+same-length c = c .before .loop .inv .long
 
 returns : tie.Need-returns Inv-loop μ-loop
-returns c = ?
+returns c = backward-end (c .before .before .before .before .before .before .pre) (search needs) (c .before .loop .inv)
 
 pub backward-spec : {M : Type 1} → statement M
 backward-spec =
