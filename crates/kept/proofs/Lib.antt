@@ -7,3 +7,5 @@ pub mod Words
 pub mod Start
 pub mod Laws
 pub mod Afresh
+pub mod Answers
+pub mod Examples
