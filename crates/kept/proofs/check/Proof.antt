@@ -1,0 +1,65 @@
+-- `kept::check` meets its contract: each test that fails is the next rule in the order, kept. Assumes nothing.
+use borrow.Author.Needs.{needs}
+use mathlib.Core.Path.{_≡_, sym, ap, _∙_}
+use Rattle.sheet.specs.declared.Refusal.{Refusal}
+use Rattle.kept.proofs.Answers.{own-refused, refused-12, refused-9, refused-13, none-refused}
+use Rattle.kept.proofs.check.Statement.{statement}
+use Rattle.kept.proofs.check.Tie as tie
+
+check-requires : tie.Need-check-requires
+check-requires c κs = search needs
+
+returns : tie.Need-returns
+returns c =
+    let own = c .before .before .check .ensures in
+    own ∙ own-refused _ _ _ _ (λ z. c .if1 .taken (ap (λ (r : Refusal). r .number) own ∙ z))
+
+step-broken-requires : tie.Need-step-broken-requires
+step-broken-requires c κs = search needs
+
+returns-2 : tie.Need-returns-2
+returns-2 c =
+    let own = sym (ap (λ (r : Refusal). r .number) (c .before .before .before .before .check .ensures)) ∙ c .before .before .if1 .left in
+    refused-12 _ _ _ _ own (sym (c .before .step-broken .ensures) ∙ c .if2 .taken)
+
+list-broken-requires : tie.Need-list-broken-requires
+list-broken-requires c κs = search needs
+
+returns-3 : tie.Need-returns-3
+returns-3 c =
+    let own = sym (ap (λ (r : Refusal). r .number) (c .before .before .before .before .before .before .check .ensures)) ∙ c .before .before .before .before .if1 .left in
+    refused-9 _ _ _ _ own (sym (c .before .before .before .step-broken .ensures) ∙ c .before .before .if2 .left) (sym (c .before .list-broken .ensures) ∙ c .if3 .taken)
+
+lengths-broken-requires : tie.Need-lengths-broken-requires
+lengths-broken-requires c κs = search needs
+
+returns-4 : tie.Need-returns-4
+returns-4 c =
+    let own = sym (ap (λ (r : Refusal). r .number) (c .before .before .before .before .before .before .before .before .check .ensures)) ∙ c .before .before .before .before .before .before .if1 .left in
+    refused-13 _ _ _ _ own (sym (c .before .before .before .before .before .step-broken .ensures) ∙ c .before .before .before .before .if2 .left) (sym (c .before .before .before .list-broken .ensures) ∙ c .before .before .if3 .left)
+    (sym (c .before .lengths-broken .ensures) ∙ c .if4 .taken)
+
+none-requires : tie.Need-none-requires
+none-requires c κs = search needs
+
+returns-5 : tie.Need-returns-5
+returns-5 c =
+    let own = sym (ap (λ (r : Refusal). r .number) (c .before .before .before .before .before .before .before .before .before .check .ensures)) ∙ c .before .before .before .before .before .before .before .if1 .left in
+    c .none .ensures
+    ∙ none-refused _ _ _ _ own (sym (c .before .before .before .before .before .before .step-broken .ensures) ∙ c .before .before .before .before .before .if2 .left) (sym (c .before .before .before .before .list-broken .ensures) ∙ c .before .before .before .if3 .left)
+      (sym (c .before .before .lengths-broken .ensures) ∙ c .before .if4 .left)
+
+pub check-spec : {M : Type 1} → statement M
+check-spec =
+    tie.close
+    (tie.spec
+    check-requires
+    returns
+    step-broken-requires
+    returns-2
+    list-broken-requires
+    returns-3
+    lengths-broken-requires
+    returns-4
+    none-requires
+    returns-5)

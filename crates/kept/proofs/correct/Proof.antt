@@ -1,0 +1,74 @@
+-- `kept::correct` meets its contract. Assumes nothing.
+use Prim.Native.Nat.{_<_, _/_}
+use borrow.Author.Needs.{needs}
+use borrow.Author.Tests.{ltb-true, not-false}
+use native.Mathlib.Omega.{arith}
+use mathlib.Core.Path.{_≡_, sym, ap, _∙_}
+use lib.ListN.{length}
+use Rattle.sheet.specs.declared.Refusal.{Refusal}
+use Rattle.kept.specs.Entries.{keepRefusalOf, refusal14}
+use Rattle.kept.proofs.Answers.{passed, below, correct-refused, correct-refused-14, correct-done}
+use Rattle.kept.proofs.correct.Statement.{statement}
+use Rattle.kept.proofs.correct.Tie as tie
+
+check-requires : tie.Need-check-requires
+check-requires c κs = search needs
+
+returns : tie.Need-returns
+unfolding keepRefusalOf
+returns c = correct-refused _ _ _ _ _ (c .before .before .check .ensures) (c .if1 .taken)
+
+index-broken-requires : tie.Need-index-broken-requires
+index-broken-requires c κs = search needs
+
+returns-2 : tie.Need-returns-2
+unfolding keepRefusalOf
+returns-2 c =
+    correct-refused-14 _ _ _ _ _ (sym (ap (λ (r : Refusal). r .number) (c .before .before .before .before .check .ensures)) ∙ c .before .before .if1 .left) (sym (c .before .index-broken .ensures) ∙ c .if2 .taken)
+
+entry-at-requires : tie.Need-entry-at-requires
+entry-at-requires c κs = search needs
+
+shift-of-requires : tie.Need-shift-of-requires
+shift-of-requires c κs = search needs
+
+turned-requires : tie.Need-turned-requires
+turned-requires c κs = search needs
+
+put-right-requires : tie.Need-put-right-requires
+put-right-requires c κs =
+    let p = passed _ _ _ _ (sym (ap (λ (r : Refusal). r .number) (c .before .before .before .before .before .before .before .before .before .before .check .ensures)) ∙ c .before .before .before .before .before .before .before .before .if1 .left) in
+    let i = below _ _ (sym (c .before .before .before .before .before .before .before .index-broken .ensures) ∙ c .before .before .before .before .before .before .if2 .left) in
+    (omega (arith, p .few, i), omega (arith, i), p .long-results, p .long-track)
+
+same-length : tie.Need-same-length
+same-length c = search needs
+
+same-length-2 : tie.Need-same-length-2
+same-length-2 c = search needs
+
+same-length-3 : tie.Need-same-length-3
+same-length-3 c = search needs
+
+returns-3 : tie.Need-returns-3
+unfolding keepRefusalOf
+returns-3 c =
+    correct-done _ _ _ _ _ (c .before .before .before .before .before .before .before .before .before .before .before .before .before .before .before .before .before .check .ensures) (c .before .before .before .before .before .before .before .before .before .before .before .before .before .before .before .if1 .left) (sym (c .before .before .before .before .before .before .before .before .before .before .before .before .before .before .index-broken .ensures) ∙ c .before .before .before .before .before .before .before .before .before .before .before .before .before .if2 .left)
+    (c .before .before .before .before .before .before .put-right .ensures ∙ rw (c .before .before .before .before .before .before .before .before .before .before .turned .ensures, c .before .before .before .before .before .before .before .before .before .before .before .shift-of .ensures, c .before .before .before .before .before .before .before .before .before .before .before .before .entry-at .ensures))
+
+pub correct-spec : {M : Type 1} → statement M
+correct-spec =
+    tie.close
+    (tie.spec
+    check-requires
+    returns
+    index-broken-requires
+    returns-2
+    entry-at-requires
+    shift-of-requires
+    turned-requires
+    put-right-requires
+    same-length
+    same-length-2
+    same-length-3
+    returns-3)

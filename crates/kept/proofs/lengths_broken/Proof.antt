@@ -1,0 +1,12 @@
+-- `kept::lengths_broken` meets its contract. Assumes nothing.
+use mathlib.Core.Path.{refl}
+use Rattle.kept.specs.Entries.{refusal13}
+use Rattle.kept.proofs.lengths_broken.Statement.{statement}
+use Rattle.kept.proofs.lengths_broken.Tie as tie
+
+returns : tie.Need-returns
+unfolding refusal13
+returns c = refl
+
+pub lengths-broken-spec : {M : Type 1} → statement M
+lengths-broken-spec = tie.close (tie.spec returns)

@@ -1,0 +1,93 @@
+-- When a call is refused, by document 01's numbers, and what it answers and leaves. `refusalN` says when refusal N is given: its rule is broken.
+use Prim.Native.Nat.{ℕ, _/_}
+use mathlib.Core.Bool.{Bool, not, cond, _||_}
+use mathlib.Core.List.{List, [], _∷_}
+use lib.Dec.{eqb, ltb}
+use lib.ListN.{length}
+use lib.Ieee.{Float}
+use Rattle.tuple.specs.declared.Tuple.{Tuple}
+use Rattle.helmert.specs.declared.Helmert.{Helmert}
+use Rattle.helmert.specs.declared.Shift.{Shift}
+use Rattle.helmert.specs.Record.{blankHelmert}
+use Rattle.helmert.specs.Modes.{prepareOf}
+use Rattle.bodies.specs.declared.Step.{Step}
+use Rattle.bodies.specs.declared.Step.the-variants as step
+use Rattle.sheet.specs.declared.Refusal.{Refusal}
+use Rattle.sheet.specs.Layout.{stepCountOf, kindAt, entryAt}
+use Rattle.sheet.specs.Rules.{Rule, rule, ofSheet, firstBroken, refusalOf}
+use Rattle.chain.specs.Chain.{turnedOf}
+use Rattle.chain.specs.Rules.{refusal9}
+use Rattle.kept.specs.declared.Corrected.{Corrected}
+use Rattle.kept.specs.Kept.{Kept, keptOf, freshOf, Redone, correctedOf}
+
+-- ---- the rules of a kept run
+
+-- kept run: not one Helmert step
+unfoldable pub refusal12 : List ℕ → Bool
+refusal12 s = not (eqb (stepCountOf s) 1) || not (eqb (kindAt s 0) 1)
+
+-- kept run: results or track not as long as the list (track: 4 numbers a fix)
+unfoldable pub refusal13 : ℕ → ℕ → ℕ → Bool
+refusal13 list results track = not (eqb results list) || not (eqb track list)
+
+-- corrected fix's index not below the count
+unfoldable pub refusal14 : ℕ → ℕ → Bool
+refusal14 list index = not (ltb index (list / 4))
+
+-- the order: the sheet's own, 11 the last of them; then 12, 9, 13
+abbrev pub keptOrder : List ℕ → ℕ → ℕ → ℕ → List Rule → List Rule
+keptOrder s list results track later =
+    rule (refusalOf s) (not (eqb (refusalOf s .number) 0))
+    ∷ rule (ofSheet 12) (refusal12 s)
+    ∷ rule (ofSheet 9) (refusal9 list)
+    ∷ rule (ofSheet 13) (refusal13 list results track)
+    ∷ later
+
+unfoldable pub keepRefusalOf : List ℕ → Kept → Refusal
+keepRefusalOf s old = firstBroken (keptOrder s (length (old .list)) (length (old .results)) (length (old .track)) [])
+
+-- and for a correction 14
+unfoldable pub correctRefusalOf : List ℕ → Kept → ℕ → Refusal
+correctRefusalOf s old index =
+    firstBroken
+    (keptOrder s (length (old .list)) (length (old .results)) (length (old .track)) (rule (ofSheet 14) (refusal14 (length (old .list)) index) ∷ []))
+
+-- ---- the one step
+
+abbrev pub helmertOf : Step → Helmert
+helmertOf (step.Helmert h) = h
+helmertOf (step.Cart r) = blankHelmert
+helmertOf (step.Permtide r) = blankHelmert
+helmertOf (step.Deformation r) = blankHelmert
+helmertOf (step.Molodensky r) = blankHelmert
+
+-- the shift of the sheet's step, and the direction that it runs in
+abbrev pub shiftIn : List ℕ → Shift
+shiftIn s = prepareOf (helmertOf (entryAt s 0 .step))
+
+abbrev pub turnedIn : Bool → List ℕ → Bool
+turnedIn inverse s = turnedOf inverse (entryAt s 0)
+
+-- ---- the answers
+
+-- what a fresh run leaves; on refusal all three lists as they were
+unfoldable pub keepOf : Bool → List ℕ → Kept → Kept
+keepOf inverse s old = cond (eqb (keepRefusalOf s old .number) 0) (freshOf (shiftIn s) (turnedIn inverse s) (old .list)) old
+
+-- what a correction answers and leaves
+pub record Outcome : Type 0 where
+  pub answer : Corrected
+  pub kept : Kept
+
+abbrev pub outcome : Corrected → Kept → Outcome
+outcome answer kept = record { answer = answer; kept = kept }
+
+abbrev pub answerOf : Refusal → ℕ → Corrected
+answerOf refusal redone = record { refusal = refusal; redone = redone }
+
+-- on refusal the count is zero and all three lists are as they were
+unfoldable pub correctOf : Bool → List ℕ → Kept → ℕ → Tuple → Outcome
+correctOf inverse s old index fix =
+    let refusal = correctRefusalOf s old index in
+    let done = correctedOf (shiftIn s) (turnedIn inverse s) old index fix in
+    cond (eqb (refusal .number) 0) (outcome (answerOf refusal (done .count)) (done .kept)) (outcome (answerOf refusal 0) old)
