@@ -64,7 +64,7 @@ quotientAngleOf k a b =
 unfoldable pub moderate : Float → Float → Bool
 moderate a b = lt a (bits 0x6bb0_0000_0000_0000) && lt (bits 0x1430_0000_0000_0000) b
 
--- other magnitudes are scaled first: by 2⁻³⁰⁰ if the larger is above 1, else by 2³⁰⁰
+-- other magnitudes are scaled before they are divided: by 2⁻³⁰⁰ if the larger is above 1, else by 2³⁰⁰
 unfoldable pub scaleOf : Float → Float
 scaleOf a = cond (lt one a) (bits 0x2d30_0000_0000_0000) (bits 0x52b0_0000_0000_0000)
 

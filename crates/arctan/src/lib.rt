@@ -2,36 +2,48 @@
 //
 // Of the two magnitudes the smaller, b, is divided by the larger, a, once: 16 cells of b/a, told by the bits, each have a cut c whose arctangent is known in two parts,
 // and arctan (b/a) = arctan c + arctan t with t = (b - c·a)/(a + c·b), which is small, so that a polynomial of five terms serves. The octant adds the result to 0 or
-// π/2, or takes it away from π/2 or π. Proved: NaN exactly where a part is; odd in y; IEEE 754's zeros, infinities and quadrants. Measured: docs/KERNELS.md.
+// π/2, or takes it away from π/2 or π. Proved: NaN exactly where a part is; odd in y; IEEE 754's zeros, infinities and quadrants.
+// Measured against MPFR over 1.3 million points: within 0.76 units in the last place, absolute within 2^-51.85 (measure/atan2_hypot.c).
 // Longitude and latitude in `cart`, `geocart` and the geocentric latitude are taken by it.
 ghost use mathlib.Core.Path.{_≡_};
 ghost use Prim.Native.Nat.{_-_};
 ghost use mathlib.Core.Bool.{cond};
 ghost use Rattle.arctan.specs.Table.{cellAt, octantAt};
-ghost use Rattle.arctan.specs.Arctan.{tailOf, headOf, smallAngleOf, cutAngleOf, cellIndexOf, small, quotientAngleOf, moderate, extremeAngleOf, withinOf, octantIndexOf, insideOf, scaleOf, alongOf, diagonalOf, angleOf, atan2Of};
+ghost use Rattle.arctan.specs.Arctan.{tailOf, headOf, smallAngleOf, cutAngleOf, cellIndexOf, small, quotientAngleOf, moderate, scaleOf, extremeAngleOf, withinOf, octantIndexOf, insideOf, alongOf, diagonalOf, angleOf, atan2Of};
 
 const QUARTER_PI: f64 = 0.7853981633974483;
+
 const HALF_PI: f64 = 1.5707963267948966;
+
 const THREE_QUARTER_PI: f64 = 2.356194490192345;
+
 const PI: f64 = 3.141592653589793;
 
 // what π/2 and π exceed their rounded values by
 const HALF_PI_REST: f64 = 6.123233995736766e-17;
+
 const PI_REST: f64 = 1.2246467991473532e-16;
 
 const T3: f64 = -0.33333333333329584;
+
 const T5: f64 = 0.19999999992672887;
+
 const T7: f64 = -0.142857096336655;
+
 const T9: f64 = 0.11109821147869375;
+
 const T11: f64 = -0.08928223896045735;
 
 // 2^700 and 2^-700
 const MOST: f64 = 5.260135901548374e210;
+
 const LEAST: f64 = 1.90109156629516e-211;
 
 // 2^-100, 2^300 and 2^-300
 const NEGLIGIBLE: f64 = 7.888609052210118e-31;
+
 const UP: f64 = 2.037035976334486e90;
+
 const DOWN: f64 = 4.909093465297727e-91;
 
 struct Cell {
@@ -149,6 +161,13 @@ fn cell_at(i: u64) -> Cell
             angle: 0.07019697107187017,
             rest: 3.4514650303503937e-16,
         },
+        16 => Cell {
+            coarse: 0.0,
+            fine: 0.0,
+            angle: 0.0,
+            rest: 0.0,
+        },
+        // never asked for, and the same: so the rows are read without a test
         _ => Cell {
             coarse: 0.0,
             fine: 0.0,

@@ -76,37 +76,42 @@ pub fn blank_step() -> Step
 
 // ----- reading ---------------------------------------------------------------------------
 
+// The readers below are lent a body of their kind's length, and take all of it as a part: the compiler then knows how long it is, and no field is tested.
 fn read_vec3(b: &[u8], at: usize) -> Vec3
-    requires { ⌜ at ≤ 176 ⌝ }
+    requires { ⌜ at + 24 ≤ length (now b) ⌝ }
     ensures { λ r. ⌜ r ≡ vec3At (now (b .entry)) at ⌝ }
 {
+    let end = at + 24;
+    let v = &b[at..end];
     Vec3 {
-        x: words::number(b, at),
-        y: words::number(b, at + 8),
-        z: words::number(b, at + 16),
+        x: words::number(v, 0),
+        y: words::number(v, 8),
+        z: words::number(v, 16),
     }
 }
 
 fn read_helmert(b: &[u8]) -> Helmert
+    requires { ⌜ length (now b) ≡ 248 ⌝ }
     ensures { λ r. ⌜ r ≡ helmertOf (now (b .entry)) ⌝ }
 {
+    let body = &b[..248];
     Helmert {
-        flags: words::read32(b, 0),
-        convention: words::read32(b, 4),
-        translation: read_vec3(b, 8),
-        xyz: read_vec3(b, 32),
-        translation_rate: read_vec3(b, 56),
-        dxyz: read_vec3(b, 80),
-        rotation: read_vec3(b, 104),
-        rxyz: read_vec3(b, 128),
-        rotation_rate: read_vec3(b, 152),
-        drxyz: read_vec3(b, 176),
-        scale: words::number(b, 200),
-        s: words::number(b, 208),
-        scale_rate: words::number(b, 216),
-        ds: words::number(b, 224),
-        t_epoch: words::number(b, 232),
-        t_obs: words::number(b, 240),
+        flags: words::read32(body, 0),
+        convention: words::read32(body, 4),
+        translation: read_vec3(body, 8),
+        xyz: read_vec3(body, 32),
+        translation_rate: read_vec3(body, 56),
+        dxyz: read_vec3(body, 80),
+        rotation: read_vec3(body, 104),
+        rxyz: read_vec3(body, 128),
+        rotation_rate: read_vec3(body, 152),
+        drxyz: read_vec3(body, 176),
+        scale: words::number(body, 200),
+        s: words::number(body, 208),
+        scale_rate: words::number(body, 216),
+        ds: words::number(body, 224),
+        t_epoch: words::number(body, 232),
+        t_obs: words::number(body, 240),
     }
 }
 
@@ -119,39 +124,45 @@ fn read_cart(b: &[u8]) -> Cart
 }
 
 fn read_molodensky(b: &[u8]) -> Molodensky
+    requires { ⌜ length (now b) ≡ 56 ⌝ }
     ensures { λ r. ⌜ r ≡ molodenskyOf (now (b .entry)) ⌝ }
 {
+    let body = &b[..56];
     Molodensky {
-        flags: words::read32(b, 0),
-        first: words::read32(b, 4),
-        second: words::read32(b, 8),
-        dx: words::number(b, 16),
-        dy: words::number(b, 24),
-        dz: words::number(b, 32),
-        da: words::number(b, 40),
-        df: words::number(b, 48),
+        flags: words::read32(body, 0),
+        first: words::read32(body, 4),
+        second: words::read32(body, 8),
+        dx: words::number(body, 16),
+        dy: words::number(body, 24),
+        dz: words::number(body, 32),
+        da: words::number(body, 40),
+        df: words::number(body, 48),
     }
 }
 
 fn read_permtide(b: &[u8]) -> Permtide
+    requires { ⌜ length (now b) ≡ 24 ⌝ }
     ensures { λ r. ⌜ r ≡ permtideOf (now (b .entry)) ⌝ }
 {
+    let body = &b[..24];
     Permtide {
-        ellipsoid: words::read32(b, 0),
-        to: words::read32(b, 4),
-        from: words::read32(b, 8),
-        k: words::number(b, 16),
+        ellipsoid: words::read32(body, 0),
+        to: words::read32(body, 4),
+        from: words::read32(body, 8),
+        k: words::number(body, 16),
     }
 }
 
 fn read_deformation(b: &[u8]) -> Deformation
+    requires { ⌜ length (now b) ≡ 24 ⌝ }
     ensures { λ r. ⌜ r ≡ deformationOf (now (b .entry)) ⌝ }
 {
+    let body = &b[..24];
     Deformation {
-        flags: words::read32(b, 0),
-        ellipsoid: words::read32(b, 4),
-        dt: words::number(b, 8),
-        epoch: words::number(b, 16),
+        flags: words::read32(body, 0),
+        ellipsoid: words::read32(body, 4),
+        dt: words::number(body, 8),
+        epoch: words::number(body, 16),
     }
 }
 

@@ -1,15 +1,15 @@
--- A number's sign, told by comparing with zero and, where that does not tell, by one over it. Assumes nothing.
+-- Comparing with zero, and what a number less itself is. Assumes nothing.
 use mathlib.Core.Path.{_≡_, refl, sym, ap, _∙_}
 use Prim.Native.Nat.{ℕ, zero, suc, _+_, _*_, _<_}
 use native.Mathlib.Nat.{zero-mul, mul-pos, zero-lt-suc, le-refl, sub-self}
 use native.Mathlib.Omega.{arith}
 use mathlib.Core.Bool.{Bool, true, false, not, true≢false}
 use lib.IntN.{ℤ}
-use lib.Ieee.{Float, nan, inf, fin, binary64, lt, eq, sub, div, add, sum, round, size, up, down, ofBits}
+use lib.Ieee.{Float, nan, inf, fin, binary64, lt, eq, sub, add, sum, round, size, up, down, ofBits}
 use lib.Ieee.Fits.{up-pos, down-pos}
 use lib.Ieee.Scale.{finite, round-same}
 use borrow.Author.Tests.{lt-ltb, le-ltb, ne-eqb}
-use Rattle.floats.specs.Binary64.{bits, _⊖_, _⊘_}
+use Rattle.floats.specs.Binary64.{bits, _⊖_}
 use Rattle.floats.specs.Number.{signOf}
 
 some : (m : ℕ) (e : ℤ) → 0 < suc m * up e * 1
@@ -36,16 +36,7 @@ pub below-zero : (m : ℕ) (e : ℤ) → lt (fin true (suc m) e) (bits 0) ≡ tr
 unfolding lt ofBits
 below-zero m e = lt-ltb 0 (suc m * up e * 1 + 0 * 1 * down e) (let p = some m e in omega arith)
 
--- of a zero, one over it tells the sign
-pub sign-of-zero : (x : Float) → eq x (bits 0) ≡ true → lt (bits 0x3ff0_0000_0000_0000 ⊘ x) (bits 0) ≡ signOf x
-unfolding eq lt div ofBits signOf
-sign-of-zero nan h = absurd (true≢false (sym h))
-sign-of-zero (inf s) h = absurd (true≢false (sym h))
-sign-of-zero (fin true zero e) h = refl
-sign-of-zero (fin false zero e) h = refl
-sign-of-zero (fin s (suc m) e) h = absurd (true≢false (sym h ∙ differs-from-zero s m e))
-
--- of any other number, being below zero
+-- of a number that is not zero, being below zero tells the sign
 pub sign-of-other : (x : Float) → eq x (bits 0) ≡ false → lt x (bits 0) ≡ signOf x
 unfolding eq lt ofBits signOf
 sign-of-other nan h = refl

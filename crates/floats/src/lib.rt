@@ -7,11 +7,15 @@ ghost use lib.Ieee.{binary64, ofBits, toBits, isNan};
 ghost use lib.Ieee.Scale.{finite};
 ghost use Rattle.floats.specs.Number.{signOf, absOf, copysignOf, sameOf, squareOf, cubeOf};
 
-// Whether x carries a minus sign. One over a zero tells -0 from +0.
+// Whether x carries a minus sign: the highest bit, of any number but NaN.
 pub fn negative(x: f64) -> bool
     ensures { λ r. ⌜ r ≡ signOf x ⌝ }
 {
-    if x == 0.0 { 1.0 / x < 0.0 } else { x < 0.0 }
+    if x != x {
+        false
+    } else {
+        0x8000_0000_0000_0000 <= f64::to_bits(x)
+    }
 }
 
 pub fn is_nan(x: f64) -> bool
@@ -27,10 +31,11 @@ pub fn is_finite(x: f64) -> bool
     x - x == 0.0
 }
 
+// The magnitude. Zero less a zero of either sign is +0, and in this form the compiler makes one instruction of it.
 pub fn abs(x: f64) -> f64
     ensures { λ r. ⌜ r ≡ absOf x ⌝ }
 {
-    if negative(x) { -x } else { x }
+    if x <= 0.0 { 0.0 - x } else { x }
 }
 
 // The magnitude of x with the sign of y.

@@ -1,20 +1,19 @@
 -- Known values: document 01's marked points P2 to P5, P11 and P12 on one step after another, the blank record, and the listed differences. Assumes nothing.
 use mathlib.Core.Path.{_≡_, refl}
-use mathlib.Core.Bool.{Bool, true, false, not, cond, _&&_}
+use mathlib.Core.Bool.{true, false}
 use mathlib.Core.List.{List, [], _∷_}
 use Prim.Native.Nat.{ℕ}
-use lib.Ieee.{Float, nan, binary64, ofBits, add, sub, mul, div, neg, eq, ne, isNan}
+use lib.Ieee.{Float, nan, ofBits, add, sub, mul, div, neg, eq, ne, isNan}
 use Rattle.floats.specs.Binary64.{bits}
 use Rattle.tuple.specs.declared.Tuple.{Tuple}
 use Rattle.rotation.specs.declared.Vec3.{Vec3}
 use Rattle.helmert.specs.declared.Helmert.{Helmert}
 use Rattle.helmert.specs.declared.Shift.{Shift}
 use Rattle.helmert.specs.declared.State.{State}
-use Rattle.helmert.specs.declared.Stepped.{Stepped}
 use Rattle.helmert.specs.Record.{zero3, blankHelmert}
 use Rattle.helmert.specs.Units.{winnerOf, lengthsOf, anglesOf, parametersOf}
 use Rattle.helmert.specs.Rules.{someOf, rotatedOf, dynamicOf, finite3Of, timeOf, vectorsFiniteOf, scalesFiniteOf, fieldsInRuleOf, lacksConventionOf, lacksEpochOf}
-use Rattle.rotation.specs.Matrix.{firstOrderOf, secondOrderOf, rowsOf, rotationMatrixOf}
+use Rattle.rotation.specs.Matrix.{firstOrderOf, rowsOf, rotationMatrixOf}
 use Rattle.helmert.specs.Apply.{offsetOf, deoffsetOf, forwardOf, inverseOf}
 use Rattle.helmert.specs.Modes.{observedOf, prepareOf, grownOf, scaleAtOf, fixedStepOf, startOf, nextOf, runningOf, ownTimeOf, ownEpochStepOf, stepOf}
 
@@ -116,3 +115,52 @@ observed : let p = prepareOf (sheet 0 one (bits 0) (bits 0x412e_8480_0000_0000) 
     (p .t ≡ along-x one) × (p .s ≡ bits 0x4010_0000_0000_0000)
 unfolding one y2000 y2001 along-x sheet prepareOf parametersOf winnerOf lengthsOf anglesOf rotatedOf dynamicOf someOf observedOf ofBits add sub mul div eq ne isNan
 observed = (refl, refl)
+
+-- ---- a worked example of IOGP 373-7-2: WGS 72 to WGS 84, Z + 4.5 m, rz 0.554", 0.219 ppm
+
+-- by the position vector, or by the coordinate frame with the angle's sign turned
+wgs72 : ℕ → Float → Helmert
+wgs72 convention rz =
+    record {
+      flags = 0;
+      convention = convention;
+      translation = record { x = bits 0; y = bits 0; z = bits 0x4012_0000_0000_0000 };
+      xyz = zero3;
+      «translation_rate» = zero3;
+      dxyz = zero3;
+      rotation = zero3;
+      rxyz = record { x = bits 0; y = bits 0; z = rz };
+      «rotation_rate» = zero3;
+      drxyz = zero3;
+      scale = bits 0;
+      s = bits 0x3fcc_0831_26e9_78d5;
+      «scale_rate» = bits 0;
+      ds = bits 0;
+      «t_epoch» = nan;
+      «t_obs» = nan;
+    }
+
+there : Helmert → Tuple → Tuple
+there h v = let shift = prepareOf h in stepOf shift false (startOf shift) v .tuple
+
+back : Helmert → Tuple → Tuple
+back h v = let shift = prepareOf h in stepOf shift true (startOf shift) v .tuple
+
+-- X 3657660.66, Y 255768.55, Z 5201382.11
+old-place : Tuple
+old-place = record { x = bits 0x414b_e7de_547a_e148; y = bits 0x410f_38c4_6666_6666; z = bits 0x4153_d779_870a_3d71; t = nan }
+
+-- X 3657660.774, Y 255778.430, Z 5201387.749, where the published figures are 3657660.78, 255778.43, 5201387.75
+new-place : Tuple
+new-place = record { x = bits 0x414b_e7de_6314_a0d2; y = bits 0x410f_3913_70a8_4270; z = bits 0x4153_d77a_eff1_4c60; t = nan }
+
+-- X 3657660.660026, Y 255768.550002, Z 5201382.11: the transpose of a small-angle matrix is its inverse to first order
+place-again : Tuple
+place-again = record { x = bits 0x414b_e7de_547b_bea0; y = bits 0x410f_38c4_6667_5e0b; z = bits 0x4153_d779_870a_3d71; t = nan }
+
+wgs72-to-wgs84 :
+    (there (wgs72 1 (bits 0x3fe1_ba5e_353f_7cee)) old-place ≡ new-place)
+    × (there (wgs72 2 (bits 0xbfe1_ba5e_353f_7cee)) old-place ≡ new-place)
+    × (back (wgs72 1 (bits 0x3fe1_ba5e_353f_7cee)) new-place ≡ place-again)
+unfolding wgs72 there back old-place new-place place-again prepareOf parametersOf winnerOf lengthsOf anglesOf rotatedOf dynamicOf someOf startOf stepOf fixedStepOf rotationMatrixOf firstOrderOf rowsOf forwardOf inverseOf offsetOf deoffsetOf ofBits neg add sub mul div eq ne isNan
+wgs72-to-wgs84 = (refl, refl, refl)

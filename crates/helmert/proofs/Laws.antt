@@ -1,8 +1,8 @@
 -- What is true of the Helmert step, for callers to cite. Assumes nothing.
-use mathlib.Core.Path.{_≡_, refl, sym, ap, _∙_}
-use mathlib.Core.Bool.{Bool, true, false, not, cond, _&&_}
-use lib.Ieee.{Float, nan, inf, fin, binary64, add, sub, mul, eq, ne}
-use Rattle.floats.specs.Binary64.{_⊕_, _⊖_, _⊗_}
+use mathlib.Core.Path.{_≡_, refl, sym}
+use mathlib.Core.Bool.{Bool, true, false, not, _&&_, true≢false}
+use lib.Ieee.{Float, nan, inf, fin, add, sub, mul, eq, ne}
+use Rattle.floats.specs.Binary64.{_⊕_}
 use Rattle.tuple.specs.declared.Tuple.{Tuple}
 use Rattle.rotation.specs.declared.Vec3.{Vec3}
 use Rattle.helmert.specs.declared.Shift.{Shift}
@@ -10,6 +10,28 @@ use Rattle.helmert.specs.declared.State.{State}
 use Rattle.helmert.specs.Apply.{forwardOf, inverseOf, applyOf}
 use Rattle.rotation.specs.Matrix.{Matrix}
 use Rattle.helmert.specs.Modes.{fixedStepOf, grownOf, nextOf, runningOf, ownEpochStepOf, timeVaryingOf, isOwnEpochOf, isRunningOf, stepOf}
+
+-- ---- the step by its mode: what a loop that decides the mode beforehand leans on
+
+pub step-in-running : (shift : Shift) (inv : Bool) (state : State) (v : Tuple) → isRunningOf shift ≡ true → stepOf shift inv state v ≡ runningOf shift inv state v
+unfolding stepOf
+step-in-running shift inv state v h = rw h
+
+one-of-two : (a b : Bool) → (a && b) ≡ true → (a && not b) ≡ false
+one-of-two true true h = refl
+one-of-two true false h = absurd (true≢false (sym h))
+one-of-two false b h = refl
+
+pub step-in-own-epoch : (shift : Shift) (inv : Bool) (state : State) (v : Tuple) → isOwnEpochOf shift ≡ true
+    → stepOf shift inv state v ≡ record { state = state; tuple = ownEpochStepOf shift inv v }
+unfolding stepOf
+step-in-own-epoch shift inv state v h = rw (one-of-two (timeVaryingOf shift) (shift .«own_epoch») h, h)
+
+-- a static or fixed sheet ignores the own-epoch flag
+pub step-in-static-or-fixed : (shift : Shift) (inv : Bool) (state : State) (v : Tuple) → timeVaryingOf shift ≡ false
+    → stepOf shift inv state v ≡ record { state = state; tuple = fixedStepOf shift inv v }
+unfolding stepOf
+step-in-static-or-fixed shift inv state v h = rw h
 
 -- ---- what a step carries
 
@@ -24,17 +46,16 @@ pub result-of-the-fix-alone : (shift : Shift) (inv : Bool) (state other : State)
 unfolding stepOf
 result-of-the-fix-alone shift inv state other v h = rw h
 
--- a static or fixed sheet ignores the own-epoch flag
-pub own-epoch-flag-ignored : (shift : Shift) (inv : Bool) (state : State) (v : Tuple) → timeVaryingOf shift ≡ false
-    → stepOf shift inv state v ≡ record { state = state; tuple = fixedStepOf shift inv v }
-unfolding stepOf
-own-epoch-flag-ignored shift inv state v h = rw h
-
 -- in running mode the state after a fix is that before it at the fix's time
 pub state-in-running : (shift : Shift) (inv : Bool) (state : State) (v : Tuple) → isRunningOf shift ≡ true
     → stepOf shift inv state v .state ≡ nextOf shift state (v .t)
 unfolding stepOf runningOf
 state-in-running shift inv state v h = rw h
+
+-- at the last time itself nothing is carried on: what was worked out for it still serves
+pub last-time-keeps-state : (shift : Shift) (state : State) (time : Float) → ne time (state .last) ≡ false → nextOf shift state time ≡ state
+unfolding nextOf
+last-time-keeps-state shift state time h = rw h
 
 -- so in any mode, and both ways, fixes of one time lead from one state to one state
 pub state-from-time : (shift : Shift) (inv back : Bool) (state : State) (v w : Tuple) → v .t ≡ w .t

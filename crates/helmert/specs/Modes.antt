@@ -1,6 +1,5 @@
 -- The prepared shift and its four modes on one tuple: static, fixed, running, own-epoch. A state goes in and comes out: the last time, and T.
 use mathlib.Core.Bool.{Bool, not, cond, _&&_}
-use Prim.Native.Nat.{ℕ}
 use lib.Dec.{eqb}
 use lib.Ieee.{Float, nan, isNan, ne}
 use Rattle.floats.specs.Binary64.{_⊕_, _⊖_, _⊗_}

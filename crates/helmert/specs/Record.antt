@@ -1,8 +1,8 @@
 -- The record of a Helmert step as the sheet carries it: its flags, and the blank record.
-use Prim.Native.Nat.{ℕ, _/_, _%_}
+use Prim.Native.Nat.{_/_, _%_}
 use mathlib.Core.Bool.{Bool}
 use lib.Dec.{eqb}
-use lib.Ieee.{Float, nan}
+use lib.Ieee.{nan}
 use Rattle.floats.specs.Binary64.{bits}
 use Rattle.rotation.specs.declared.Vec3.{Vec3}
 use Rattle.helmert.specs.declared.Helmert.{Helmert}

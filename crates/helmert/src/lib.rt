@@ -1,16 +1,17 @@
 // The Helmert step: helmert.rs of the crate geodesy 0.15.0, with the record, the rules and the modes of document 01.
 //
 // The method is IOGP 373-7-2's coordinate frame and position vector shifts, in the Rust's own sequence of roundings and with its letters: `scaled` and
-// `prepare` are its `new`, `rotation_matrix` its own, and the steps on one tuple are one turn of the loop of its `helmert_common`. Every function is proved
-// equal to its definition in specs/, rounding by rounding, for every number. Two differences from IOGP are the Rust's and are kept: in running mode T grows
-// from one time to the next, and t_obs moves S three times. The own-epoch mode is ours. The list never stands here: a state goes in and comes out, and a
-// loop over a list decides the mode once and builds the matrix anew only when the time changes, from the pieces that are public for it.
+// `prepare` are its `new`, and the steps on one tuple are one turn of the loop of its `helmert_common`; its `rotation_matrix` is in the crate rotation.
+// Every function is proved equal to its definition in specs/, rounding by rounding, for every number. Two differences from IOGP are the Rust's and are kept:
+// in running mode T grows from one time to the next, and t_obs moves S three times. The own-epoch mode is ours. A step sees one tuple and never the list:
+// a state goes in and comes out. A loop over a list decides the mode once, by `is_running` and `is_own_epoch`, and builds the matrix anew only when the
+// time changes, from the pieces that are public for it.
 ghost use mathlib.Core.Path.{_≡_};
 ghost use Rattle.helmert.specs.Record.{exactOf, uasOf, mmOf, ownEpochOf, blankHelmert};
 ghost use Rattle.helmert.specs.Units.{linearScaleOf, angularScaleOf, winnerOf, lengthsOf, anglesOf, parametersOf};
 ghost use Rattle.helmert.specs.Rules.{someOf, rotatedOf, dynamicOf, finite3Of, timeOf, vectorsFiniteOf, scalesFiniteOf, fieldsInRuleOf, lacksConventionOf, lacksEpochOf};
 ghost use Rattle.helmert.specs.Apply.{offsetOf, deoffsetOf, forwardOf, inverseOf, applyOf};
-ghost use Rattle.helmert.specs.Modes.{movedOf, observedOf, prepareOf, grownOf, scaleAtOf, shiftedOf, fixedStepOf, startOf, nextOf, runningOf, ownTimeOf, ownEpochStepOf, isOwnEpochOf, isRunningOf, stepOf};
+ghost use Rattle.helmert.specs.Modes.{movedOf, observedOf, prepareOf, grownOf, rotationAtOf, scaleAtOf, shiftedOf, fixedStepOf, startOf, nextOf, runningOf, ownTimeOf, ownEpochStepOf, isOwnEpochOf, isRunningOf, stepOf};
 use rotation::Vec3;
 use tuple::Tuple;
 
@@ -431,6 +432,12 @@ pub fn grown(v: Vec3, dt: f64, rate: Vec3) -> Vec3
     }
 }
 
+pub fn rotation_at(p: Parameters, dt: f64) -> Vec3
+    ensures { λ r. ⌜ r ≡ rotationAtOf p dt ⌝ }
+{
+    grown(p.r, dt, p.dr)
+}
+
 pub fn scale_at(p: Parameters, dt: f64) -> f64
     ensures { λ r. ⌜ r ≡ scaleAtOf p dt ⌝ }
 {
@@ -489,7 +496,7 @@ pub fn running(shift: Shift, inv: bool, state: State, v: Tuple) -> Stepped
     let now = next(shift, state, v.t);
     let dt = now.last - shift.epoch;
     let p = shift.parameters;
-    let w = shifted(shift, inv, now.t, grown(p.r, dt, p.dr), scale_at(p, dt), v);
+    let w = shifted(shift, inv, now.t, rotation_at(p, dt), scale_at(p, dt), v);
     Stepped {
         state: now,
         tuple: w,
@@ -513,14 +520,8 @@ pub fn own_epoch_step(shift: Shift, inv: bool, v: Tuple) -> Tuple
 {
     let dt = own_time(shift, v.t) - shift.epoch;
     let p = shift.parameters;
-    shifted(
-        shift,
-        inv,
-        grown(p.t, dt, p.dt),
-        grown(p.r, dt, p.dr),
-        scale_at(p, dt),
-        v,
-    )
+    let t = grown(p.t, dt, p.dt);
+    shifted(shift, inv, t, rotation_at(p, dt), scale_at(p, dt), v)
 }
 
 // Dynamic and not fixed, with the own-epoch flag.

@@ -19,7 +19,7 @@ use Rattle.floats.proofs.Laws.{abs-of-neg, abs-is-not-negative}
 use Rattle.floats.proofs.Zero.{not-below-zero}
 use Rattle.hypot.specs.Hypot.{infinite, larger, smaller, lengthOf, boundedOf, pairOf, hypotOf}
 use Rattle.hypot.proofs.Squares.{sign-of-rounded, rounded-is-no-nan, sum-in-either-order}
-use Rattle.hypot.proofs.Values.{one-value-one-number, rounds-to-itself}
+use Rattle.floats.proofs.Values.{one-value-one-number, rounds-to-itself}
 
 -- ---- infinite parts
 

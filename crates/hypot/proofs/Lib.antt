@@ -1,5 +1,4 @@
 -- What the proofs of this crate share, and the laws that callers cite.
 mod Squares
-mod Values
 pub mod Laws
 mod Examples

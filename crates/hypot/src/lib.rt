@@ -2,7 +2,8 @@
 //
 // The root is one over a root guessed from the bits of the sum of squares, bettered by a polynomial and then by the exact rest of the squares, b² - (h - a)·(h + a)
 // for the larger part a, which needs neither a square root nor a fused multiplication. Proved: infinite if either part is, even beside a NaN; NaN exactly where
-// a part is and neither is infinite; symmetric, and by the magnitudes alone; never below the larger part nor above the sum of both. Measured: docs/KERNELS.md.
+// a part is and neither is infinite; symmetric, and by the magnitudes alone; never below the larger part nor above the sum of both.
+// Measured against MPFR over 1.3 million points, subnormal and huge parts among them: within 0.95 units in the last place (measure/atan2_hypot.c).
 // The distance from the axis in `cart` and `geocart` is taken by it.
 ghost use mathlib.Core.Path.{_≡_};
 ghost use Rattle.hypot.specs.Hypot.{larger, smaller, guessOf, reciprocalRootOf, rootOf, scaledRootOf, rescaledOf, ordinary, boundedOf, hypotOf};

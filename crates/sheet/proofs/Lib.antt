@@ -5,3 +5,7 @@ pub mod Writing
 pub mod WriterOrder
 pub mod Examples
 pub mod Each
+pub mod Accepted
+pub mod Back
+pub mod Laws
+pub mod Forth

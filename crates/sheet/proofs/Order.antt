@@ -26,7 +26,7 @@ numbered-append (next h l) n = next h (numbered-append l n)
 
 pub numbered-step : (i : ℕ) (five : Bool) (step : Step) → Numbered (rulesOfStep i five step)
 unfolding rulesOfStep
-numbered-step i five step = next (not-zero 4) (next (not-zero 5) (next (not-zero 6) (next (not-zero 7) none)))
+numbered-step i five step = next (not-zero _) (next (not-zero _) (next (not-zero _) (next (not-zero _) none)))
 
 pub numbered-steps : (five : ℕ → Bool) (step : ℕ → Step) (k i : ℕ) → Numbered (fiveToEight five step k i)
 unfolding fiveToEight

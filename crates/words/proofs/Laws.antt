@@ -112,6 +112,13 @@ word32-in-part s at k n h =
       add-assoc,
     )
 
+pub number-in-part : (s : List ℕ) (at k n : ℕ) → k + 8 ≤ n → numberAt (take n (drop at s)) k ≡ numberAt s (at + k)
+unfolding numberAt word64
+number-in-part s at k n h =
+    let h0 : k + 4 ≤ n = omega arith in
+    let h4 : k + 4 + 4 ≤ n = omega arith in
+    rw (word32-in-part s at k n h0, word32-in-part s at (k + 4) n h4, add-assoc at k 4)
+
 -- ---- putting what was read
 
 four : (l : List ℕ) → 4 ≤ length l → take 4 l ≡ getD l 0 0 ∷ getD l 1 0 ∷ getD l 2 0 ∷ getD l 3 0 ∷ []

@@ -1,4 +1,5 @@
 -- `arctan::cell_at` meets its contract. Assumes nothing.
+use native.Mathlib.Nat.{le-trans, le-suc}
 use lib.ListN.{List·getD-eq-default}
 use lib.Ieee.{ofBits, neg}
 use Rattle.arctan.proofs.Match.{beyond}
@@ -72,7 +73,12 @@ returns-16 c = rw (c .match .keys16)
 
 returns-17 : tie.Need-returns-17
 unfolding cellAt cells ofBits neg
-returns-17 c = rw (List·getD-eq-default cells _ (beyond 16 (c .before .args .i) (c .match .rest)))
+returns-17 c = rw (c .match .keys17)
+
+returns-18 : tie.Need-returns-18
+unfolding cellAt cells ofBits neg
+returns-18 c =
+    rw (List·getD-eq-default cells _ (le-trans (le-suc 16) (beyond 17 (c .before .args .i) (c .match .rest))))
 
 pub cell-at-spec : {M : Type 1} → statement M
-cell-at-spec = tie.close (tie.spec returns returns-2 returns-3 returns-4 returns-5 returns-6 returns-7 returns-8 returns-9 returns-10 returns-11 returns-12 returns-13 returns-14 returns-15 returns-16 returns-17)
+cell-at-spec = tie.close (tie.spec returns returns-2 returns-3 returns-4 returns-5 returns-6 returns-7 returns-8 returns-9 returns-10 returns-11 returns-12 returns-13 returns-14 returns-15 returns-16 returns-17 returns-18)

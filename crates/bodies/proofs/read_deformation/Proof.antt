@@ -1,8 +1,15 @@
 -- `bodies::read_deformation` meets its contract. Assumes nothing.
+use mathlib.Core.Path.{ap}
+use lib.ListN.{length-take}
+use lib.Seq.{take-all}
 use Rattle.bodies.specs.Read.{deformationOf}
+use native.Mathlib.Omega.{arith}
 use borrow.Author.Needs.{needs}
 use Rattle.bodies.proofs.read_deformation.Statement.{statement}
 use Rattle.bodies.proofs.read_deformation.Tie as tie
+
+slice-aggregate-body : tie.Need-slice-aggregate-body
+slice-aggregate-body c = simp length-take (omega arith)
 
 read32-requires : tie.Need-read32-requires
 read32-requires c κs = search needs
@@ -18,9 +25,23 @@ number-requires-2 c κs = search needs
 
 returns : tie.Need-returns
 unfolding deformationOf
-returns c = cc
+returns c =
+    let o = c .before .before .before .before .before .before in
+    rw (
+      c .before .before .before .read32 .ensures,
+      c .before .before .read322 .ensures,
+      c .before .number .ensures,
+      c .number2 .ensures,
+    )
+    (ap deformationOf (take-all 24 (o .args .b .now) (omega (arith, o .pre))))
 
 pub read-deformation-spec : {M : Type 1} → statement M
 read-deformation-spec =
     tie.close
-    (tie.spec read32-requires read32-requires-2 number-requires number-requires-2 returns)
+    (tie.spec
+    slice-aggregate-body
+    read32-requires
+    read32-requires-2
+    number-requires
+    number-requires-2
+    returns)

@@ -1,16 +1,15 @@
 -- `floats::abs` meets its contract. Assumes nothing.
-use borrow.Author.Needs.{needs}
+use mathlib.Core.Path.{sym, subst}
+use lib.Dec.{T}
+use Rattle.floats.proofs.Values.{abs-by-difference, abs-of-the-rest}
 use Rattle.floats.proofs.abs.Statement.{statement}
 use Rattle.floats.proofs.abs.Tie as tie
 
-negative-requires : tie.Need-negative-requires
-negative-requires c κs = search needs
-
 returns : tie.Need-returns
-returns c = rw (← c .before .negative .ensures, c .if1 .taken)
+returns c = abs-by-difference (c .before .args .x) (subst T (sym (c .before .good .0 .1)) tt) (c .if1 .taken)
 
 returns-2 : tie.Need-returns-2
-returns-2 c = rw (← c .before .negative .ensures, c .if1 .left)
+returns-2 c = abs-of-the-rest (c .before .args .x) (c .if1 .left)
 
 pub abs-spec : {M : Type 1} → statement M
-abs-spec = tie.close (tie.spec negative-requires returns returns-2)
+abs-spec = tie.close (tie.spec returns returns-2)

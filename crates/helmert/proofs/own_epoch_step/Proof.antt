@@ -10,8 +10,8 @@ own-time-requires c κs = search needs
 grown-requires : tie.Need-grown-requires
 grown-requires c κs = search needs
 
-grown-requires-2 : tie.Need-grown-requires-2
-grown-requires-2 c κs = search needs
+rotation-at-requires : tie.Need-rotation-at-requires
+rotation-at-requires c κs = search needs
 
 scale-at-requires : tie.Need-scale-at-requires
 scale-at-requires c κs = search needs
@@ -21,7 +21,14 @@ shifted-requires c κs = search needs
 
 returns : tie.Need-returns
 unfolding ownEpochStepOf
-returns c = rw (c .shifted .ensures, c .before .scale-at .ensures, c .before .before .grown2 .ensures, c .before .before .before .grown .ensures, c .before .before .before .before .before .before .own-time .ensures)
+returns c =
+    rw (
+      c .shifted .ensures,
+      c .before .scale-at .ensures,
+      c .before .before .rotation-at .ensures,
+      c .before .before .before .grown .ensures,
+      c .before .before .before .before .before .before .own-time .ensures,
+    )
 
 pub own-epoch-step-spec : {M : Type 1} → statement M
 own-epoch-step-spec =
@@ -29,7 +36,7 @@ own-epoch-step-spec =
     (tie.spec
     own-time-requires
     grown-requires
-    grown-requires-2
+    rotation-at-requires
     scale-at-requires
     shifted-requires
     returns)

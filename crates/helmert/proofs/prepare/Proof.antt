@@ -30,8 +30,27 @@ returns : tie.Need-returns
 unfolding prepareOf
 returns c =
     ⊎-elim
-    (λ w. rw (w .3, w .2 .ensures, c .own-epoch .ensures, c .before .before .exact .ensures, c .before .before .before .rotated .ensures, ← c .before .before .before .before .before .before .before .scaled .ensures, ← c .before .before .before .before .before .before .dynamic .ensures, ← c .before .before .before .before .before .is-nan .ensures, w .0 .taken))
-    (λ w. rw (w .1, c .own-epoch .ensures, c .before .before .exact .ensures, c .before .before .before .rotated .ensures, ← c .before .before .before .before .before .before .before .scaled .ensures, ← c .before .before .before .before .before .before .dynamic .ensures, ← c .before .before .before .before .before .is-nan .ensures, w .0 .left))
+    (λ w. rw (
+      w .3,
+      w .2 .ensures,
+      c .own-epoch .ensures,
+      c .before .before .exact .ensures,
+      c .before .before .before .rotated .ensures,
+      ← c .before .before .before .before .before .before .before .scaled .ensures,
+      ← c .before .before .before .before .before .before .dynamic .ensures,
+      ← c .before .before .before .before .before .is-nan .ensures,
+      w .0 .taken,
+    ))
+    (λ w. rw (
+      w .1,
+      c .own-epoch .ensures,
+      c .before .before .exact .ensures,
+      c .before .before .before .rotated .ensures,
+      ← c .before .before .before .before .before .before .before .scaled .ensures,
+      ← c .before .before .before .before .before .before .dynamic .ensures,
+      ← c .before .before .before .before .before .is-nan .ensures,
+      w .0 .left,
+    ))
     (c .before .before .before .before .if1 .came)
 
 pub prepare-spec : {M : Type 1} → statement M

@@ -7,8 +7,8 @@ use Rattle.helmert.proofs.running.Tie as tie
 next-requires : tie.Need-next-requires
 next-requires c κs = search needs
 
-grown-requires : tie.Need-grown-requires
-grown-requires c κs = search needs
+rotation-at-requires : tie.Need-rotation-at-requires
+rotation-at-requires c κs = search needs
 
 scale-at-requires : tie.Need-scale-at-requires
 scale-at-requires c κs = search needs
@@ -18,8 +18,15 @@ shifted-requires c κs = search needs
 
 returns : tie.Need-returns
 unfolding runningOf
-returns c = rw (c .shifted .ensures, c .before .scale-at .ensures, c .before .before .grown .ensures, c .before .before .before .before .before .before .next .ensures)
+returns c =
+    rw (
+      c .shifted .ensures,
+      c .before .scale-at .ensures,
+      c .before .before .rotation-at .ensures,
+      c .before .before .before .before .before .before .next .ensures,
+    )
 
 pub running-spec : {M : Type 1} → statement M
 running-spec =
-    tie.close (tie.spec next-requires grown-requires scale-at-requires shifted-requires returns)
+    tie.close
+    (tie.spec next-requires rotation-at-requires scale-at-requires shifted-requires returns)

@@ -22,14 +22,28 @@ own-epoch-step-requires c κs = search needs
 
 returns-2 : tie.Need-returns-2
 unfolding stepOf
-returns-2 c = rw (c .own-epoch-step .ensures, ← c .before .before .before .before .is-running .ensures, c .before .before .before .if1 .left, ← c .before .before .is-own-epoch .ensures, c .before .if2 .taken)
+returns-2 c =
+    rw (
+      c .own-epoch-step .ensures,
+      ← c .before .before .before .before .is-running .ensures,
+      c .before .before .before .if1 .left,
+      ← c .before .before .is-own-epoch .ensures,
+      c .before .if2 .taken,
+    )
 
 fixed-step-requires : tie.Need-fixed-step-requires
 fixed-step-requires c κs = search needs
 
 returns-3 : tie.Need-returns-3
 unfolding stepOf
-returns-3 c = rw (c .fixed-step .ensures, ← c .before .before .before .before .is-running .ensures, c .before .before .before .if1 .left, ← c .before .before .is-own-epoch .ensures, c .before .if2 .left)
+returns-3 c =
+    rw (
+      c .fixed-step .ensures,
+      ← c .before .before .before .before .is-running .ensures,
+      c .before .before .before .if1 .left,
+      ← c .before .before .is-own-epoch .ensures,
+      c .before .if2 .left,
+    )
 
 pub step-spec : {M : Type 1} → statement M
 step-spec =

@@ -18,7 +18,13 @@ time-requires-2 c κs = search needs
 
 returns : tie.Need-returns
 unfolding fieldsInRuleOf
-returns c = rw (c .time2 .ensures, c .before .time .ensures, c .before .before .scales-finite .ensures, c .before .before .before .vectors-finite .ensures)
+returns c =
+    rw (
+      c .time2 .ensures,
+      c .before .time .ensures,
+      c .before .before .scales-finite .ensures,
+      c .before .before .before .vectors-finite .ensures,
+    )
 
 pub fields-in-rule-spec : {M : Type 1} → statement M
 fields-in-rule-spec =

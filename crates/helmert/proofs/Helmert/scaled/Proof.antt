@@ -36,7 +36,19 @@ winner-requires-2 c κs = search needs
 
 returns : tie.Need-returns
 unfolding parametersOf
-returns c = rw (c .winner2 .ensures, c .before .winner .ensures, c .before .before .angles2 .ensures, c .before .before .before .angles .ensures, c .before .before .before .before .lengths2 .ensures, c .before .before .before .before .before .lengths .ensures, c .before .before .before .before .before .before .angular-scale .ensures, c .before .before .before .before .before .before .before .uas .ensures, c .before .before .before .before .before .before .before .before .linear-scale .ensures, c .before .before .before .before .before .before .before .before .before .mm .ensures)
+returns c =
+    rw (
+      c .winner2 .ensures,
+      c .before .winner .ensures,
+      c .before .before .angles2 .ensures,
+      c .before .before .before .angles .ensures,
+      c .before .before .before .before .lengths2 .ensures,
+      c .before .before .before .before .before .lengths .ensures,
+      c .before .before .before .before .before .before .angular-scale .ensures,
+      c .before .before .before .before .before .before .before .uas .ensures,
+      c .before .before .before .before .before .before .before .before .linear-scale .ensures,
+      c .before .before .before .before .before .before .before .before .before .mm .ensures,
+    )
 
 pub scaled-spec : {M : Type 1} → statement M
 scaled-spec =

@@ -30,7 +30,17 @@ finite3-requires-8 c κs = search needs
 
 returns : tie.Need-returns
 unfolding vectorsFiniteOf
-returns c = rw (c .finite38 .ensures, c .before .finite37 .ensures, c .before .before .finite36 .ensures, c .before .before .before .finite35 .ensures, c .before .before .before .before .finite34 .ensures, c .before .before .before .before .before .finite33 .ensures, c .before .before .before .before .before .before .finite32 .ensures, c .before .before .before .before .before .before .before .finite3 .ensures)
+returns c =
+    rw (
+      c .finite38 .ensures,
+      c .before .finite37 .ensures,
+      c .before .before .finite36 .ensures,
+      c .before .before .before .finite35 .ensures,
+      c .before .before .before .before .finite34 .ensures,
+      c .before .before .before .before .before .finite33 .ensures,
+      c .before .before .before .before .before .before .finite32 .ensures,
+      c .before .before .before .before .before .before .before .finite3 .ensures,
+    )
 
 pub vectors-finite-spec : {M : Type 1} → statement M
 vectors-finite-spec =

@@ -1,17 +1,20 @@
 -- Two numbers that binary64 holds and that have one sign and one value are one number; so rounding a number that binary64 holds gives that number. Assumes nothing.
 use mathlib.Core.Path.{_≡_, refl, sym, ap, _∙_, subst}
 use Prim.Native.Nat.{ℕ, zero, suc, _+_, _*_, _-_, _/_, _%_, _^_, _≤_, _<_}
-use native.Mathlib.Nat.{mul-assoc, mul-comm, mul-right-comm, mul-one, one-mul, zero-mul, mul-le-mul-right, mul-lt-mul-of-pos-right, lt-of-lt-of-le, lt-of-le-of-lt, le-trans, le-of-eq, zero-lt-suc, mul-pos, lt-irrefl, lt-of-not-le, le-of-suc-le-suc, pow-succ'}
+use native.Mathlib.Nat.{mul-assoc, mul-comm, mul-right-comm, mul-one, one-mul, zero-mul, zero-add, mul-le-mul-right, mul-lt-mul-of-pos-right, lt-of-lt-of-le, lt-of-le-of-lt, le-trans, le-of-eq, zero-lt-suc, mul-pos, lt-irrefl, lt-of-not-le, le-of-suc-le-suc, pow-succ'}
 use native.Mathlib.Omega.{arith}
-use mathlib.Core.Bool.{Bool, true, false, cond, _&&_}
+use mathlib.Core.Bool.{Bool, true, false, cond, not, _&&_, _||_, true≢false}
 use lib.Dec.{T, leb, ltb, eqb, eqb→eq, ltb→lt, leb→le, lit≤}
 use lib.IntN.{ℤ, pos, negsuc}
 use lib.Pow.{pow-add, pow-pos, pow-mono, pow-lt}
-use lib.Ieee.{Float, nan, inf, fin, binary64, fits, toBits, size, round, up, down}
-use lib.Ieee.Fits.{and-l, and-r, round-fits, down-pos}
-use lib.Ieee.Exact.{HasValue, round-exact}
+use lib.Ieee.{Float, nan, inf, fin, binary64, fits, ofBits, toBits, isNan, size, odd, ofFields, round, up, down, le, lt, eq, sub}
+use lib.Ieee.Fits.{and-l, and-r, round-fits, neg-fits, down-pos}
+use lib.Ieee.Exact.{HasValue, odd-sign, round-exact}
 use lib.Ieee.Nearest.{div-same}
 use lib.Ieee.Bits.{ofBits-toBits}
+use Rattle.floats.specs.Binary64.{bits, _⊖_}
+use Rattle.floats.specs.Number.{signOf, absOf}
+use Rattle.floats.proofs.Zero.{equals-zero, differs-from-zero, not-below-zero, below-zero}
 
 -- the bits are written from the sign and the value alone
 one-pattern : (s : Bool) (m n : ℕ) (e d : ℤ) → m * up e * down d ≡ n * up d * down e → toBits binary64 (fin s m e) ≡ toBits binary64 (fin s n d)
@@ -23,7 +26,7 @@ one-pattern s m n e d h =
 
 pub one-value-one-number : (s : Bool) (m n : ℕ) (e d : ℤ) → T (fits binary64 (fin s m e)) → T (fits binary64 (fin s n d)) → m * up e * down d ≡ n * up d * down e → fin s m e ≡ fin s n d
 one-value-one-number s m n e d p q h =
-    sym (ofBits-toBits binary64 (fin s m e) p) ∙ ap (λ (w : ℕ). lib.Ieee.ofBits binary64 w) (one-pattern s m n e d h) ∙ ofBits-toBits binary64 (fin s n d) q
+    sym (ofBits-toBits binary64 (fin s m e) p) ∙ ap (λ (w : ℕ). ofBits binary64 w) (one-pattern s m n e d h) ∙ ofBits-toBits binary64 (fin s n d) q
 
 -- ---- rounding what binary64 holds
 
@@ -78,3 +81,81 @@ value s (suc m) e h =
 
 pub rounds-to-itself : (s : Bool) (m : ℕ) (e : ℤ) → T (fits binary64 (fin s m e)) → round binary64 s (m * up e) (down e) ≡ fin s m e
 rounds-to-itself s m e h = same-as (round binary64 s (m * up e) (down e)) s m e (round-fits binary64 s (m * up e) (down e)) h (value s m e h)
+
+-- ---- magnitudes
+
+-- a zero that binary64 holds has the exponent 0
+pub zero-exponent : (s : Bool) (e : ℤ) → T (fits binary64 (fin s zero e)) → e ≡ pos 0
+unfolding fits
+zero-exponent s e f = flat e (eqb→eq (up e * down e) 1 f)
+
+or-true : (b : Bool) → (b || true) ≡ true
+or-true true = refl
+or-true false = refl
+
+above-zero : (m : ℕ) (e : ℤ) → le (fin false (suc m) e) (bits 0) ≡ false
+unfolding le
+above-zero m e = rw (not-below-zero (suc m) e, differs-from-zero false m e)
+
+zero-less-zero : bits 0 ⊖ fin false zero (pos 0) ≡ fin false zero (pos 0)
+unfolding sub ofBits round size
+zero-less-zero = refl
+
+no-infinity : le (inf false) (bits 0) ≡ false
+unfolding le ofBits
+no-infinity = refl
+
+not-above : (m : ℕ) (e : ℤ) → le (fin true m e) (bits 0) ≡ true
+unfolding le
+not-above zero e = rw (equals-zero true e, or-true (lt (fin true zero e) (bits 0)))
+not-above (suc m) e = rw (below-zero m e)
+
+-- zero less a number at or below zero is its magnitude
+pub abs-by-difference : (x : Float) → T (fits binary64 x) → le x (bits 0) ≡ true → bits 0 ⊖ x ≡ absOf x
+unfolding sub signOf ofBits
+abs-by-difference nan f h = refl
+abs-by-difference (inf true) f h = refl
+abs-by-difference (inf false) f h = absurd (true≢false (sym h ∙ no-infinity))
+abs-by-difference (fin true m e) f h =
+    rw (zero-mul (down e), zero-add (m * up e * 1), mul-one (m * up e), one-mul (down e)) (rounds-to-itself false m e (neg-fits binary64 (fin true m e) f))
+abs-by-difference (fin false zero e) f h = rw (zero-exponent false e f) zero-less-zero
+abs-by-difference (fin false (suc m) e) f h = absurd (true≢false (sym h ∙ above-zero m e))
+
+-- a number that is not at or below zero is its own magnitude
+pub abs-of-the-rest : (x : Float) → le x (bits 0) ≡ false → x ≡ absOf x
+unfolding signOf le ofBits
+abs-of-the-rest nan h = refl
+abs-of-the-rest (inf true) h = absurd (true≢false h)
+abs-of-the-rest (inf false) h = refl
+abs-of-the-rest (fin true m e) h = absurd (true≢false (sym (not-above m e) ∙ h))
+abs-of-the-rest (fin false m e) h = refl
+
+-- ---- signs
+
+sign-of-value : (v : Float) (s : Bool) (a c : ℕ) → HasValue v s a c → signOf v ≡ s
+unfolding signOf
+sign-of-value nan s a c h = absurd h
+sign-of-value (inf t) s a c h = absurd h
+sign-of-value (fin t m e) s a c h = h .0
+
+sign-of-either : (s a b : Bool) (q x : ℕ) → T (not (isNan (cond a (cond b (inf s) nan) (odd 53 s q x 1074)))) → signOf (cond a (cond b (inf s) nan) (odd 53 s q x 1074)) ≡ s
+unfolding signOf isNan
+sign-of-either s true true q x h = refl
+sign-of-either s true false q x h = absurd h
+sign-of-either s false b q x h = sign-of-value (odd 53 s q x 1074) s (q * 2 ^ x) (2 ^ 1074) (odd-sign 53 s q x 1074)
+
+sign-of-fields : (s : Bool) (x t : ℕ) → T (not (isNan (ofFields binary64 s x t))) → signOf (ofFields binary64 s x t) ≡ s
+unfolding ofFields
+sign-of-fields s zero t h = sign-of-value (odd 53 s t 0 1074) s (t * 2 ^ 0) (2 ^ 1074) (odd-sign 53 s t 0 1074)
+sign-of-fields s (suc x) t h = sign-of-either s (eqb (suc x) 2047) (eqb t 0) (2 ^ 52 + t) x h
+
+sign-of-bits : (b : ℕ) → T (not (isNan (ofBits binary64 b))) → signOf (ofBits binary64 b) ≡ leb 0x8000_0000_0000_0000 b
+unfolding ofBits
+sign-of-bits b h = sign-of-fields (leb 0x8000_0000_0000_0000 b) (b % 0x8000_0000_0000_0000 / 2 ^ 52) (b % 2 ^ 52) h
+
+-- the sign is the highest of the 64 bits
+pub sign-is-the-highest-bit : (x : Float) → T (fits binary64 x) → T (not (isNan x)) → leb 0x8000_0000_0000_0000 (toBits binary64 x) ≡ signOf x
+sign-is-the-highest-bit x f h =
+    let b = toBits binary64 x in
+    let back : ofBits binary64 b ≡ x = ofBits-toBits binary64 x f in
+    sym (sign-of-bits b (subst (λ (v : Float). T (not (isNan v))) (sym back) h)) ∙ ap signOf back

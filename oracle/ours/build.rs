@@ -1,0 +1,13 @@
+//! Links the library's archive for the machine at hand: SILLFEATHER_ARCHIVE, else what `tools/archive sillfeather` writes.
+use std::{env, path::PathBuf};
+
+fn main() {
+    println!("cargo:rerun-if-env-changed=SILLFEATHER_ARCHIVE");
+    let given = env::var("SILLFEATHER_ARCHIVE").map(PathBuf::from);
+    let here = PathBuf::from(env::var("CARGO_MANIFEST_DIR").unwrap());
+    let archive = given.unwrap_or_else(|_| here.join("../../target/native/libsillfeather.a"));
+    let archive = archive.canonicalize().unwrap_or_else(|e| panic!("{}: {e}", archive.display()));
+    println!("cargo:rerun-if-changed={}", archive.display());
+    println!("cargo:rustc-link-search=native={}", archive.parent().unwrap().display());
+    println!("cargo:rustc-link-lib=static:+verbatim={}", archive.file_name().unwrap().to_str().unwrap());
+}

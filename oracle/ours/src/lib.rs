@@ -1,0 +1,86 @@
+//! The library under test, by its exported functions.
+use job::{Answer, Job, sheet};
+
+unsafe extern "C" {
+    fn sillfeather_sqrt(x: f64) -> f64;
+    fn sillfeather_sin(x: f64) -> f64;
+    fn sillfeather_cos(x: f64) -> f64;
+    fn sillfeather_sin_cos(x: f64, s: *mut f64, c: *mut f64);
+    fn sillfeather_atan2(y: f64, x: f64) -> f64;
+    fn sillfeather_hypot(x: f64, y: f64) -> f64;
+    fn sillfeather_check(sheet: *const u8, sheet_len: usize) -> u32;
+    fn sillfeather_shift(
+        inverse: u32,
+        sheet: *const u8,
+        sheet_len: usize,
+        list: *mut f64,
+        list_len: usize,
+        velocities: *const f64,
+        velocities_len: usize,
+        marks: *const u8,
+        marks_len: usize,
+        counts: *mut u32,
+    ) -> u32;
+}
+
+pub fn sqrt(x: f64) -> f64 {
+    unsafe { sillfeather_sqrt(x) }
+}
+
+pub fn sin(x: f64) -> f64 {
+    unsafe { sillfeather_sin(x) }
+}
+
+pub fn cos(x: f64) -> f64 {
+    unsafe { sillfeather_cos(x) }
+}
+
+pub fn sin_cos(x: f64) -> (f64, f64) {
+    let (mut s, mut c) = (0.0, 0.0);
+    unsafe { sillfeather_sin_cos(x, &mut s, &mut c) };
+    (s, c)
+}
+
+pub fn atan2(y: f64, x: f64) -> f64 {
+    unsafe { sillfeather_atan2(y, x) }
+}
+
+pub fn hypot(x: f64, y: f64) -> f64 {
+    unsafe { sillfeather_hypot(x, y) }
+}
+
+/// The refusal's number and step, (0, 0) where the sheet is accepted.
+pub fn check(sheet: &[u8]) -> (u32, u32) {
+    apart(unsafe { sillfeather_check(sheet.as_ptr(), sheet.len()) })
+}
+
+/// A job's run through `sillfeather_shift`.
+pub fn shift(job: &Job) -> Answer {
+    shift_bytes(job.inverse, &sheet(&job.steps), &job.list, &job.velocities, &job.marks)
+}
+
+pub fn shift_bytes(inverse: bool, sheet: &[u8], list: &[f64], velocities: &[f64], marks: &[u8]) -> Answer {
+    let mut list = list.to_vec();
+    let mut counts = [0; 16];
+    let told = unsafe {
+        sillfeather_shift(
+            inverse as u32,
+            sheet.as_ptr(),
+            sheet.len(),
+            list.as_mut_ptr(),
+            list.len(),
+            velocities.as_ptr(),
+            velocities.len(),
+            marks.as_ptr(),
+            marks.len(),
+            counts.as_mut_ptr(),
+        )
+    };
+    let (refusal, step) = apart(told);
+    Answer { refusal, step, counts, list }
+}
+
+/// A result is the number plus 65536 times the step.
+fn apart(told: u32) -> (u32, u32) {
+    (told % 65536, told / 65536)
+}

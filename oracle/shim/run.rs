@@ -1,0 +1,199 @@
+//! Runs a job through the published operators: each step of the sheet by its file, one after another, by document 01's chain.
+use crate::authoring::*;
+use crate::kernel;
+use job::{Answer, Body, Helmert, Job, Step};
+
+/// What the Rust answers, and how many tuples were brought to the one listed difference.
+pub struct Ran {
+    pub answer: Answer,
+    pub nan_z_on_the_axis: usize,
+}
+
+/// As document 01 reads the Rust: with the listed difference.
+pub fn run(job: &Job) -> Ran {
+    steps(job, true)
+}
+
+/// As the Rust is, without the listed difference.
+#[allow(dead_code)]
+pub fn as_published(job: &Job) -> Answer {
+    steps(job, false).answer
+}
+
+fn steps(job: &Job, listed: bool) -> Ran {
+    let mut ops = Vec::new();
+    for (i, step) in job.steps.iter().enumerate() {
+        match operator(&step.body, job) {
+            Ok(op) => ops.push(op),
+            Err(e) => return Ran { answer: Answer::refused(job, number(&e), i as u32 + 1), nan_z_on_the_axis: 0 },
+        }
+    }
+    let mut ran = Ran { answer: Answer::start(job), nan_z_on_the_axis: 0 };
+    let mut order: Vec<usize> = (0..ops.len()).collect();
+    if job.inverse {
+        order.reverse();
+    }
+    for i in order {
+        let turned = job.steps[i].inverted != job.inverse;
+        let before = ran.answer.list.clone();
+        ran.answer.counts[i] = apply(&ops[i], &job.steps[i], turned, job, &mut ran.answer.list) as u32;
+        if !listed {
+            continue;
+        }
+        ran.nan_z_on_the_axis += nan_z_on_the_axis(&ops[i], &job.steps[i], turned, job, &before, &mut ran.answer.list);
+    }
+    ran
+}
+
+/// The number of document 01 for a refusal by the Rust's `new`.
+fn number(e: &Error) -> u32 {
+    match e {
+        Error::BadParam(what, _) if what == "convention" => 6,
+        Error::MissingParam(what) if what == "t_epoch" => 7,
+        Error::MissingParam(what) if what == "- either t_epoch or dt must be given" => 8,
+        Error::BadParam(what, _) if what == "'to=' or 'from='" => 5,
+        other => panic!("no number for {other:?}"),
+    }
+}
+
+// ----- One step ----------------------------------------------------------------------
+
+fn apply(op: &Op, step: &Step, inverse: bool, job: &Job, list: &mut [f64]) -> usize {
+    if let Body::Helmert(h) = &step.body
+        && h.flags & 8 != 0
+        && op.params.boolean("dynamic")
+        && !op.params.boolean("fixed_time")
+    {
+        return own_epoch(op, h, inverse, list);
+    }
+    op.apply(&Lent::new(&job.velocities, &job.marks), &mut Flat(list), inverse)
+}
+
+/// Own-epoch mode, which the crate does not have: each tuple as a list of its own, where T grows once from the sheet's. A NaN
+/// time is read as t_epoch, and stays in the tuple.
+fn own_epoch(op: &Op, h: &Helmert, inverse: bool, list: &mut [f64]) -> usize {
+    let mut count = 0;
+    for tuple in list.chunks_exact_mut(4) {
+        let time = tuple[3];
+        if time.is_nan() {
+            tuple[3] = h.t_epoch;
+        }
+        count += op.apply(&Lent::new(&[], &[]), &mut Flat(tuple), inverse);
+        tuple[3] = time;
+    }
+    count
+}
+
+/// The listed difference: on the axis a NaN Z gives φ NaN with us, π/2 in the Rust. Writes our reading into the Rust's results.
+fn nan_z_on_the_axis(op: &Op, step: &Step, inverse: bool, job: &Job, before: &[f64], list: &mut [f64]) -> usize {
+    let cutoff = match step.body {
+        Body::Cart { .. } if inverse => op.params.ellps(0).semimajor_axis() * 1e-16,
+        Body::Deformation { .. } => 1.0e-12,
+        _ => return 0,
+    };
+    let mut met = 0;
+    for (i, (old, new)) in before.chunks_exact(4).zip(list.chunks_exact_mut(4)).enumerate() {
+        if !(old[2].is_nan() && kernel::hypot(old[0], old[1]) < cutoff) {
+            continue;
+        }
+        match step.body {
+            Body::Deformation { flags, .. } if job.marks[i] == 1 => {
+                new[..3].fill(f64::NAN);
+                if flags & 1 != 0 {
+                    new[3] = f64::NAN;
+                }
+            }
+            Body::Deformation { .. } => continue,
+            _ => new[1] = f64::NAN,
+        }
+        met += 1;
+    }
+    met
+}
+
+// ----- From a sheet's body to the Rust's parameters ------------------------------------
+
+fn operator(body: &Body, job: &Job) -> Result<Op, Error> {
+    let ctx = Lent::new(&job.velocities, &job.marks);
+    let raw = parameters(body);
+    match body {
+        Body::Helmert(_) => crate::helmert::new(&raw, &ctx),
+        Body::Cart { .. } => crate::cart::new(&raw, &ctx),
+        Body::Molodensky { .. } => crate::molodensky::new(&raw, &ctx),
+        Body::Permtide { .. } => crate::permtide::new(&raw, &ctx),
+        Body::Deformation { .. } => crate::deformation::new(&raw, &ctx),
+    }
+}
+
+fn parameters(body: &Body) -> RawParameters {
+    let mut raw = RawParameters::default();
+    match *body {
+        Body::Helmert(ref h) => helmert(h, &mut raw),
+        Body::Cart { ellipsoid } => ellps(&mut raw, "ellps", ellipsoid),
+        Body::Molodensky { flags, first, second, offsets } => {
+            flag(&mut raw, flags, 1, "abridged");
+            let keys = if flags & 2 != 0 { &["dx", "dy", "dz"][..] } else { &["dx", "dy", "dz", "da", "df"][..] };
+            raw.reals.extend(keys.iter().copied().zip(offsets));
+            if flags & 2 != 0 {
+                ellps(&mut raw, "ellps_0", first);
+                ellps(&mut raw, "ellps_1", second);
+            } else {
+                ellps(&mut raw, "ellps", first);
+            }
+        }
+        Body::Permtide { ellipsoid, to, from, k } => {
+            ellps(&mut raw, "ellps", ellipsoid);
+            raw.texts.insert("to", system(to));
+            raw.texts.insert("from", system(from));
+            raw.reals.insert("k", k);
+        }
+        Body::Deformation { flags, ellipsoid, dt, t_epoch } => {
+            flag(&mut raw, flags, 1, "raw");
+            ellps(&mut raw, "ellps", ellipsoid);
+            raw.texts.insert("grids", "lent".to_string());
+            raw.reals.insert("dt", dt);
+            raw.reals.insert("t_epoch", t_epoch);
+        }
+    }
+    raw
+}
+
+fn helmert(h: &Helmert, raw: &mut RawParameters) {
+    flag(raw, h.flags, 1, "exact");
+    flag(raw, h.flags, 2, "uas");
+    flag(raw, h.flags, 4, "mm");
+    let convention = ["", "position_vector", "coordinate_frame"][h.convention as usize];
+    raw.texts.insert("convention", convention.to_string());
+    for (key, series, keys, singles) in [
+        ("translation", h.translation, ["x", "y", "z"], h.xyz),
+        ("translation_rate", h.translation_rate, ["dx", "dy", "dz"], h.dxyz),
+        ("rotation", h.rotation, ["rx", "ry", "rz"], h.rxyz),
+        ("rotation_rate", h.rotation_rate, ["drx", "dry", "drz"], h.drxyz),
+    ] {
+        raw.series.insert(key, series.to_vec());
+        raw.reals.extend(keys.into_iter().zip(singles));
+    }
+    let keys = ["scale", "s", "scale_rate", "ds", "t_epoch", "t_obs"];
+    raw.reals.extend(keys.into_iter().zip([h.scale, h.s, h.scale_rate, h.ds, h.t_epoch, h.t_obs]));
+}
+
+fn flag(raw: &mut RawParameters, flags: u32, bit: u32, key: &'static str) {
+    if flags & bit != 0 {
+        raw.flags.insert(key);
+    }
+}
+
+fn ellps(raw: &mut RawParameters, key: &'static str, number: u32) {
+    raw.texts.insert(key, ellipsoid_name(number).to_string());
+}
+
+/// Systems mean 1, zero 2, free 3; any other code is a word that the Rust does not know.
+fn system(code: u32) -> String {
+    match code {
+        1 => "mean",
+        2 => "zero",
+        3 => "free",
+        _ => "none of the three",
+    }
+    .to_string()
+}
