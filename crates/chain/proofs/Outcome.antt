@@ -42,3 +42,11 @@ first-kept false r h = refl
 pub few-kept : (sheet : Sheet) (room : ℕ) → writerRefusalOf sheet room .number ≡ 0 → sheet .count ≤ 16
 unfolding writerRefusalOf writerOrder firstBroken
 few-kept sheet room h = count-kept (sheet .count) (first-kept (refusal3 (sheet .count)) _ h) .1
+
+-- ---- refused: counts zero, and the list holds what it held
+
+pub refused-leaves-the-list : (own : Refusal) (deforms inverse : Bool) (es : List Entry) (l velocities : List Float) (marks : List ℕ)
+    → (shiftRefusalOf own deforms l velocities marks .number ≡ 0 → ⊥)
+    → outcomeOf own deforms inverse es l velocities marks ≡ outcome (refusedAnswer (shiftRefusalOf own deforms l velocities marks)) l
+unfolding outcomeOf
+refused-leaves-the-list own deforms inverse es l velocities marks h = rw (ne-eqb (shiftRefusalOf own deforms l velocities marks .number) 0 h)

@@ -79,9 +79,9 @@ fn forward(s: &[u8], n: usize, list: &mut [f64], velocities: &[f64], marks: &[u8
     let mut counts = [0usize; 16];
     let mut i = 0;
     while i < n {
-        let entry = sheet::entry_at(s, i);
+        let entry = sheet::entry_at(s, i); // the first step first
         let count = run_step(false, entry, list, velocities, marks);
-        counts[i] = count;
+        counts[i] = count; // in the sheet's order
         i += 1;
     }
     counts
@@ -96,7 +96,7 @@ fn backward(s: &[u8], n: usize, list: &mut [f64], velocities: &[f64], marks: &[u
     let mut i = n;
     while 0 < i {
         i -= 1;
-        let entry = sheet::entry_at(s, i);
+        let entry = sheet::entry_at(s, i); // the last step first
         let count = run_step(true, entry, list, velocities, marks);
         counts[i] = count;
     }
