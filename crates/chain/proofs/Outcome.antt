@@ -1,14 +1,16 @@
 -- Which outcome each of an entry's tests leads to. Assumes nothing.
-use Prim.Native.Nat.{ℕ}
-use mathlib.Core.Path.{_≡_}
-use mathlib.Core.Bool.{Bool, true, false}
+use Prim.Native.Nat.{ℕ, _≤_}
+use mathlib.Core.Path.{_≡_, refl}
+use mathlib.Core.Bool.{Bool, true, false, cond}
 use mathlib.Core.List.{List}
 use borrow.Author.Tests.{eq-eqb, ne-eqb}
 use lib.ListN.{length}
 use lib.Ieee.{Float}
 use Rattle.sheet.specs.declared.Entry.{Entry}
 use Rattle.sheet.specs.declared.Refusal.{Refusal}
-use Rattle.sheet.specs.Rules.{ofSheet, firstBroken}
+use Rattle.sheet.specs.declared.Sheet.{Sheet}
+use Rattle.sheet.specs.Rules.{ofSheet, firstBroken, writerRefusalOf, writerOrder, refusal3}
+use Rattle.sheet.proofs.Order.{not-zero, count-kept}
 use Rattle.chain.specs.Chain.{chainOf}
 use Rattle.chain.specs.Rules.{refusal9, refusal10, shiftRefusalOf, outcome, refusedAnswer, ranOutcome, outcomeOf}
 
@@ -30,3 +32,21 @@ module _ (own : Refusal) (deforms inverse : Bool) (es : List Entry) (l velocitie
       → outcomeOf own deforms inverse es l velocities marks ≡ ranOutcome (chainOf inverse velocities marks es l)
   unfolding outcomeOf shiftRefusalOf firstBroken
   run-through h nine ten = rw (eq-eqb (own .number) 0 h, nine, ten)
+
+-- ---- a record that breaks no rule has at most sixteen steps
+
+first-kept : (three : Bool) (r : Refusal) → cond three (ofSheet 3) r .number ≡ 0 → three ≡ false
+first-kept true r h = absurd (not-zero 2 h)
+first-kept false r h = refl
+
+pub few-kept : (sheet : Sheet) (room : ℕ) → writerRefusalOf sheet room .number ≡ 0 → sheet .count ≤ 16
+unfolding writerRefusalOf writerOrder firstBroken
+few-kept sheet room h = count-kept (sheet .count) (first-kept (refusal3 (sheet .count)) _ h) .1
+
+-- ---- refused: counts zero, and the list holds what it held
+
+pub refused-leaves-the-list : (own : Refusal) (deforms inverse : Bool) (es : List Entry) (l velocities : List Float) (marks : List ℕ)
+    → (shiftRefusalOf own deforms l velocities marks .number ≡ 0 → ⊥)
+    → outcomeOf own deforms inverse es l velocities marks ≡ outcome (refusedAnswer (shiftRefusalOf own deforms l velocities marks)) l
+unfolding outcomeOf
+refused-leaves-the-list own deforms inverse es l velocities marks h = rw (ne-eqb (shiftRefusalOf own deforms l velocities marks .number) 0 h)

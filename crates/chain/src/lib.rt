@@ -1,13 +1,15 @@
 // The chain: a sheet's steps over a lent flat list, where the list stands.
 //
 // Document 01, "The sheet" (a chain runs steps in order, inverse in reverse with each turned round) and "Numbers of refusal". `shift` checks the sheet where
-// it lies and decodes one body at a time, steps outermost and list innermost. The answer, the counts and the list are fixed for every input by specs/Rules.antt over specs/Chain.antt, which is made of the steps' own
+// it lies and decodes one body at a time, steps outermost and list innermost; `shift_record` does the same over a record that is already read, and the two
+// agree (proved). The answer, the counts and the list are fixed for every input by specs/Rules.antt over specs/Chain.antt, which is made of the steps' own
 // definitions; nothing is written before the last test has passed. No rounding but the steps' own. Used by the program and by callers that keep lists.
 ghost use mathlib.Core.Path.{_≡_};
 ghost use mathlib.Core.Bool.{true, false};
 ghost use Prim.Native.Nat.{_*_, _≤_, _<_};
 ghost use lib.ListN.{length};
 ghost use Rattle.sheet.specs.Layout.{kindAt, entryAt};
+ghost use Rattle.sheet.specs.Bytes.{entryOf, kindIn};
 ghost use Rattle.sheet.specs.Rules.{ofSheet, deformationBefore};
 ghost use Rattle.chain.specs.Chain.{turnedOf, stepListOf, stepCountOf, forwardOf, inverseOf, placesOf, entriesOf};
 ghost use Rattle.chain.specs.Rules.{refusal9, overOne, lentFor, refusal10, refusedAnswer, ranAnswer, outcome, shiftOf, shiftRecordOf};
@@ -77,9 +79,9 @@ fn forward(s: &[u8], n: usize, list: &mut [f64], velocities: &[f64], marks: &[u8
     let mut counts = [0usize; 16];
     let mut i = 0;
     while i < n {
-        let entry = sheet::entry_at(s, i);
+        let entry = sheet::entry_at(s, i); // the first step first
         let count = run_step(false, entry, list, velocities, marks);
-        counts[i] = count;
+        counts[i] = count; // in the sheet's order
         i += 1;
     }
     counts
@@ -94,7 +96,7 @@ fn backward(s: &[u8], n: usize, list: &mut [f64], velocities: &[f64], marks: &[u
     let mut i = n;
     while 0 < i {
         i -= 1;
-        let entry = sheet::entry_at(s, i);
+        let entry = sheet::entry_at(s, i); // the last step first
         let count = run_step(true, entry, list, velocities, marks);
         counts[i] = count;
     }
@@ -212,5 +214,102 @@ pub fn shift(inverse: bool, s: &[u8], list: &mut [f64], velocities: &[f64], mark
         return ran(counts);
     }
     let counts = forward(s, n, list, velocities, marks);
+    ran(counts)
+}
+
+// ----- over a record that is already read -----------------------------------------------------------
+
+fn wide(x: u32) -> usize
+    ensures { λ r. ⌜ r ≡ x ⌝ }
+{
+    x as usize
+}
+
+fn forward_record(
+    kept: Sheet,
+    n: usize,
+    list: &mut [f64],
+    velocities: &[f64],
+    marks: &[u8],
+) -> [usize; 16]
+    requires { ⌜ n ≤ 16 ⌝ }
+    ensures { λ r. ⌜ (now (list .exit) ≡ forwardOf (now (velocities .entry)) (now (marks .entry)) (entriesOf (entryOf kept) n 0) (now (list .entry)) .list)
+        × (r ≡ placesOf (forwardOf (now (velocities .entry)) (now (marks .entry)) (entriesOf (entryOf kept) n 0) (now (list .entry)) .counts)) ⌝ }
+{
+    let mut counts = [0usize; 16];
+    let mut i = 0;
+    while i < n {
+        let entry = kept.entries[i];
+        let count = run_step(false, entry, list, velocities, marks);
+        counts[i] = count;
+        i += 1;
+    }
+    counts
+}
+
+fn backward_record(
+    kept: Sheet,
+    n: usize,
+    list: &mut [f64],
+    velocities: &[f64],
+    marks: &[u8],
+) -> [usize; 16]
+    requires { ⌜ n ≤ 16 ⌝ }
+    ensures { λ r. ⌜ (now (list .exit) ≡ inverseOf (now (velocities .entry)) (now (marks .entry)) (entriesOf (entryOf kept) n 0) (now (list .entry)) .list)
+        × (r ≡ placesOf (inverseOf (now (velocities .entry)) (now (marks .entry)) (entriesOf (entryOf kept) n 0) (now (list .entry)) .counts)) ⌝ }
+{
+    let mut counts = [0usize; 16];
+    let mut i = n;
+    while 0 < i {
+        i -= 1;
+        let entry = kept.entries[i];
+        let count = run_step(true, entry, list, velocities, marks);
+        counts[i] = count;
+    }
+    counts
+}
+
+// Whether one of the first n steps is a deformation step.
+fn deforms_record(kept: Sheet, n: usize) -> bool
+    requires { ⌜ n ≤ 16 ⌝ }
+    ensures { λ r. ⌜ r ≡ deformationBefore (kindIn kept) n ⌝ }
+{
+    let mut found = false;
+    let mut i = 0;
+    while i < n {
+        let entry = kept.entries[i];
+        let step = entry.step;
+        found = found | (bodies::kind_of(step) == 5);
+        i += 1;
+    }
+    found
+}
+
+// A record over a list. Its own rules are the writer's, in a room that any sheet fits.
+pub fn shift_record(
+    inverse: bool,
+    kept: Sheet,
+    list: &mut [f64],
+    velocities: &[f64],
+    marks: &[u8],
+) -> Answer
+    ensures { λ r. ⌜ outcome r (now (list .exit)) ≡ shiftRecordOf inverse kept (now (list .entry)) (now (velocities .entry)) (now (marks .entry)) ⌝ }
+{
+    let own = sheet::check_record(kept, 4240);
+    if own.number != 0 {
+        return refused(own);
+    }
+    if list_broken(list.len()) {
+        return refused(of_lists(9));
+    }
+    let n = wide(kept.count);
+    if lent_broken(deforms_record(kept, n), list.len(), velocities, marks) {
+        return refused(of_lists(10));
+    }
+    if inverse {
+        let counts = backward_record(kept, n, list, velocities, marks);
+        return ran(counts);
+    }
+    let counts = forward_record(kept, n, list, velocities, marks);
     ran(counts)
 }

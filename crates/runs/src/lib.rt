@@ -214,8 +214,9 @@ fn helmert_forward(list: &mut [f64], t: Vec3, s: f64, rotated: bool, m: [[f64; 3
 {
     let mut i = 0;
     while 4 <= list.len() - i {
-        let v = helmert::forward(t, s, rotated, m, lists::read4(list, i));
-        lists::write4(list, i, v);
+        let v = lists::read4(list, i);
+        let w = helmert::forward(t, s, rotated, m, v);
+        lists::write4(list, i, w); // S·(M·v) + T
         i += 4;
     }
 }
@@ -225,8 +226,9 @@ fn helmert_inverse(list: &mut [f64], t: Vec3, s: f64, rotated: bool, m: [[f64; 3
 {
     let mut i = 0;
     while 4 <= list.len() - i {
-        let v = helmert::inverse(t, s, rotated, m, lists::read4(list, i));
-        lists::write4(list, i, v);
+        let v = lists::read4(list, i);
+        let w = helmert::inverse(t, s, rotated, m, v);
+        lists::write4(list, i, w); // Mᵀ·((v - T)/S)
         i += 4;
     }
 }

@@ -449,7 +449,7 @@ fn sheet_length(sheet: Sheet, n: usize) -> usize
 }
 
 // The first rule that a record breaks, in the writer's order.
-fn check_record(sheet: Sheet, room: usize) -> Refusal
+pub fn check_record(sheet: Sheet, room: usize) -> Refusal
     ensures { λ r. ⌜ r ≡ writerRefusalOf sheet room ⌝ }
 {
     let n = wide(sheet.count);

@@ -1,0 +1,47 @@
+-- A sheet's bytes and the record that they read to make the same of every list. Assumes nothing.
+use Prim.Native.Nat.{ℕ, zero, suc, _+_, _≤_, _<_}
+use native.Mathlib.Omega.{arith}
+use mathlib.Core.Path.{_≡_, refl, sym, ap, _∙_}
+use mathlib.Core.Bool.{Bool}
+use mathlib.Core.List.{List}
+use lib.Ieee.{Float}
+use Rattle.words.specs.Words.{Bytes}
+use Rattle.sheet.specs.declared.Entry.{Entry}
+use Rattle.sheet.specs.declared.Refusal.{Refusal}
+use Rattle.sheet.specs.Layout.{stepCountOf, kindAt, entryAt, recordOf}
+use Rattle.sheet.specs.Bytes.{entryOf, kindIn}
+use Rattle.sheet.specs.Rules.{accepted, deformationBefore, refusalOf, writerRefusalOf}
+use Rattle.sheet.proofs.Accepted.{Accepted, accepted-keeps}
+use Rattle.sheet.proofs.Back.{entry-same, kind-same, record-count}
+use Rattle.sheet.proofs.Laws.{writer-takes-what-was-read}
+use Rattle.chain.specs.Chain.{entriesOf}
+use Rattle.chain.specs.Rules.{shiftOf, shiftRecordOf}
+
+-- ways to an entry that agree below m give the same entries
+entries-same : (a b : ℕ → Entry) (m : ℕ) → ((i : ℕ) → i < m → a i ≡ b i) → (k i : ℕ) → i + k ≤ m → entriesOf a k i ≡ entriesOf b k i
+unfolding entriesOf
+entries-same a b m same zero i h = refl
+entries-same a b m same (suc k) i h = rw (same i (omega arith), entries-same a b m same k (suc i) (omega arith))
+
+-- kinds that agree below n have the same deformation steps there
+deforms-same : (a b : ℕ → ℕ) (n : ℕ) → ((i : ℕ) → i < n → a i ≡ b i) → (i : ℕ) → i ≤ n → deformationBefore a i ≡ deformationBefore b i
+unfolding deformationBefore
+deforms-same a b n same zero h = refl
+deforms-same a b n same (suc i) h = rw (deforms-same a b n same i (omega arith), same i (omega arith))
+
+-- the entry over bytes and the entry over the record that was read agree, on every list
+pub bytes-and-record-agree : (inverse : Bool) (s : List ℕ) (l velocities : List Float) (marks : List ℕ) → Bytes s → refusalOf s ≡ accepted
+    → shiftRecordOf inverse (recordOf s) l velocities marks ≡ shiftOf inverse s l velocities marks
+unfolding shiftRecordOf shiftOf
+bytes-and-record-agree inverse s l velocities marks bytes e =
+    let ok : Accepted s = accepted-keeps s (ap (λ (r : Refusal). r .number) e) in
+    let own : writerRefusalOf (recordOf s) 4240 ≡ refusalOf s = writer-takes-what-was-read s bytes e 4240 (ok .at-most) ∙ sym e in
+    let d : deformationBefore (kindIn (recordOf s)) (recordOf s .count) ≡ deformationBefore (kindAt s) (stepCountOf s) =
+    ap (deformationBefore (kindIn (recordOf s))) (record-count s)
+    ∙ deforms-same (kindIn (recordOf s)) (kindAt s) (stepCountOf s) (kind-same s bytes ok) (stepCountOf s) (omega arith)
+    in
+    let es : entriesOf (entryOf (recordOf s)) (recordOf s .count) 0 ≡ entriesOf (entryAt s) (stepCountOf s) 0 =
+    ap (λ (n : ℕ). entriesOf (entryOf (recordOf s)) n 0) (record-count s)
+    ∙ entries-same (entryOf (recordOf s)) (entryAt s) 16 (entry-same s) (stepCountOf s) 0 (omega (arith, ok .few-steps))
+    in
+    rw (own, d, es)

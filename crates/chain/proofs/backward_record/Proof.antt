@@ -1,0 +1,69 @@
+-- `chain::backward_record` meets its contract. Assumes nothing.
+use borrow.Author.Needs.{needs}
+use native.Mathlib.Omega.{arith}
+use Prim.Native.Nat.{_+_, _-_}
+use mathlib.Core.Path.{_≡_, refl}
+use Rattle.sheet.specs.Bytes.{entryOf}
+use Rattle.chain.proofs.Laws.{Backward, backward-start, backward-again, backward-end}
+use Rattle.chain.proofs.backward_record.Statement.{statement}
+use Rattle.chain.proofs.backward_record.Tie as tie
+
+abbrev Inv-loop : tie.InvT-loop
+Inv-loop n list₀ velocities marks kept counts₀ i₀ list counts i = Backward velocities marks (entryOf kept) n list₀ i list counts
+
+abbrev μ-loop : tie.MeasureT-loop
+μ-loop n list₀ velocities marks kept counts₀ i₀ list counts i = i
+
+loop-holds : tie.Need-loop-holds Inv-loop μ-loop
+loop-holds c = backward-start _ _ _ _ _ (c .before .before .before .pre)
+
+sub-i : tie.Need-sub-i Inv-loop μ-loop
+sub-i c = search needs
+
+mul-entry : tie.Need-mul-entry Inv-loop μ-loop
+mul-entry c = search needs
+
+element-copy-out-entry : tie.Need-element-copy-out-entry Inv-loop μ-loop
+element-copy-out-entry c = search needs
+
+run-step-requires : tie.Need-run-step-requires Inv-loop μ-loop
+run-step-requires c κs = search needs
+
+mul-counts : tie.Need-mul-counts Inv-loop μ-loop
+mul-counts c = search needs
+
+array-write-counts : tie.Need-array-write-counts Inv-loop μ-loop
+array-write-counts c = search needs
+
+loop-less : tie.Need-loop-less Inv-loop μ-loop
+loop-less c = search needs
+
+loop-again : tie.Need-loop-again Inv-loop μ-loop
+loop-again c =
+    let l = c .before .before .before .before .before .before .loop in
+    let j : l .i - 1 + 1 ≡ l .i = omega (arith, c .before .before .before .before .before .loop-test .taken) in
+    backward-again (c .before .before .before .before .before .before .before .before .before .before .pre) (l .i - 1) j refl (c .before .before .run-step .ensures .0) (c .before .before .run-step .ensures .1) (l .inv)
+
+same-length : tie.Need-same-length Inv-loop μ-loop
+same-length c = c .before .loop .inv .long
+
+returns : tie.Need-returns Inv-loop μ-loop
+returns c = backward-end (c .before .before .before .before .before .pre) (search needs) (c .before .loop .inv)
+
+pub backward-record-spec : {M : Type 1} → statement M
+backward-record-spec =
+    tie.close
+    (tie.spec
+    Inv-loop
+    μ-loop
+    loop-holds
+    sub-i
+    mul-entry
+    element-copy-out-entry
+    run-step-requires
+    mul-counts
+    array-write-counts
+    loop-less
+    loop-again
+    same-length
+    returns)
