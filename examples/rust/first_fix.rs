@@ -5,11 +5,7 @@ use sillfeather::{Cart, Convention, Direction, Ellipsoid, Helmert, KeptRun, Refu
 
 fn main() -> Result<(), Refusal> {
     let sheet = ed50_to_wgs84()?;
-    println!(
-        "a sheet of {} steps, {} bytes",
-        sheet.step_count(),
-        sheet.as_bytes().len()
-    );
+    println!("a sheet of {} steps, {} bytes", sheet.step_count(), sheet.as_bytes().len());
 
     // the bytes are what the other box gets; it checks them
     let sheet = Sheet::from_bytes(sheet.as_bytes())?;
@@ -27,9 +23,7 @@ fn main() -> Result<(), Refusal> {
 /// EPSG 1311, ED50 to WGS 84 in the North Sea: to geocentric on International 1924, shifted, and back on WGS 84.
 fn ed50_to_wgs84() -> Result<Sheet, Refusal> {
     Sheet::builder()
-        .step(Cart {
-            ellipsoid: Ellipsoid::International1924,
-        })
+        .step(Cart { ellipsoid: Ellipsoid::International1924 })
         .step(Helmert {
             convention: Some(Convention::PositionVector),
             translation: [-89.5, -93.8, -123.1],
@@ -37,26 +31,17 @@ fn ed50_to_wgs84() -> Result<Sheet, Refusal> {
             scale: 1.2,
             ..Helmert::BLANK
         })
-        .inverted(Cart {
-            ellipsoid: Ellipsoid::Wgs84,
-        })
+        .inverted(Cart { ellipsoid: Ellipsoid::Wgs84 })
         .build()
 }
 
 fn shift_a_list(sheet: &Sheet) -> Result<(), Refusal> {
     let mut fixes = [[2.5, 56.5, 0.0, 2024.5], [3.25, 57.125, 12.0, 2024.5]].map(in_radians);
     let counts = sheet.shift(Direction::Forward, &mut fixes)?;
-    println!(
-        "\nED50 to WGS 84, fixes counted by each step {:?}",
-        counts.steps()
-    );
+    println!("\nED50 to WGS 84, fixes counted by each step {:?}", counts.steps());
     for fix in fixes {
         let [longitude, latitude, height, _] = fix;
-        println!(
-            "{:.7}° {:.7}° {height:.3} m",
-            longitude.to_degrees(),
-            latitude.to_degrees()
-        );
+        println!("{:.7}° {:.7}° {height:.3} m", longitude.to_degrees(), latitude.to_degrees());
         println!("  {}", bits(fix));
     }
     Ok(())

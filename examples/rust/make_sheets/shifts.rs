@@ -1,8 +1,5 @@
 //! The published shifts. Each parameter was held against its entry in the EPSG dataset, version 10.076, where the source names one.
-use sillfeather::{
-    Cart, Convention, Deformation, Direction, Ellipsoid, Helmert, Molodensky, Permtide, Step,
-    TideSystem,
-};
+use sillfeather::{Cart, Convention, Deformation, Direction, Ellipsoid, Helmert, Molodensky, Permtide, Step, TideSystem};
 
 use Direction::{Forward, Inverse};
 use Ellipsoid::{Bessel1841, Grs80, International1924, Krassowsky1940, Wgs84};
@@ -58,35 +55,19 @@ fn one(step: impl Into<Step>) -> Vec<(bool, Step)> {
 
 /// Geographic on one ellipsoid to geographic on another, by geocentric coordinates.
 fn through(first: Ellipsoid, helmert: Helmert, second: Ellipsoid) -> Vec<(bool, Step)> {
-    vec![
-        (false, Cart { ellipsoid: first }.into()),
-        (false, helmert.into()),
-        (true, Cart { ellipsoid: second }.into()),
-    ]
+    vec![(false, Cart { ellipsoid: first }.into()), (false, helmert.into()), (true, Cart { ellipsoid: second }.into())]
 }
 
 /// Millimetres, microarcseconds, parts in 10⁶ and their rates, each fix at its own time.
 fn frame(convention: Option<Convention>, t_epoch: f64) -> Helmert {
-    Helmert {
-        mm: true,
-        uas: true,
-        own_epoch: true,
-        convention,
-        t_epoch: Some(t_epoch),
-        ..Helmert::BLANK
-    }
+    Helmert { mm: true, uas: true, own_epoch: true, convention, t_epoch: Some(t_epoch), ..Helmert::BLANK }
 }
 
 fn degrees(d: f64, m: f64, s: f64) -> f64 {
     d + m / 60.0 + s / 3600.0
 }
 
-fn shift(
-    name: &'static str,
-    title: &'static str,
-    source: &'static str,
-    accuracy: &'static str,
-) -> Published {
+fn shift(name: &'static str, title: &'static str, source: &'static str, accuracy: &'static str) -> Published {
     Published {
         name,
         title,
@@ -126,15 +107,8 @@ fn between_datums() -> Vec<Published> {
             from: Geocentric,
             to: Geocentric,
             fixes: vec![[3657660.66, 255768.55, 5201382.11, 0.0]],
-            published: vec![
-                "3657660.78, 255778.43, 5201387.75 m (IOGP 373-7-2, from rounded parameters)",
-            ],
-            ..shift(
-                "wgs72_to_wgs84",
-                "WGS 72 to WGS 84",
-                "EPSG 1238; the worked example of IOGP 373-7-2",
-                "2 m",
-            )
+            published: vec!["3657660.78, 255778.43, 5201387.75 m (IOGP 373-7-2, from rounded parameters)"],
+            ..shift("wgs72_to_wgs84", "WGS 72 to WGS 84", "EPSG 1238; the worked example of IOGP 373-7-2", "2 m")
         },
         Published {
             steps: through(
@@ -148,17 +122,8 @@ fn between_datums() -> Vec<Published> {
                 },
                 Wgs84,
             ),
-            fixes: vec![
-                [2.5, 56.5, 0.0, 2024.5],
-                [3.25, 57.125, 12.0, 2024.5],
-                [-1.75, 60.25, -80.0, 2024.5],
-            ],
-            ..shift(
-                "ed50_to_wgs84_common_offshore",
-                "ED50 to WGS 84, North Sea, \"Common Offshore\"",
-                "EPSG 1311",
-                "1 m",
-            )
+            fixes: vec![[2.5, 56.5, 0.0, 2024.5], [3.25, 57.125, 12.0, 2024.5], [-1.75, 60.25, -80.0, 2024.5]],
+            ..shift("ed50_to_wgs84_common_offshore", "ED50 to WGS 84, North Sea, \"Common Offshore\"", "EPSG 1311", "1 m")
         },
         Published {
             steps: through(
@@ -173,12 +138,7 @@ fn between_datums() -> Vec<Published> {
                 Wgs84,
             ),
             fixes: vec![[5.0, 63.5, 0.0, 2024.5], [15.5, 70.25, 25.0, 2024.5]],
-            ..shift(
-                "ed50_to_wgs84_north_of_62",
-                "ED50 to WGS 84, off Norway north of 62° N",
-                "EPSG 1612",
-                "1 m",
-            )
+            ..shift("ed50_to_wgs84_north_of_62", "ED50 to WGS 84, off Norway north of 62° N", "EPSG 1612", "1 m")
         },
         Published {
             steps: through(
@@ -194,12 +154,7 @@ fn between_datums() -> Vec<Published> {
             ),
             direction: Inverse,
             fixes: vec![[8.125, 53.875, 45.0, 2024.5], [11.5, 54.25, 38.0, 2024.5]],
-            ..shift(
-                "dhdn_to_wgs84",
-                "DHDN to WGS 84, western Germany; the job is inverse, WGS 84 to DHDN",
-                "EPSG 1777",
-                "3 m",
-            )
+            ..shift("dhdn_to_wgs84", "DHDN to WGS 84, western Germany; the job is inverse, WGS 84 to DHDN", "EPSG 1777", "3 m")
         },
         Published {
             steps: through(
@@ -214,12 +169,7 @@ fn between_datums() -> Vec<Published> {
                 Wgs84,
             ),
             fixes: vec![[30.25, 59.875, 10.0, 2024.5], [142.75, 52.5, 5.0, 2024.5]],
-            ..shift(
-                "pulkovo1942_to_wgs84",
-                "Pulkovo 1942 to WGS 84, Russia",
-                "EPSG 5044 (GOST R 51794-2008)",
-                "3 m",
-            )
+            ..shift("pulkovo1942_to_wgs84", "Pulkovo 1942 to WGS 84, Russia", "EPSG 5044 (GOST R 51794-2008)", "3 m")
         },
         Published {
             steps: one(Helmert {
@@ -234,15 +184,8 @@ fn between_datums() -> Vec<Published> {
             from: Geocentric,
             to: Geocentric,
             fixes: vec![[-4052051.7643, 4212836.2017, -2545106.0245, 0.0]],
-            published: vec![
-                "-4052052.7379, 4212835.9897, -2545104.5898 m (Alice Springs; GDA2020 Technical Manual)",
-            ],
-            ..shift(
-                "gda94_to_gda2020",
-                "GDA94 to GDA2020, Australia",
-                "EPSG 8048; ICSM, GDA2020 Technical Manual",
-                "0.01 m",
-            )
+            published: vec!["-4052052.7379, 4212835.9897, -2545104.5898 m (Alice Springs; GDA2020 Technical Manual)"],
+            ..shift("gda94_to_gda2020", "GDA94 to GDA2020, Australia", "EPSG 8048; ICSM, GDA2020 Technical Manual", "0.01 m")
         },
     ]
 }
@@ -250,12 +193,7 @@ fn between_datums() -> Vec<Published> {
 // ----- Molodensky ------------------------------------------------------------------------
 
 fn molodensky() -> Vec<Published> {
-    let north_sea = [
-        degrees(2.0, 7.0, 46.38),
-        degrees(53.0, 48.0, 33.82),
-        73.0,
-        0.0,
-    ];
+    let north_sea = [degrees(2.0, 7.0, 46.38), degrees(53.0, 48.0, 33.82), 73.0, 0.0];
     vec![
         Published {
             steps: one(Molodensky {
@@ -325,16 +263,10 @@ fn between_frames() -> Vec<Published> {
         Published {
             steps: through(
                 Grs80,
-                Helmert {
-                    rotation_rate: [1503.79, 1183.46, 1207.16],
-                    ..frame(COORDINATE_FRAME, 2020.0)
-                },
+                Helmert { rotation_rate: [1503.79, 1183.46, 1207.16], ..frame(COORDINATE_FRAME, 2020.0) },
                 Grs80,
             ),
-            fixes: vec![
-                [133.875, -23.625, 600.0, 2018.0],
-                [151.25, -33.875, 20.0, 2024.5],
-            ],
+            fixes: vec![[133.875, -23.625, 600.0, 2018.0], [151.25, -33.875, 20.0, 2024.5]],
             ..shift(
                 "itrf2014_to_gda2020",
                 "ITRF2014 to GDA2020, Australia",
@@ -354,16 +286,8 @@ fn between_frames() -> Vec<Published> {
             }),
             from: Geocentric,
             to: Geocentric,
-            fixes: vec![
-                [1112189.0, -4842955.0, 3985352.0, 2010.0],
-                [1112189.0, -4842955.0, 3985352.0, 2024.5],
-            ],
-            ..shift(
-                "itrf2014_to_nad83_2011",
-                "ITRF2014 to NAD83(2011), United States",
-                "EPSG 8970",
-                "0 (by definition)",
-            )
+            fixes: vec![[1112189.0, -4842955.0, 3985352.0, 2010.0], [1112189.0, -4842955.0, 3985352.0, 2024.5]],
+            ..shift("itrf2014_to_nad83_2011", "ITRF2014 to NAD83(2011), United States", "EPSG 8970", "0 (by definition)")
         },
         Published {
             steps: one(Helmert {
@@ -409,11 +333,7 @@ fn between_frames() -> Vec<Published> {
 fn the_other_kinds() -> Vec<Published> {
     vec![
         Published {
-            steps: one(Permtide {
-                to: Some(TideSystem::Mean),
-                from: Some(TideSystem::Zero),
-                ..Permtide::BLANK
-            }),
+            steps: one(Permtide { to: Some(TideSystem::Mean), from: Some(TideSystem::Zero), ..Permtide::BLANK }),
             fixes: vec![[0.0, 0.0, 0.0, 0.0], [12.0, 57.5, 10.0, 2024.5]],
             ..shift(
                 "tide_zero_to_mean",
@@ -423,10 +343,7 @@ fn the_other_kinds() -> Vec<Published> {
             )
         },
         Published {
-            steps: one(Deformation {
-                t_epoch: Some(2000.0),
-                ..Deformation::BLANK
-            }),
+            steps: one(Deformation { t_epoch: Some(2000.0), ..Deformation::BLANK }),
             from: Geocentric,
             to: Geocentric,
             fixes: vec![

@@ -12,13 +12,7 @@ pub fn lines(counts: &[u32], list: &[[f64; 4]]) -> String {
         writeln!(out, "step {} counted {count}", i + 1).unwrap();
     }
     for tuple in list {
-        let bits = tuple.map(|x| {
-            if x.is_nan() {
-                0x7ff8_0000_0000_0000
-            } else {
-                x.to_bits()
-            }
-        });
+        let bits = tuple.map(|x| if x.is_nan() { 0x7ff8_0000_0000_0000 } else { x.to_bits() });
         writeln!(out, "{}", bits.map(|b| format!("{b:016x}")).join(" ")).unwrap();
     }
     out
@@ -28,53 +22,22 @@ pub fn description(shift: &Published, sheet: &Sheet, results: &[[f64; 4]]) -> St
     let mut out = format!("{}\n", shift.title);
     writeln!(out, "source    {}", shift.source).unwrap();
     writeln!(out, "accuracy  {}", shift.accuracy).unwrap();
-    writeln!(
-        out,
-        "sheet     {} bytes, {} steps",
-        sheet.as_bytes().len(),
-        sheet.step_count()
-    )
-    .unwrap();
+    writeln!(out, "sheet     {} bytes, {}", sheet.as_bytes().len(), number_of(sheet.step_count(), "step", "steps")).unwrap();
     for (i, (inverted, step)) in shift.steps.iter().enumerate() {
-        writeln!(
-            out,
-            "\nstep {}, {}{}",
-            i + 1,
-            kind(step),
-            if *inverted { ", inverted" } else { "" }
-        )
-        .unwrap();
+        writeln!(out, "\nstep {}, {}{}", i + 1, kind(step), if *inverted { ", inverted" } else { "" }).unwrap();
         for (name, value) in fields(step) {
             writeln!(out, "    {name:17} {value}").unwrap();
         }
     }
-    let way = if shift.direction == Direction::Forward {
-        "forward"
-    } else {
-        "inverse"
-    };
-    writeln!(
-        out,
-        "\nthe job: {way}, {}",
-        number_of(shift.fixes.len(), "fix", "fixes")
-    )
-    .unwrap();
+    let way = if shift.direction == Direction::Forward { "forward" } else { "inverse" };
+    writeln!(out, "\nthe job: {way}, {}", number_of(shift.fixes.len(), "fix", "fixes")).unwrap();
     for (i, (fix, result)) in shift.fixes.iter().zip(results).enumerate() {
         writeln!(out, "    {}", place(shift.from, *fix)).unwrap();
         if let (Some([e, n, u]), Some(mark)) = (shift.velocities.get(i), shift.marks.get(i)) {
             let absent = if *mark == 1 { "" } else { ", marked absent" };
-            writeln!(
-                out,
-                "        velocity east {e}, north {n}, up {u} mm/year{absent}"
-            )
-            .unwrap();
+            writeln!(out, "        velocity east {e}, north {n}, up {u} mm/year{absent}").unwrap();
         }
-        writeln!(
-            out,
-            "      → {}",
-            place(shift.to, in_degrees(shift.to, *result))
-        )
-        .unwrap();
+        writeln!(out, "      → {}", place(shift.to, in_degrees(shift.to, *result))).unwrap();
         if let Some(published) = shift.published.get(i) {
             writeln!(out, "        published {published}").unwrap();
         }
@@ -111,17 +74,8 @@ fn helmert(h: &Helmert) -> Vec<(&'static str, String)> {
     let length = if h.mm { "mm" } else { "m" };
     let angle = if h.uas { "µas" } else { "″" };
     let mut out = Vec::new();
-    let flags = [
-        (h.exact, "exact"),
-        (h.uas, "uas"),
-        (h.mm, "mm"),
-        (h.own_epoch, "own-epoch"),
-    ];
-    let set: Vec<&str> = flags
-        .iter()
-        .filter(|(set, _)| *set)
-        .map(|(_, name)| *name)
-        .collect();
+    let flags = [(h.exact, "exact"), (h.uas, "uas"), (h.mm, "mm"), (h.own_epoch, "own-epoch")];
+    let set: Vec<&str> = flags.iter().filter(|(set, _)| *set).map(|(_, name)| *name).collect();
     if !set.is_empty() {
         out.push(("flags", set.join(", ")));
     }
@@ -131,11 +85,7 @@ fn helmert(h: &Helmert) -> Vec<(&'static str, String)> {
     for (name, v, unit) in [
         ("translation", h.translation, length.to_string()),
         ("xyz", h.xyz, length.to_string()),
-        (
-            "translation_rate",
-            h.translation_rate,
-            format!("{length}/year"),
-        ),
+        ("translation_rate", h.translation_rate, format!("{length}/year")),
         ("dxyz", h.dxyz, format!("{length}/year")),
         ("rotation", h.rotation, angle.to_string()),
         ("rxyz", h.rxyz, angle.to_string()),
@@ -146,12 +96,8 @@ fn helmert(h: &Helmert) -> Vec<(&'static str, String)> {
             out.push((name, format!("{}, {}, {} {unit}", v[0], v[1], v[2])));
         }
     }
-    for (name, x, unit) in [
-        ("scale", h.scale, ""),
-        ("s", h.s, ""),
-        ("scale_rate", h.scale_rate, "/year"),
-        ("ds", h.ds, "/year"),
-    ] {
+    for (name, x, unit) in [("scale", h.scale, ""), ("s", h.s, ""), ("scale_rate", h.scale_rate, "/year"), ("ds", h.ds, "/year")]
+    {
         if x != 0.0 {
             out.push((name, format!("{x} parts in 10⁶{unit}")));
         }
@@ -161,13 +107,7 @@ fn helmert(h: &Helmert) -> Vec<(&'static str, String)> {
 }
 
 fn molodensky(m: &Molodensky) -> Vec<(&'static str, String)> {
-    let mut out = vec![
-        (
-            "formulas",
-            if m.abridged { "abridged" } else { "full" }.to_string(),
-        ),
-        ("first", ellipsoid(m.first)),
-    ];
+    let mut out = vec![("formulas", if m.abridged { "abridged" } else { "full" }.to_string()), ("first", ellipsoid(m.first))];
     if let Some(second) = m.second {
         out.push(("second", ellipsoid(second)));
     }
@@ -180,12 +120,7 @@ fn molodensky(m: &Molodensky) -> Vec<(&'static str, String)> {
 
 fn permtide(p: &Permtide) -> Vec<(&'static str, String)> {
     let system = |s: Option<_>| s.map_or("not set".to_string(), |s| words(&format!("{s:?}")));
-    vec![
-        ("ellipsoid", ellipsoid(p.ellipsoid)),
-        ("to", system(p.to)),
-        ("from", system(p.from)),
-        ("k", p.k.to_string()),
-    ]
+    vec![("ellipsoid", ellipsoid(p.ellipsoid)), ("to", system(p.to)), ("from", system(p.from)), ("k", p.k.to_string())]
 }
 
 fn deformation(d: &Deformation) -> Vec<(&'static str, String)> {
@@ -198,11 +133,7 @@ fn deformation(d: &Deformation) -> Vec<(&'static str, String)> {
 }
 
 fn times(out: &mut Vec<(&'static str, String)>, given: &[(&'static str, Option<f64>)]) {
-    out.extend(
-        given
-            .iter()
-            .filter_map(|(name, t)| t.map(|t| (*name, t.to_string()))),
-    );
+    out.extend(given.iter().filter_map(|(name, t)| t.map(|t| (*name, t.to_string()))));
 }
 
 fn ellipsoid(e: Ellipsoid) -> String {
@@ -231,12 +162,7 @@ fn words(name: &str) -> String {
 fn in_degrees(kind: Place, tuple: [f64; 4]) -> [f64; 4] {
     match kind {
         Place::Geocentric => tuple,
-        Place::Geographic => [
-            tuple[0].to_degrees(),
-            tuple[1].to_degrees(),
-            tuple[2],
-            tuple[3],
-        ],
+        Place::Geographic => [tuple[0].to_degrees(), tuple[1].to_degrees(), tuple[2], tuple[3]],
     }
 }
 

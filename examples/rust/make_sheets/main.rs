@@ -1,4 +1,4 @@
-//! publish FOLDER: writes the published shifts of shifts.rs into a folder, four files each, made by the library.
+//! make_sheets FOLDER: writes the published shifts of shifts.rs into a folder, four files each, made by the library.
 //!
 //! NAME.sheet has the sheet's bytes; NAME.job the bytes that the program `shift` reads from its standard input; NAME.expected the lines that it then prints;
 //! NAME.txt all of that for a person: the source, each step's fields that are not blank, and the fixes before and after.
@@ -13,18 +13,18 @@ use sillfeather::{Direction, Refusal, Sheet};
 
 fn main() {
     let Some(folder) = env::args().nth(1) else {
-        eprintln!("publish FOLDER");
+        eprintln!("make_sheets FOLDER");
         process::exit(2);
     };
     for shift in shifts::all() {
-        if let Err(why) = publish(Path::new(&folder), &shift) {
+        if let Err(why) = write(Path::new(&folder), &shift) {
             eprintln!("{}: {why}", shift.name);
             process::exit(1);
         }
     }
 }
 
-fn publish(folder: &Path, shift: &Published) -> io::Result<()> {
+fn write(folder: &Path, shift: &Published) -> io::Result<()> {
     let sheet = sheet(shift).map_err(io::Error::other)?;
     let (expected, results) = match run(&sheet, shift) {
         Ok((counts, list)) => (text::lines(&counts, &list), list),
@@ -38,13 +38,8 @@ fn publish(folder: &Path, shift: &Published) -> io::Result<()> {
 }
 
 fn sheet(shift: &Published) -> Result<Sheet, Refusal> {
-    let add = |builder: sillfeather::SheetBuilder,
-               &(inverted, step): &(bool, sillfeather::Step)| {
-        if inverted {
-            builder.inverted(step)
-        } else {
-            builder.step(step)
-        }
+    let add = |builder: sillfeather::SheetBuilder, &(inverted, step): &(bool, sillfeather::Step)| {
+        if inverted { builder.inverted(step) } else { builder.step(step) }
     };
     shift.steps.iter().fold(Sheet::builder(), add).build()
 }
@@ -59,16 +54,8 @@ fn run(sheet: &Sheet, shift: &Published) -> Result<(Vec<u32>, Vec<[f64; 4]>), Re
 fn job(sheet: &Sheet, shift: &Published) -> Vec<u8> {
     let list = shift.list();
     let direction = u32::from(shift.direction == Direction::Inverse);
-    let words = [
-        direction,
-        sheet.as_bytes().len() as u32,
-        list.len() as u32,
-        shift.velocities.len() as u32,
-    ];
-    let numbers = list
-        .as_flattened()
-        .iter()
-        .chain(shift.velocities.as_flattened());
+    let words = [direction, sheet.as_bytes().len() as u32, list.len() as u32, shift.velocities.len() as u32];
+    let numbers = list.as_flattened().iter().chain(shift.velocities.as_flattened());
     let mut job: Vec<u8> = words.into_iter().flat_map(u32::to_le_bytes).collect();
     job.extend(sheet.as_bytes());
     job.extend(numbers.flat_map(|x| x.to_le_bytes()));
