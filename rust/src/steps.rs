@@ -268,6 +268,8 @@ impl Default for Deformation {
 }
 
 /// A step of any kind.
+// By value, as the sheet has it: a step lives until it is added, and a sheet has at most sixteen.
+#[allow(clippy::large_enum_variant)]
 #[derive(Clone, Copy, Debug, PartialEq)]
 pub enum Step {
     /// Kind 1.

@@ -1,4 +1,4 @@
-//! The published shifts. Each parameter was held against its entry in the EPSG dataset, version 10.076, where the source names one.
+//! The published shifts. Where a source names an EPSG code, the parameters were held against the EPSG dataset, version 10.076, as PROJ 9.1.1 carries it.
 use sillfeather::{Cart, Convention, Deformation, Direction, Ellipsoid, Helmert, Molodensky, Permtide, Step, TideSystem};
 
 use Direction::{Forward, Inverse};
