@@ -5,6 +5,15 @@ use core::fmt;
 ///
 /// Where several rules are broken the first of this order is given: 1, 2, 3, 4; then step by step 5 to 8; then 11, 12, 9, 13, 10, 14, 15. What was lent
 /// holds what it held.
+///
+/// ```
+/// use sillfeather::{Helmert, Refusal, Sheet};
+///
+/// let turned = Helmert { rotation: [0.0, 0.0, 0.554], ..Helmert::BLANK };
+/// let refusal = Sheet::builder().step(turned).build().unwrap_err();
+/// assert_eq!(refusal, Refusal::Convention { step: 1 });
+/// assert_eq!(refusal.to_string(), "the step turns, and no convention says which way (refusal 6, step 1)");
+/// ```
 #[derive(Clone, Copy, Debug, PartialEq, Eq, Hash)]
 #[non_exhaustive]
 pub enum Refusal {

@@ -45,6 +45,19 @@ impl Sheet {
 
     /// The same with a velocity and a mark for each fix, which a deformation step reads: east, north, up in mm a year; 1 present, 0 absent. Without such a
     /// step both are empty (refusal 10).
+    ///
+    /// ```
+    /// use sillfeather::{Deformation, Direction, Sheet};
+    ///
+    /// let sheet = Sheet::builder().step(Deformation { t_epoch: Some(2000.0), ..Deformation::BLANK }).build()?;
+    /// let mut fixes = [[6378137.0, 0.0, 0.0, 2010.0]; 2];
+    /// // a metre a year upwards; the second fix has no velocity
+    /// let counts = sheet.shift_with(Direction::Forward, &mut fixes, &[[0.0, 0.0, 1000.0]; 2], &[1, 0])?;
+    /// assert_eq!(counts.steps(), [1]);
+    /// assert_eq!(fixes[0], [6378147.0, 0.0, 0.0, 2010.0]);
+    /// assert!(fixes[1].iter().all(|x| x.is_nan()));
+    /// # Ok::<(), sillfeather::Refusal>(())
+    /// ```
     pub fn shift_with(
         &self,
         direction: Direction,
