@@ -38,7 +38,7 @@ impl Sheet {
     /// Shifts a list in place: the steps in order, or for [`Direction::Inverse`] in reverse with each turned round. For sheets without a deformation step.
     ///
     /// A fix is four numbers: longitude, latitude, height (radians and metres) or X, Y, Z (metres), then time in years. Refused: 9 over 2,048 fixes, 10 where
-    /// the sheet has a deformation step; the list then holds what it held.
+    /// the sheet has a deformation step and the list a fix; the list then holds what it held.
     pub fn shift(&self, direction: Direction, list: &mut [[f64; 4]]) -> Result<Counts, Refusal> {
         self.shift_with(direction, list, &[], &[])
     }
@@ -97,7 +97,7 @@ impl TryFrom<&[u8]> for Sheet {
 
 /// How many fixes each step counted, in the sheet's order.
 ///
-/// Helmert, Molodensky and permtide count every fix; cart those with no NaN in the result that are not on the axis; deformation those whose mark is 1.
+/// Helmert, Molodensky and permtide count every fix; cart those with no NaN in the result, and inverse none on the axis; deformation those whose mark is 1.
 #[derive(Clone, Copy, Debug, PartialEq, Eq, Hash)]
 pub struct Counts {
     counts: [u32; 16],
