@@ -1,11 +1,15 @@
--- How an answer is handed to C: a refusal as one word.
-use Prim.Native.Nat.{ℕ, _+_, _*_, _%_}
+-- How an answer is handed to C: a refusal as one word, and what each call leaves in what it was lent.
+use Prim.Native.Nat.{ℕ, _+_, _*_, _%_, _<_}
 use mathlib.Core.Bool.{Bool, not}
 use mathlib.Core.List.{List}
 use lib.Dec.{eqb}
+use lib.ListN.{getD}
 use lib.Ieee.{Float}
 use Rattle.sheet.specs.declared.Refusal.{Refusal}
 use Rattle.chain.specs.Rules.{Outcome}
+use Rattle.kept.specs.Kept.{Kept}
+use Rattle.kept.specs.Entries.{Outcome as CorrectOutcome}
+use Rattle.making.specs.Adding.{Outcome as AddOutcome}
 
 -- 0 is done; otherwise the refusal's number plus 65536 times the step
 abbrev pub codeOf : Refusal → ℕ
@@ -15,7 +19,11 @@ codeOf r = r .number % 65536 + r .step % 65536 * 65536
 abbrev pub isInverse : ℕ → Bool
 isInverse n = not (eqb n 0)
 
--- what a call leaves its caller: the code, the counts and the list
+-- counts that 32 bits hold
+abbrev pub Small : List ℕ → Type 0
+Small counts = (i : ℕ) → getD counts i 0 < 4294967296
+
+-- what a shift leaves its caller: the code, the counts and the list
 pub record Handed : Type 0 where
   pub code : ℕ
   pub counts : List ℕ
@@ -26,3 +34,27 @@ handed code counts list = record { code = code; counts = counts; list = list }
 
 abbrev pub handedOf : Outcome → Handed
 handedOf o = handed (codeOf (o .answer .refusal)) (o .answer .counts) (o .list)
+
+-- what a correction leaves: the code, how many fixes were redone, and the three lists
+pub record Corrected : Type 0 where
+  pub code : ℕ
+  pub redone : ℕ
+  pub kept : Kept
+
+abbrev pub corrected : ℕ → ℕ → Kept → Corrected
+corrected code redone kept = record { code = code; redone = redone; kept = kept }
+
+abbrev pub correctedOf : CorrectOutcome → Corrected
+correctedOf o = corrected (codeOf (o .answer .refusal)) (o .answer .redone) (o .kept)
+
+-- what adding a step leaves: the code, the sheet's length and the room
+pub record Made : Type 0 where
+  pub code : ℕ
+  pub length : ℕ
+  pub room : List ℕ
+
+abbrev pub made : ℕ → ℕ → List ℕ → Made
+made code length room = record { code = code; length = length; room = room }
+
+abbrev pub madeOf : AddOutcome → Made
+madeOf o = made (codeOf (o .answer .refusal)) (o .answer .length) (o .room)

@@ -5,11 +5,24 @@
 ghost use mathlib.Core.Path.{_≡_};
 ghost use Rattle.sheet.specs.Rules.{refusalOf};
 ghost use Rattle.chain.specs.Rules.{shiftOf};
-ghost use Rattle.sillfeather.specs.Codes.{codeOf, isInverse, handed, handedOf};
+ghost use Prim.Native.Nat.{_≤_};
+ghost use Rattle.kept.specs.Kept.{keptOf};
+ghost use Rattle.kept.specs.Entries.{keepRefusalOf, keepOf, correctOf};
+ghost use Rattle.making.specs.Adding.{addedOf};
+ghost use Rattle.sillfeather.specs.Codes.{codeOf, isInverse, handed, handedOf, Small, corrected, correctedOf, made, madeOf};
+ghost use Rattle.sillfeather.specs.Arrays.{tupleOf, threeAt, helmertOf, cartWith, molodenskyOf, permtideWith, deformationWith};
 ghost use Rattle.root.specs.Sqrt.{sqrtOf};
 ghost use Rattle.trig.specs.Trig.{sinOf, cosOf};
 ghost use Rattle.arctan.specs.Arctan.{atan2Of};
 ghost use Rattle.hypot.specs.Hypot.{hypotOf};
+use bodies::Step;
+use cart::Cart;
+use deformation::Deformation;
+use helmert::Helmert;
+use molodensky::Molodensky;
+use permtide::Permtide;
+use rotation::Vec3;
+use tuple::Tuple;
 
 #[no_mangle]
 pub extern "C" fn sillfeather_sqrt(x: f64) -> f64
@@ -71,6 +84,20 @@ pub extern "C" fn sillfeather_check(s: &[u8]) -> u32
     code(sheet::check(s))
 }
 
+// The chain's counts as C gets them; none is over 2,048.
+fn narrow(counts: [usize; 16]) -> [u32; 16]
+    requires { ⌜ Small counts ⌝ }
+    ensures { λ r. ⌜ r ≡ counts ⌝ }
+{
+    let mut out = [0u32; 16];
+    let mut i = 0;
+    while i < 16 {
+        out[i] = counts[i] as u32;
+        i += 1;
+    }
+    out
+}
+
 // A sheet over a list, in place: forward where inverse is 0, else inverse. `counts` gets each step's count in the sheet's order, 0 in the other places.
 #[no_mangle]
 pub extern "C" fn sillfeather_shift(
@@ -79,13 +106,220 @@ pub extern "C" fn sillfeather_shift(
     list: &mut [f64],
     velocities: &[f64],
     marks: &[u8],
-    counts: &mut [usize; 16],
+    counts: &mut [u32; 16],
 ) -> u32
     ensures { λ r. ⌜ handed r (now (counts .exit)) (now (list .exit)) ≡ handedOf (shiftOf (isInverse inverse) (now (s .entry)) (now (list .entry)) (now (velocities .entry)) (now (marks .entry))) ⌝ }
 {
     let answer = chain::shift(inverse != 0, s, list, velocities, marks);
     let refusal = answer.refusal;
     let c = answer.counts;
-    *counts = c;
+    *counts = narrow(c);
     code(refusal)
+}
+
+// A fresh kept run: reads the list, writes results and, after each fix, the track.
+#[no_mangle]
+pub extern "C" fn sillfeather_keep(
+    inverse: u32,
+    s: &[u8],
+    list: &[f64],
+    results: &mut [f64],
+    track: &mut [f64],
+) -> u32
+    ensures { λ r. ⌜ (r ≡ codeOf (keepRefusalOf (now (s .entry)) (keptOf (now (list .entry)) (now (results .entry)) (now (track .entry)))))
+        × (keptOf (now (list .entry)) (now (results .exit)) (now (track .exit))
+            ≡ keepOf (isInverse inverse) (now (s .entry)) (keptOf (now (list .entry)) (now (results .entry)) (now (track .entry)))) ⌝ }
+{
+    code(kept::keep(inverse != 0, s, list, results, track))
+}
+
+fn tuple_of(fix: &[f64; 4]) -> Tuple
+    ensures { λ r. ⌜ r ≡ tupleOf (now (fix .entry)) ⌝ }
+{
+    Tuple {
+        x: fix[0],
+        y: fix[1],
+        z: fix[2],
+        t: fix[3],
+    }
+}
+
+// Corrects one fix of a kept run: writes it into the list and redoes from there; `redone` gets how many fixes were, 0 on refusal.
+#[no_mangle]
+pub extern "C" fn sillfeather_correct(
+    inverse: u32,
+    s: &[u8],
+    list: &mut [f64],
+    results: &mut [f64],
+    track: &mut [f64],
+    index: usize,
+    fix: &[f64; 4],
+    redone: &mut u64,
+) -> u32
+    ensures { λ r. ⌜ corrected r (now (redone .exit)) (keptOf (now (list .exit)) (now (results .exit)) (now (track .exit)))
+        ≡ correctedOf (correctOf (isInverse inverse) (now (s .entry)) (keptOf (now (list .entry)) (now (results .entry)) (now (track .entry))) index (tupleOf (now (fix .entry)))) ⌝ }
+{
+    let answer = kept::correct(inverse != 0, s, list, results, track, index, tuple_of(fix));
+    let refusal = answer.refusal;
+    *redone = answer.redone;
+    code(refusal)
+}
+
+// ----- making a sheet -------------------------------------------------------------------------
+
+// Adds a step to the sheet in the room's first `len` bytes.
+fn add(room: &mut [u8], len: &mut u64, inverted: u32, step: Step) -> u32
+    ensures { λ r. ⌜ made r (now (len .exit)) (now (room .exit)) ≡ madeOf (addedOf (now (room .entry)) (now (len .entry)) inverted step) ⌝ }
+{
+    let added = making::add(room, *len as usize, inverted, step);
+    let refusal = added.refusal;
+    *len = added.length as u64;
+    code(refusal)
+}
+
+fn three_at(numbers: &[f64; 30], i: usize) -> Vec3
+    requires { ⌜ i ≤ 27 ⌝ }
+    ensures { λ r. ⌜ r ≡ threeAt (now (numbers .entry)) i ⌝ }
+{
+    Vec3 {
+        x: numbers[i],
+        y: numbers[i + 1],
+        z: numbers[i + 2],
+    }
+}
+
+fn helmert_of(flags: u32, convention: u32, numbers: &[f64; 30]) -> Helmert
+    ensures { λ r. ⌜ r ≡ helmertOf flags convention (now (numbers .entry)) ⌝ }
+{
+    Helmert {
+        flags: flags,
+        convention: convention,
+        translation: three_at(numbers, 0),
+        xyz: three_at(numbers, 3),
+        translation_rate: three_at(numbers, 6),
+        dxyz: three_at(numbers, 9),
+        rotation: three_at(numbers, 12),
+        rxyz: three_at(numbers, 15),
+        rotation_rate: three_at(numbers, 18),
+        drxyz: three_at(numbers, 21),
+        scale: numbers[24],
+        s: numbers[25],
+        scale_rate: numbers[26],
+        ds: numbers[27],
+        t_epoch: numbers[28],
+        t_obs: numbers[29],
+    }
+}
+
+// The 30 numbers in the order of the body.
+#[no_mangle]
+pub extern "C" fn sillfeather_add_helmert(
+    room: &mut [u8],
+    len: &mut u64,
+    inverted: u32,
+    flags: u32,
+    convention: u32,
+    numbers: &[f64; 30],
+) -> u32
+    ensures { λ r. ⌜ made r (now (len .exit)) (now (room .exit))
+        ≡ madeOf (addedOf (now (room .entry)) (now (len .entry)) inverted (Step.Helmert (helmertOf flags convention (now (numbers .entry))))) ⌝ }
+{
+    add(room, len, inverted, Step::Helmert(helmert_of(flags, convention, numbers)))
+}
+
+#[no_mangle]
+pub extern "C" fn sillfeather_add_cart(
+    room: &mut [u8],
+    len: &mut u64,
+    inverted: u32,
+    ellipsoid: u32,
+) -> u32
+    ensures { λ r. ⌜ made r (now (len .exit)) (now (room .exit))
+        ≡ madeOf (addedOf (now (room .entry)) (now (len .entry)) inverted (Step.Cart (cartWith ellipsoid))) ⌝ }
+{
+    add(room, len, inverted, Step::Cart(Cart { ellipsoid: ellipsoid }))
+}
+
+fn molodensky_of(flags: u32, first: u32, second: u32, numbers: &[f64; 5]) -> Molodensky
+    ensures { λ r. ⌜ r ≡ molodenskyOf flags first second (now (numbers .entry)) ⌝ }
+{
+    Molodensky {
+        flags: flags,
+        first: first,
+        second: second,
+        dx: numbers[0],
+        dy: numbers[1],
+        dz: numbers[2],
+        da: numbers[3],
+        df: numbers[4],
+    }
+}
+
+// dx, dy, dz, da, df.
+#[no_mangle]
+pub extern "C" fn sillfeather_add_molodensky(
+    room: &mut [u8],
+    len: &mut u64,
+    inverted: u32,
+    flags: u32,
+    first: u32,
+    second: u32,
+    numbers: &[f64; 5],
+) -> u32
+    ensures { λ r. ⌜ made r (now (len .exit)) (now (room .exit))
+        ≡ madeOf (addedOf (now (room .entry)) (now (len .entry)) inverted (Step.Molodensky (molodenskyOf flags first second (now (numbers .entry))))) ⌝ }
+{
+    add(room, len, inverted, Step::Molodensky(molodensky_of(flags, first, second, numbers)))
+}
+
+#[no_mangle]
+pub extern "C" fn sillfeather_add_permtide(
+    room: &mut [u8],
+    len: &mut u64,
+    inverted: u32,
+    ellipsoid: u32,
+    to: u32,
+    from: u32,
+    k: f64,
+) -> u32
+    ensures { λ r. ⌜ made r (now (len .exit)) (now (room .exit))
+        ≡ madeOf (addedOf (now (room .entry)) (now (len .entry)) inverted (Step.Permtide (permtideWith ellipsoid to from k))) ⌝ }
+{
+    add(
+        room,
+        len,
+        inverted,
+        Step::Permtide(Permtide {
+            ellipsoid: ellipsoid,
+            to: to,
+            from: from,
+            k: k,
+        }),
+    )
+}
+
+#[no_mangle]
+pub extern "C" fn sillfeather_add_deformation(
+    room: &mut [u8],
+    len: &mut u64,
+    inverted: u32,
+    flags: u32,
+    ellipsoid: u32,
+    dt: f64,
+    epoch: f64,
+) -> u32
+    ensures { λ r. ⌜ made r (now (len .exit)) (now (room .exit))
+        ≡ madeOf (addedOf (now (room .entry)) (now (len .entry)) inverted (Step.Deformation (deformationWith flags ellipsoid dt epoch))) ⌝ }
+{
+    add(
+        room,
+        len,
+        inverted,
+        Step::Deformation(Deformation {
+            flags: flags,
+            ellipsoid: ellipsoid,
+            dt: dt,
+            epoch: epoch,
+        }),
+    )
 }

@@ -19,7 +19,7 @@ unsafe extern "C" {
         velocities_len: usize,
         marks: *const u8,
         marks_len: usize,
-        counts: *mut usize,
+        counts: *mut u32,
     ) -> u32;
 }
 
@@ -61,7 +61,7 @@ pub fn shift(job: &Job) -> Answer {
 
 pub fn shift_bytes(inverse: bool, sheet: &[u8], list: &[f64], velocities: &[f64], marks: &[u8]) -> Answer {
     let mut list = list.to_vec();
-    let mut counts = [0usize; 16];
+    let mut counts = [u32::MAX; 16]; // each is written, refused or not
     let told = unsafe {
         sillfeather_shift(
             inverse as u32,
@@ -77,7 +77,7 @@ pub fn shift_bytes(inverse: bool, sheet: &[u8], list: &[f64], velocities: &[f64]
         )
     };
     let (refusal, step) = apart(told);
-    Answer { refusal, step, counts: counts.map(|n| n as u32), list }
+    Answer { refusal, step, counts, list }
 }
 
 /// A result is the number plus 65536 times the step.

@@ -1,12 +1,16 @@
 -- `sillfeather::sillfeather_shift` meets its contract. Assumes nothing.
 use mathlib.Core.Path.{ap}
 use Rattle.sillfeather.specs.Codes.{handedOf}
+use Rattle.sillfeather.proofs.Fit.{shift-counts-fit}
 use borrow.Author.Needs.{needs}
 use Rattle.sillfeather.proofs.sillfeather_shift.Statement.{statement}
 use Rattle.sillfeather.proofs.sillfeather_shift.Tie as tie
 
 shift-requires : tie.Need-shift-requires
 shift-requires c κs = search needs
+
+narrow-requires : tie.Need-narrow-requires
+narrow-requires c κs = shift-counts-fit _ _ _ _ _ _ (c .before .before .before .before .shift .ensures)
 
 code-requires : tie.Need-code-requires
 code-requires c κs = search needs
@@ -15,7 +19,7 @@ same-length : tie.Need-same-length
 same-length c = search needs
 
 returns : tie.Need-returns
-returns c = rw (c .code .ensures) (ap handedOf (c .before .before .before .before .before .shift .ensures))
+returns c = rw (c .code .ensures, c .before .narrow .ensures) (ap handedOf (c .before .before .before .before .before .before .shift .ensures))
 
 pub sillfeather-shift-spec : {M : Type 1} → statement M
-sillfeather-shift-spec = tie.close (tie.spec shift-requires code-requires same-length returns)
+sillfeather-shift-spec = tie.close (tie.spec shift-requires narrow-requires code-requires same-length returns)

@@ -1,0 +1,2 @@
+-- What the contracts of `making` cite.
+pub mod Adding
