@@ -155,7 +155,7 @@ module _ (s : List ℕ) (bytes : Bytes s) (e : refusalOf s ≡ accepted) where
 -- ---- written, then read
 
 -- what every record in memory meets: a theorem over records takes it as its premise
-pub HeldSheet : Sheet → Type 0
+abbrev pub HeldSheet : Sheet → Type 0
 HeldSheet sheet = (i : ℕ) → i < sheet .count → Held (stepIn sheet i)
 
 -- the same record up to its step count
@@ -166,7 +166,6 @@ pub record SameSheet (a b : Sheet) : Type 0 where
 -- a record that the writer takes is read back: every field of every step, -0 and "not given" among them
 pub written-then-read : (sheet : Sheet) (room : ℕ) → HeldSheet sheet → writerRefusalOf sheet room ≡ accepted
     → (refusalOf (sheetBytesOf sheet) ≡ accepted) × SameSheet (recordOf (sheetBytesOf sheet)) sheet
-unfolding HeldSheet
 written-then-read sheet room held e =
     let t = taken sheet room (ap (λ (x : Refusal). x .number) e) in (
       keeps-accepted (sheetBytesOf sheet) (accepted-back sheet t held),

@@ -1,0 +1,124 @@
+-- What is read from bytes is what a computer's memory holds: words of 32 bits and binary64 numbers. Assumes nothing.
+use mathlib.Core.Path.{_≡_, refl, ap, _∙_}
+use Prim.Native.Nat.{ℕ, zero, suc, _+_, _<_}
+use mathlib.Core.Bool.{Bool, true, false, cond}
+use mathlib.Core.List.{List}
+use native.Mathlib.Omega.{arith}
+use borrow.Author.Tests.{le-ltb}
+use lib.Dec.{eqb, T}
+use lib.ListN.{length, take, drop}
+use lib.Ieee.{binary64, fits}
+use lib.Ieee.Bits.{ofBits-fits}
+use Rattle.words.specs.Words.{Bytes, word32, word64, numberAt}
+use Rattle.words.proofs.Laws.{word32-is-a-word}
+use Rattle.rotation.specs.declared.Vec3.{Vec3}
+use Rattle.bodies.specs.declared.Step.{Step}
+use Rattle.bodies.specs.Kinds.{byKind, lengthOf}
+use Rattle.bodies.specs.Read.{vec3At, helmertOf, cartOf, molodenskyOf, permtideOf, deformationOf, blankStep, stepOf}
+use Rattle.bodies.specs.Held.{Held, Held3, HeldHelmert, HeldCart, HeldMolodensky, HeldPermtide, HeldDeformation}
+use Rattle.sheet.specs.declared.Entry.{Entry}
+use Rattle.sheet.specs.declared.Sheet.{Sheet}
+use Rattle.sheet.specs.Layout.{stepCountOf, kindAt, bodyAt, stepAt, lengthAt, offsetAt, entryAt, entriesFrom, blankEntry, recordOf}
+use Rattle.sheet.specs.Bytes.{entryOf, stepIn}
+use Rattle.sheet.specs.Rules.{refusalOf}
+use Rattle.sheet.proofs.Accepted.{accepted-keeps}
+use Rattle.sheet.proofs.Back.{bytes-part, entry-same, step-same, record-count}
+use Rattle.sheet.proofs.Laws.{HeldSheet}
+use Rattle.making.proofs.Longer.{Tidy}
+
+module _ (b : List ℕ) (bytes : Bytes b) where
+  word : (at : ℕ) → word32 b at < 4294967296
+  word at = word32-is-a-word b at bytes
+
+  number : (at : ℕ) → T (fits binary64 (numberAt b at))
+  unfolding numberAt
+  number at = ofBits-fits binary64 (word64 b at)
+
+  three : (at : ℕ) → Held3 (vec3At b at)
+  unfolding vec3At
+  three at = record { x-held = number at; y-held = number (at + 8); z-held = number (at + 16) }
+
+  helmert-held : HeldHelmert (helmertOf b)
+  unfolding helmertOf
+  helmert-held =
+      record {
+        flags-held = word 0;
+        convention-held = word 4;
+        translation-held = three 8;
+        xyz-held = three 32;
+        translation-rate-held = three 56;
+        dxyz-held = three 80;
+        rotation-held = three 104;
+        rxyz-held = three 128;
+        rotation-rate-held = three 152;
+        drxyz-held = three 176;
+        scale-held = number 200;
+        s-held = number 208;
+        scale-rate-held = number 216;
+        ds-held = number 224;
+        t-epoch-held = number 232;
+        t-obs-held = number 240;
+      }
+
+  cart-held : HeldCart (cartOf b)
+  unfolding cartOf
+  cart-held = record { ellipsoid-held = word 0 }
+
+  molodensky-held : HeldMolodensky (molodenskyOf b)
+  unfolding molodenskyOf
+  molodensky-held =
+      record {
+        flags-held = word 0;
+        first-held = word 4;
+        second-held = word 8;
+        dx-held = number 16;
+        dy-held = number 24;
+        dz-held = number 32;
+        da-held = number 40;
+        df-held = number 48;
+      }
+
+  permtide-held : HeldPermtide (permtideOf b)
+  unfolding permtideOf
+  permtide-held = record { ellipsoid-held = word 0; to-held = word 4; from-held = word 8; k-held = number 16 }
+
+  deformation-held : HeldDeformation (deformationOf b)
+  unfolding deformationOf
+  deformation-held = record { flags-held = word 0; ellipsoid-held = word 4; dt-held = number 8; epoch-held = number 16 }
+
+  either : (t : Bool) (x y : Step) → Held x → Held y → Held (cond t x y)
+  either true x y p q = p
+  either false x y p q = q
+
+  blank-held : Held blankStep
+  blank-held = record { ellipsoid-held = omega arith }
+
+  -- the step that a body holds, of any kind
+  pub step-held : (kind : ℕ) → Held (stepOf kind b)
+  unfolding stepOf
+  step-held kind =
+      either (eqb (length b) (lengthOf kind)) _ _
+      (either (eqb kind 1) _ _ helmert-held
+      (either (eqb kind 2) _ _ cart-held
+      (either (eqb kind 3) _ _ molodensky-held
+      (either (eqb kind 4) _ _ permtide-held
+      (either (eqb kind 5) _ _ deformation-held blank-held)))))
+      blank-held
+
+-- ---- the record of a sheet
+
+length-entries : (s : List ℕ) (k i : ℕ) → length (entriesFrom s k i) ≡ k
+unfolding entriesFrom
+length-entries s zero i = refl
+length-entries s (suc k) i = ap suc (length-entries s k (i + 1))
+
+pub read-is-tidy : (s : List ℕ) → Tidy (recordOf s)
+unfolding recordOf entryAt
+read-is-tidy s = record { places = length-entries s 16 0; blank = λ i l h. entry-same s i h ∙ rw (le-ltb i (stepCountOf s) l) }
+
+pub read-is-held : (s : List ℕ) → Bytes s → refusalOf s .number ≡ 0 → HeldSheet (recordOf s)
+unfolding bodyAt
+read-is-held s bytes e i h =
+    let here : i < stepCountOf s = omega (arith, record-count s) in
+    rw (step-same s bytes (accepted-keeps s e) i here)
+    (step-held (take (lengthAt s i) (drop (offsetAt s i) s)) (bytes-part s (lengthAt s i) (offsetAt s i) bytes) (kindAt s i))
