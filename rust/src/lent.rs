@@ -1,0 +1,51 @@
+//! The archive's entries as they are, over lent slices, with nothing allocated: a sheet is its bytes, a list is flat, four numbers a fix.
+//!
+//! [`Sheet`](crate::Sheet) and [`KeptRun`](crate::KeptRun) stand on these. Each answers `Ok`, or the refusal, and then what was lent holds what it held.
+use crate::{Direction, Refusal, ffi};
+
+/// Whether the bytes are a sheet: the first rule that they break, of 1 to 8 and 11.
+pub fn check(sheet: &[u8]) -> Result<(), Refusal> {
+    Refusal::told(ffi::check(sheet))
+}
+
+/// A sheet over a list, in place: its steps in order, inverse in reverse with each turned round. Answers each step's count in the sheet's order, 0 in the
+/// other places.
+///
+/// Where the sheet has a deformation step, `velocities` are east, north, up in mm a year, three numbers a fix, and `marks` one byte a fix, 1 present, 0
+/// absent; else both are empty. Refused: 1 to 8 and 11 of the sheet, 9 of the list, 10 of velocities and marks.
+pub fn shift(
+    direction: Direction,
+    sheet: &[u8],
+    list: &mut [f64],
+    velocities: &[f64],
+    marks: &[u8],
+) -> Result<[u32; 16], Refusal> {
+    let mut counts = [0; 16];
+    Refusal::told(ffi::shift(direction.word(), sheet, list, velocities, marks, &mut counts))?;
+    Ok(counts)
+}
+
+/// A kept run: reads the list, writes its results and, after each fix, the track: the last time and T, four numbers a fix.
+///
+/// Refused: 1 to 8 and 11 of the sheet, 12 where it is not one Helmert step, 9 of the list, 13 where results or track are not as long as the list.
+pub fn keep(direction: Direction, sheet: &[u8], list: &[f64], results: &mut [f64], track: &mut [f64]) -> Result<(), Refusal> {
+    Refusal::told(ffi::keep(direction.word(), sheet, list, results, track))
+}
+
+/// The correction of one fix of a kept run, by its index from 0: writes it into the list, and redoes as many fixes as it changes. Answers their number.
+///
+/// If list, results and track came from a fresh run under the same sheet and direction, they end as a fresh run over the corrected list would leave them.
+/// Refused: as [`keep`], and 14 where the index is not below the count.
+pub fn correct(
+    direction: Direction,
+    sheet: &[u8],
+    list: &mut [f64],
+    results: &mut [f64],
+    track: &mut [f64],
+    index: usize,
+    fix: [f64; 4],
+) -> Result<u64, Refusal> {
+    let (told, redone) = ffi::correct(direction.word(), sheet, list, results, track, index, &fix);
+    Refusal::told(told)?;
+    Ok(redone)
+}

@@ -1,0 +1,181 @@
+use alloc::vec::Vec;
+
+use crate::steps::{Step, or_not_given};
+use crate::{Direction, Refusal, ffi, lent};
+
+/// The longest sheet: header, sixteen entries of the directory, sixteen Helmert bodies.
+const LONGEST: usize = 4240;
+
+/// A sheet that the library's reader accepts: the bytes by which two boxes hand each other their parameters.
+#[derive(Clone, Debug, PartialEq, Eq, Hash)]
+pub struct Sheet {
+    bytes: Vec<u8>,
+}
+
+impl Sheet {
+    /// A sheet made step by step.
+    pub fn builder() -> SheetBuilder {
+        SheetBuilder { room: [0; LONGEST], length: 0, refused: None }
+    }
+
+    /// The sheet that these bytes are, or the first rule that they break.
+    pub fn from_bytes(bytes: &[u8]) -> Result<Sheet, Refusal> {
+        lent::check(bytes)?;
+        Ok(Sheet { bytes: bytes.to_vec() })
+    }
+
+    /// The sheet's bytes, 40 to 4,240.
+    pub fn as_bytes(&self) -> &[u8] {
+        &self.bytes
+    }
+
+    /// The number of steps, 1 to 16.
+    pub fn step_count(&self) -> usize {
+        // The header's third word; its upper bytes are 0 in every accepted sheet.
+        usize::from(self.bytes[8])
+    }
+
+    /// Shifts a list in place: the steps in order, or for [`Direction::Inverse`] in reverse with each turned round. For sheets without a deformation step.
+    ///
+    /// A fix is four numbers: longitude, latitude, height (radians and metres) or X, Y, Z (metres), then time in years. Refused: 9 over 2,048 fixes, 10 where
+    /// the sheet has a deformation step and the list a fix; the list then holds what it held.
+    pub fn shift(&self, direction: Direction, list: &mut [[f64; 4]]) -> Result<Counts, Refusal> {
+        self.shift_with(direction, list, &[], &[])
+    }
+
+    /// The same with a velocity and a mark for each fix, which a deformation step reads: east, north, up in mm a year; 1 present, 0 absent. Without such a
+    /// step both are empty (refusal 10).
+    ///
+    /// ```
+    /// use sillfeather::{Deformation, Direction, Sheet};
+    ///
+    /// let sheet = Sheet::builder().step(Deformation { t_epoch: Some(2000.0), ..Deformation::BLANK }).build()?;
+    /// let mut fixes = [[6378137.0, 0.0, 0.0, 2010.0]; 2];
+    /// // a metre a year upwards; the second fix has no velocity
+    /// let counts = sheet.shift_with(Direction::Forward, &mut fixes, &[[0.0, 0.0, 1000.0]; 2], &[1, 0])?;
+    /// assert_eq!(counts.steps(), [1]);
+    /// assert_eq!(fixes[0], [6378147.0, 0.0, 0.0, 2010.0]);
+    /// assert!(fixes[1].iter().all(|x| x.is_nan()));
+    /// # Ok::<(), sillfeather::Refusal>(())
+    /// ```
+    pub fn shift_with(
+        &self,
+        direction: Direction,
+        list: &mut [[f64; 4]],
+        velocities: &[[f64; 3]],
+        marks: &[u8],
+    ) -> Result<Counts, Refusal> {
+        self.shift_flat(direction, list.as_flattened_mut(), velocities.as_flattened(), marks)
+    }
+
+    /// The same over flat lists, four numbers a fix and three a velocity. A list that is not of whole fixes is refused by 9.
+    pub fn shift_flat(
+        &self,
+        direction: Direction,
+        list: &mut [f64],
+        velocities: &[f64],
+        marks: &[u8],
+    ) -> Result<Counts, Refusal> {
+        let counts = lent::shift(direction, &self.bytes, list, velocities, marks)?;
+        Ok(Counts { counts, steps: self.step_count() })
+    }
+}
+
+impl AsRef<[u8]> for Sheet {
+    fn as_ref(&self) -> &[u8] {
+        self.as_bytes()
+    }
+}
+
+impl TryFrom<&[u8]> for Sheet {
+    type Error = Refusal;
+
+    fn try_from(bytes: &[u8]) -> Result<Sheet, Refusal> {
+        Sheet::from_bytes(bytes)
+    }
+}
+
+/// How many fixes each step counted, in the sheet's order.
+///
+/// Helmert, Molodensky and permtide count every fix; cart those with no NaN in the result, and inverse none on the axis; deformation those whose mark is 1.
+#[derive(Clone, Copy, Debug, PartialEq, Eq, Hash)]
+pub struct Counts {
+    counts: [u32; 16],
+    steps: usize,
+}
+
+impl Counts {
+    /// One count a step of the sheet.
+    pub fn steps(&self) -> &[u32] {
+        &self.counts[..self.steps]
+    }
+
+    /// All sixteen places; those past the sheet's steps are 0.
+    pub fn all(&self) -> &[u32; 16] {
+        &self.counts
+    }
+}
+
+/// Makes a [`Sheet`] step by step, through the library's own writer.
+///
+/// Each step is tested as it is added; once one is refused, those after it are left out, and [`build`](SheetBuilder::build) answers that first refusal: 3 for
+/// a seventeenth step, 5 to 8 for a step out of rule, 11 for a second deformation step.
+#[derive(Clone, Debug)]
+pub struct SheetBuilder {
+    room: [u8; LONGEST],
+    length: u64,
+    refused: Option<Refusal>,
+}
+
+impl SheetBuilder {
+    /// Adds a step at the end.
+    #[must_use]
+    pub fn step(self, step: impl Into<Step>) -> SheetBuilder {
+        self.add(false, step.into())
+    }
+
+    /// Adds a step at the end that runs the other way round.
+    #[must_use]
+    pub fn inverted(self, step: impl Into<Step>) -> SheetBuilder {
+        self.add(true, step.into())
+    }
+
+    /// The sheet, or the first refusal; 3 where no step was added.
+    pub fn build(self) -> Result<Sheet, Refusal> {
+        match self.refused {
+            Some(refusal) => Err(refusal),
+            None if self.length == 0 => Err(Refusal::StepCount),
+            None => Ok(Sheet { bytes: self.room[..self.length as usize].to_vec() }),
+        }
+    }
+
+    fn add(mut self, inverted: bool, step: Step) -> SheetBuilder {
+        if self.refused.is_none() {
+            self.refused = Refusal::told(self.write(u32::from(inverted), step)).err();
+        }
+        self
+    }
+
+    fn write(&mut self, inverted: u32, step: Step) -> u32 {
+        let (room, length) = (&mut self.room, &mut self.length);
+        match step {
+            Step::Helmert(h) => {
+                let convention = h.convention.map_or(0, |c| c as u32);
+                ffi::add_helmert(room, length, inverted, h.flags(), convention, &h.numbers())
+            }
+            Step::Cart(c) => ffi::add_cart(room, length, inverted, c.ellipsoid as u32),
+            Step::Molodensky(m) => {
+                let second = m.second.map_or(0, |e| e as u32);
+                ffi::add_molodensky(room, length, inverted, m.flags(), m.first as u32, second, &m.numbers())
+            }
+            Step::Permtide(p) => {
+                let (to, from) = (p.to.map_or(0, |t| t as u32), p.from.map_or(0, |t| t as u32));
+                ffi::add_permtide(room, length, inverted, p.ellipsoid as u32, to, from, p.k)
+            }
+            Step::Deformation(d) => {
+                let (dt, t_epoch) = (or_not_given(d.dt), or_not_given(d.t_epoch));
+                ffi::add_deformation(room, length, inverted, u32::from(d.raw), d.ellipsoid as u32, dt, t_epoch)
+            }
+        }
+    }
+}

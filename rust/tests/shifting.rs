@@ -1,0 +1,124 @@
+//! Lists under sheets: directions, counts, velocities and marks, and that a refusal leaves the list alone.
+mod common;
+use common::*;
+use sillfeather::*;
+
+const FORWARD: Direction = Direction::Forward;
+const INVERSE: Direction = Direction::Inverse;
+
+fn deformation() -> Sheet {
+    sheet_of(Deformation { t_epoch: Some(2000.0), ..Deformation::BLANK })
+}
+
+#[test]
+fn there_and_back() {
+    let helmert = Helmert {
+        convention: Some(Convention::CoordinateFrame),
+        translation: [23.57, -140.95, -79.8],
+        rotation: [0.0, -0.35, -0.79],
+        scale: -0.22,
+        ..Helmert::BLANK
+    };
+    let sheet = Sheet::builder()
+        .step(Cart { ellipsoid: Ellipsoid::Krassowsky1940 })
+        .step(helmert)
+        .inverted(Cart { ellipsoid: Ellipsoid::Wgs84 })
+        .build()
+        .unwrap();
+    let mut random = Random(59);
+    let start: Vec<[f64; 4]> = (0..500)
+        .map(|_| {
+            [random.between(-3.1, 3.1), random.between(-1.4, 1.4), random.between(-1e4, 1e4), random.between(1990.0, 2030.0)]
+        })
+        .collect();
+    let mut list = start.clone();
+    assert_eq!(sheet.shift(FORWARD, &mut list).unwrap().steps(), [500; 3]);
+    assert!(list.iter().zip(&start).all(|(a, b)| a != b));
+    assert_eq!(sheet.shift(INVERSE, &mut list).unwrap().steps(), [500; 3]);
+    for (end, start) in list.iter().zip(&start) {
+        // the small-angle matrix and its transpose are inverse to each other but for the angles' squares: 1e-11 of the Earth's radius
+        assert!((0..2).all(|i| (end[i] - start[i]).abs() < 1e-10), "{end:?} {start:?}");
+        assert!((end[2] - start[2]).abs() < 1e-3 && end[3] == start[3]);
+    }
+}
+
+#[test]
+fn inverted_steps_run_the_other_way() {
+    let mut by_step = [[0.25, 0.75, 120.0, 2024.5]];
+    let mut by_direction = by_step;
+    Sheet::builder()
+        .inverted(Molodensky { dx: 10.0, ..Molodensky::BLANK })
+        .build()
+        .unwrap()
+        .shift(FORWARD, &mut by_step)
+        .unwrap();
+    sheet_of(Molodensky { dx: 10.0, ..Molodensky::BLANK }).shift(INVERSE, &mut by_direction).unwrap();
+    assert_same(&by_step, &by_direction);
+}
+
+#[test]
+fn counts_stand_in_the_sheets_order() {
+    let sheet = Sheet::builder().step(Cart::BLANK).step(Helmert::BLANK).build().unwrap();
+    for direction in [FORWARD, INVERSE] {
+        let mut list = [[0.0, 0.0, 0.0, 0.0], [f64::NAN, 0.0, 0.0, 0.0], [0.0, 0.0, 0.0, f64::NAN]];
+        let counts = sheet.shift(direction, &mut list).unwrap();
+        // inverse, the first is on the axis
+        let cart = if direction == FORWARD { 1 } else { 0 };
+        assert_eq!(counts.steps(), [cart, 3]);
+        assert_eq!(counts.all()[2..], [0; 14]);
+    }
+}
+
+#[test]
+fn empty_lists() {
+    let nothing: &mut [[f64; 4]] = &mut [];
+    assert_eq!(sheet_of(Cart::BLANK).shift(FORWARD, nothing).unwrap().steps(), [0]);
+    assert_eq!(deformation().shift(FORWARD, nothing).unwrap().steps(), [0]);
+}
+
+#[test]
+fn flat_and_whole_lists_agree() {
+    let sheet = sheet_of(Helmert { xyz: [1.0, 2.0, 3.0], ..Helmert::BLANK });
+    let mut fixes = [[10.0, 20.0, 30.0, 2000.0], [40.0, 50.0, 60.0, 2001.0]];
+    let mut flat = fixes.concat();
+    assert_eq!(sheet.shift(FORWARD, &mut fixes), sheet.shift_flat(FORWARD, &mut flat, &[], &[]));
+    assert_eq!(bits(fixes.as_flattened()), bits(&flat));
+    assert_eq!(fixes[1], [41.0, 52.0, 63.0, 2001.0]);
+}
+
+#[test]
+fn marks_tell_who_has_a_velocity() {
+    let mut list = [[6378137.0, 0.0, 0.0, 2010.0]; 2];
+    let counts = deformation().shift_with(FORWARD, &mut list, &[[0.0, 0.0, 1000.0]; 2], &[0, 1]).unwrap();
+    assert_eq!(counts.steps(), [1]);
+    assert!(list[0].iter().all(|x| x.is_nan()));
+    assert_eq!(list[1][0], 6378147.0);
+}
+
+#[test]
+fn refusals_leave_the_list() {
+    let (cart, moved) = (sheet_of(Cart::BLANK), deformation());
+    let quiet = f64::from_bits(0x7ff8_0000_0000_0abc);
+    for (sheet, length, velocities, marks, refusal) in [
+        (&cart, 7, 0, vec![], Refusal::List),
+        (&cart, 8196, 0, vec![], Refusal::List),
+        (&cart, 8, 6, vec![1, 1], Refusal::Velocities),
+        (&cart, 8, 0, vec![1, 1], Refusal::Velocities),
+        (&moved, 8, 0, vec![], Refusal::Velocities),
+        (&moved, 8, 5, vec![1, 1], Refusal::Velocities),
+        (&moved, 8, 6, vec![1], Refusal::Velocities),
+        (&moved, 8, 6, vec![1, 2], Refusal::Velocities),
+        (&moved, 7, 5, vec![9], Refusal::List),
+    ] {
+        for direction in [FORWARD, INVERSE] {
+            let mut list = vec![quiet; length];
+            assert_eq!(sheet.shift_flat(direction, &mut list, &vec![0.0; velocities], &marks), Err(refusal));
+            assert_eq!(bits(&list), vec![quiet.to_bits(); length]);
+        }
+    }
+    let mut list = [1.0; 4];
+    let cut = &cart.as_bytes()[..39];
+    assert_eq!(lent::shift(FORWARD, cut, &mut list, &[], &[]), Err(Refusal::Length));
+    assert_eq!(lent::check(cut), Err(Refusal::Length));
+    assert_eq!(list, [1.0; 4]);
+}
