@@ -5,8 +5,9 @@
 // of a fresh run of the list that this program itself corrected, and the count with the stretch that the document's words define on the two tracks: from the
 // index up to the first fix after which the new track equals the old one, else to the end. Prints a line a mode, and how many comparisons parted.
 ghost use Prim.Native.Nat.{_<_, _≤_};
-use helmert::Helmert;
+ghost use Rattle.corrections.specs.Room.{Roomy};
 use kept::Corrected;
+use sheet::Refusal;
 use tuple::Tuple;
 
 const OUT: i32 = 1;
@@ -218,6 +219,7 @@ fn stretch(new: &[f64], old: &[f64], index: usize) -> usize {
 
 // ----- a correction --------------------------------------------------------------------------------
 
+// The chance to go on with, and what was seen: corrections taken, refused, fixes redone, stretches longer than one fix, comparisons that parted.
 struct Tally {
     seed: usize,
     taken: usize,
@@ -225,6 +227,221 @@ struct Tally {
     redone: usize,
     longer: usize,
     parted: usize,
+}
+
+fn plus(a: usize, b: usize) -> usize {
+    std::num::wrapping_add_usize(a, b)
+}
+
+fn one_if(b: bool) -> usize {
+    if b { 1 } else { 0 }
+}
+
+// Index below the count: taken, by the stretch. Else 14, and nothing redone.
+fn judged(was: Tally, fixes: usize, index: usize, answer: Corrected, right: usize, apart: usize) -> Tally {
+    let refusal = answer.refusal;
+    let here = index < fixes;
+    let number = if here { 0 } else { 14 };
+    let wrong = plus(
+        one_if(refusal.number != number),
+        plus(one_if(refusal.step != 0), one_if(answer.redone != right as u64)),
+    );
+    Tally {
+        seed: next(next(next(next(next(was.seed))))),
+        taken: plus(was.taken, one_if(here)),
+        refused: plus(was.refused, one_if(!here)),
+        redone: plus(was.redone, right),
+        longer: plus(was.longer, one_if(1 < right)),
+        parted: plus(was.parted, plus(wrong, apart)),
+    }
+}
+
+// The corrected run beside the fresh one.
+fn compared(
+    list: &[f64],
+    own: &[f64],
+    results: &[f64],
+    track: &[f64],
+    old: &[f64],
+    fresh_results: &[f64],
+    fresh_track: &[f64],
+    index: usize,
+    answer: Corrected,
+    again: Refusal,
+    was: Tally,
+) -> Tally {
+    let apart = plus(
+        plus(differing(list, own), differing(results, fresh_results)),
+        plus(differing(track, fresh_track), one_if(again.number != 0)),
+    );
+    judged(was, list.len() / 4, index, answer, stretch(fresh_track, old, index), apart)
+}
+
+fn one(
+    inverse: bool,
+    s: &[u8],
+    list: &mut [f64],
+    own: &mut [f64],
+    results: &mut [f64],
+    track: &mut [f64],
+    old: &mut [f64],
+    fresh_results: &mut [f64],
+    fresh_track: &mut [f64],
+    index: usize,
+    fix: Tuple,
+    was: Tally,
+) -> Tally {
+    copy(track, old);
+    put(own, index, fix);
+    let answer = kept::correct(inverse, s, list, results, track, index, fix);
+    let again = kept::keep(inverse, s, own, fresh_results, fresh_track);
+    compared(list, own, results, track, old, fresh_results, fresh_track, index, answer, again, was)
+}
+
+fn drawn(
+    inverse: bool,
+    s: &[u8],
+    list: &mut [f64],
+    own: &mut [f64],
+    results: &mut [f64],
+    track: &mut [f64],
+    old: &mut [f64],
+    fresh_results: &mut [f64],
+    fresh_track: &mut [f64],
+    was: Tally,
+) -> Tally {
+    let index = index_of(was.seed, list.len() / 4);
+    let fix = fix_of(next(was.seed));
+    one(inverse, s, list, own, results, track, old, fresh_results, fresh_track, index, fix, was)
+}
+
+// ----- a case: a sheet, a list, six corrections ------------------------------------------------------
+
+fn several(
+    inverse: bool,
+    s: &[u8],
+    list: &mut [f64],
+    own: &mut [f64],
+    results: &mut [f64],
+    track: &mut [f64],
+    old: &mut [f64],
+    fresh_results: &mut [f64],
+    fresh_track: &mut [f64],
+    was: Tally,
+) -> Tally {
+    let mut now = was;
+    let mut k: usize = 0;
+    while k < 6 {
+        now = drawn(inverse, s, list, own, results, track, old, fresh_results, fresh_track, now);
+        k += 1;
+    }
+    now
+}
+
+// Results and track hold anything before the first run.
+fn case(
+    mode: usize,
+    exact: usize,
+    inverse: bool,
+    s: &mut [u8],
+    list: &mut [f64],
+    own: &mut [f64],
+    results: &mut [f64],
+    track: &mut [f64],
+    old: &mut [f64],
+    fresh_results: &mut [f64],
+    fresh_track: &mut [f64],
+    was: Tally,
+) -> Tally {
+    let seed = was.seed;
+    write_words(s, mode, exact, seed);
+    write_numbers(s, mode, next(seed));
+    fill(list, seed);
+    fill(own, seed);
+    let first = kept::keep(inverse, s, list, results, track);
+    let mut now = was;
+    now.parted = plus(was.parted, one_if(first.number != 0));
+    several(inverse, s, list, own, results, track, old, fresh_results, fresh_track, now)
+}
+
+// How many numbers the list of case k has.
+fn size(k: usize) -> usize
+    ensures { λ r. ⌜ r ≤ 8192 ⌝ }
+{
+    if k == 30 {
+        return 8192;
+    }
+    4 * (k % 12)
+}
+
+// Case k in buffers for the longest list.
+fn cut(
+    mode: usize,
+    exact: usize,
+    inverse: bool,
+    k: usize,
+    s: &mut [u8],
+    list: &mut [f64],
+    own: &mut [f64],
+    results: &mut [f64],
+    track: &mut [f64],
+    old: &mut [f64],
+    fresh_results: &mut [f64],
+    fresh_track: &mut [f64],
+    was: Tally,
+) -> Tally
+    requires { ⌜ Roomy (now list) (now own) (now results) (now track) (now old) (now «fresh_results») (now «fresh_track») ⌝ }
+{
+    let m = size(k);
+    case(
+        mode,
+        exact,
+        inverse,
+        s,
+        &mut list[..m],
+        &mut own[..m],
+        &mut results[..m],
+        &mut track[..m],
+        &mut old[..m],
+        &mut fresh_results[..m],
+        &mut fresh_track[..m],
+        was,
+    )
+}
+
+// ----- every mode ---------------------------------------------------------------------------------------
+
+fn print_mode(mode: usize) {
+    match mode {
+        0 => { io::write_all(OUT, b"static, "); }
+        1 => { io::write_all(OUT, b"fixed, "); }
+        2 => { io::write_all(OUT, b"own-epoch, "); }
+        _ => { io::write_all(OUT, b"running, "); }
+    }
+}
+
+fn print_form(exact: usize, inverse: bool) {
+    if exact == 0 {
+        io::write_all(OUT, b"small-angle, ");
+    } else {
+        io::write_all(OUT, b"exact, ");
+    }
+    if inverse {
+        io::write_all(OUT, b"inverse: ");
+    } else {
+        io::write_all(OUT, b"forward: ");
+    }
+}
+
+fn print_tally(t: Tally) {
+    io::print_decimal(OUT, t.taken as u64);
+    io::write_all(OUT, b" corrected, ");
+    io::print_decimal(OUT, t.redone as u64);
+    io::write_all(OUT, b" fixes redone, ");
+    io::print_decimal(OUT, t.longer as u64);
+    io::write_all(OUT, b" times more than one; ");
+    io::print_decimal(OUT, t.refused as u64);
+    io::write_all(OUT, b" refused\n");
 }
 
 fn main() {
