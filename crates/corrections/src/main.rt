@@ -189,7 +189,8 @@ fn put(list: &mut [f64], index: usize, fix: Tuple) {
 }
 
 fn same4(v: Tuple, w: Tuple) -> bool {
-    floats::same(v.x, w.x) & (floats::same(v.y, w.y) & (floats::same(v.z, w.z) & floats::same(v.t, w.t)))
+    floats::same(v.x, w.x)
+        & (floats::same(v.y, w.y) & (floats::same(v.z, w.z) & floats::same(v.t, w.t)))
 }
 
 // How many tuples of two lists differ in a bit.
@@ -238,13 +239,23 @@ fn one_if(b: bool) -> usize {
 }
 
 // Index below the count: taken, by the stretch. Else 14, and nothing redone.
-fn judged(was: Tally, fixes: usize, index: usize, answer: Corrected, right: usize, apart: usize) -> Tally {
+fn judged(
+    was: Tally,
+    fixes: usize,
+    index: usize,
+    answer: Corrected,
+    right: usize,
+    apart: usize,
+) -> Tally {
     let refusal = answer.refusal;
     let here = index < fixes;
     let number = if here { 0 } else { 14 };
     let wrong = plus(
         one_if(refusal.number != number),
-        plus(one_if(refusal.step != 0), one_if(answer.redone != right as u64)),
+        plus(
+            one_if(refusal.step != 0),
+            one_if(answer.redone != right as u64),
+        ),
     );
     Tally {
         seed: next(next(next(next(next(was.seed))))),
@@ -274,7 +285,14 @@ fn compared(
         plus(differing(list, own), differing(results, fresh_results)),
         plus(differing(track, fresh_track), one_if(again.number != 0)),
     );
-    judged(was, list.len() / 4, index, answer, stretch(fresh_track, old, index), apart)
+    judged(
+        was,
+        list.len() / 4,
+        index,
+        answer,
+        stretch(fresh_track, old, index),
+        apart,
+    )
 }
 
 fn one(
@@ -295,7 +313,19 @@ fn one(
     put(own, index, fix);
     let answer = kept::correct(inverse, s, list, results, track, index, fix);
     let again = kept::keep(inverse, s, own, fresh_results, fresh_track);
-    compared(list, own, results, track, old, fresh_results, fresh_track, index, answer, again, was)
+    compared(
+        list,
+        own,
+        results,
+        track,
+        old,
+        fresh_results,
+        fresh_track,
+        index,
+        answer,
+        again,
+        was,
+    )
 }
 
 fn drawn(
@@ -312,7 +342,20 @@ fn drawn(
 ) -> Tally {
     let index = index_of(was.seed, list.len() / 4);
     let fix = fix_of(next(was.seed));
-    one(inverse, s, list, own, results, track, old, fresh_results, fresh_track, index, fix, was)
+    one(
+        inverse,
+        s,
+        list,
+        own,
+        results,
+        track,
+        old,
+        fresh_results,
+        fresh_track,
+        index,
+        fix,
+        was,
+    )
 }
 
 // ----- a case: a sheet, a list, six corrections ------------------------------------------------------
@@ -332,7 +375,18 @@ fn several(
     let mut now = was;
     let mut k: usize = 0;
     while k < 6 {
-        now = drawn(inverse, s, list, own, results, track, old, fresh_results, fresh_track, now);
+        now = drawn(
+            inverse,
+            s,
+            list,
+            own,
+            results,
+            track,
+            old,
+            fresh_results,
+            fresh_track,
+            now,
+        );
         k += 1;
     }
     now
@@ -361,7 +415,18 @@ fn case(
     let first = kept::keep(inverse, s, list, results, track);
     let mut now = was;
     now.parted = plus(was.parted, one_if(first.number != 0));
-    several(inverse, s, list, own, results, track, old, fresh_results, fresh_track, now)
+    several(
+        inverse,
+        s,
+        list,
+        own,
+        results,
+        track,
+        old,
+        fresh_results,
+        fresh_track,
+        now,
+    )
 }
 
 // How many numbers the list of case k has.
@@ -413,10 +478,18 @@ fn cut(
 
 fn print_mode(mode: usize) {
     match mode {
-        0 => { io::write_all(OUT, b"static, "); }
-        1 => { io::write_all(OUT, b"fixed, "); }
-        2 => { io::write_all(OUT, b"own-epoch, "); }
-        _ => { io::write_all(OUT, b"running, "); }
+        0 => {
+            io::write_all(OUT, b"static, ");
+        }
+        1 => {
+            io::write_all(OUT, b"fixed, ");
+        }
+        2 => {
+            io::write_all(OUT, b"own-epoch, ");
+        }
+        _ => {
+            io::write_all(OUT, b"running, ");
+        }
     }
 }
 
@@ -444,6 +517,146 @@ fn print_tally(t: Tally) {
     io::write_all(OUT, b" refused\n");
 }
 
+// Sixty cases of a mode, one of them with 2,048 fixes.
+fn sixty(
+    mode: usize,
+    exact: usize,
+    inverse: bool,
+    s: &mut [u8],
+    list: &mut [f64],
+    own: &mut [f64],
+    results: &mut [f64],
+    track: &mut [f64],
+    old: &mut [f64],
+    fresh_results: &mut [f64],
+    fresh_track: &mut [f64],
+    was: Tally,
+) -> Tally
+    requires { ⌜ Roomy (now list) (now own) (now results) (now track) (now old) (now «fresh_results») (now «fresh_track») ⌝ }
+{
+    let mut now = was;
+    let mut k: usize = 0;
+    while k < 60 {
+        now = cut(
+            mode,
+            exact,
+            inverse,
+            k,
+            s,
+            list,
+            own,
+            results,
+            track,
+            old,
+            fresh_results,
+            fresh_track,
+            now,
+        );
+        k += 1;
+    }
+    now
+}
+
+fn begun(seed: usize) -> Tally {
+    Tally {
+        seed: seed,
+        taken: 0,
+        refused: 0,
+        redone: 0,
+        longer: 0,
+        parted: 0,
+    }
+}
+
+// A mode and its line; how many comparisons parted.
+fn told(
+    g: usize,
+    s: &mut [u8],
+    list: &mut [f64],
+    own: &mut [f64],
+    results: &mut [f64],
+    track: &mut [f64],
+    old: &mut [f64],
+    fresh_results: &mut [f64],
+    fresh_track: &mut [f64],
+) -> usize
+    requires { ⌜ Roomy (now list) (now own) (now results) (now track) (now old) (now «fresh_results») (now «fresh_track») ⌝ }
+{
+    let mode = g / 4;
+    let exact = g / 2 % 2;
+    let inverse = g % 2 == 1;
+    let t = sixty(
+        mode,
+        exact,
+        inverse,
+        s,
+        list,
+        own,
+        results,
+        track,
+        old,
+        fresh_results,
+        fresh_track,
+        begun(g),
+    );
+    print_mode(mode);
+    print_form(exact, inverse);
+    print_tally(t);
+    t.parted
+}
+
+// Four modes, small-angle and exact, forward and inverse.
+fn replayed(
+    s: &mut [u8],
+    list: &mut [f64],
+    own: &mut [f64],
+    results: &mut [f64],
+    track: &mut [f64],
+    old: &mut [f64],
+    fresh_results: &mut [f64],
+    fresh_track: &mut [f64],
+) -> usize
+    requires { ⌜ Roomy (now list) (now own) (now results) (now track) (now old) (now «fresh_results») (now «fresh_track») ⌝ }
+{
+    let mut parted: usize = 0;
+    let mut g: usize = 0;
+    while g < 16 {
+        let n = told(
+            g,
+            s,
+            list,
+            own,
+            results,
+            track,
+            old,
+            fresh_results,
+            fresh_track,
+        );
+        parted = plus(parted, n);
+        g += 1;
+    }
+    parted
+}
+
 fn main() {
-    io::write_all(OUT, b"0 parted\n");
+    let mut s = [0u8; 280];
+    let mut list = [0.0; 8192];
+    let mut own = [0.0; 8192];
+    let mut results = [1.0; 8192];
+    let mut track = [1.0; 8192];
+    let mut old = [0.0; 8192];
+    let mut fresh_results = [0.0; 8192];
+    let mut fresh_track = [0.0; 8192];
+    let parted = replayed(
+        &mut s,
+        &mut list,
+        &mut own,
+        &mut results,
+        &mut track,
+        &mut old,
+        &mut fresh_results,
+        &mut fresh_track,
+    );
+    io::print_decimal(OUT, parted as u64);
+    io::write_all(OUT, b" parted\n");
 }
