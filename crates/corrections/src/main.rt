@@ -54,6 +54,16 @@ fn time(seed: usize) -> f64 {
     }
 }
 
+// A year's half at a time, and no other: T goes on growing, and a correction is redone far.
+fn calm_time(seed: usize) -> f64 {
+    match seed / 65536 % 4 {
+        0 => 2000.0,
+        1 => 2001.0,
+        2 => 2000.5,
+        _ => 2002.0,
+    }
+}
+
 fn fix_of(seed: usize) -> Tuple {
     let a = next(seed);
     let b = next(a);
@@ -164,11 +174,19 @@ fn write_numbers(s: &mut [u8], mode: usize, start: usize) {
 
 // ----- lists -------------------------------------------------------------------------------------
 
-fn fill(list: &mut [f64], start: usize) {
+fn listed(seed: usize, calm: bool) -> Tuple {
+    let mut fix = fix_of(seed);
+    if calm {
+        fix.t = calm_time(next(seed));
+    }
+    fix
+}
+
+fn fill(list: &mut [f64], start: usize, calm: bool) {
     let mut seed = start;
     let mut i = 0;
     while 4 <= list.len() - i {
-        lists::write4(list, i, fix_of(seed));
+        lists::write4(list, i, listed(seed, calm));
         seed = next(next(next(next(seed))));
         i += 4;
     }
@@ -305,10 +323,10 @@ fn one(
     old: &mut [f64],
     fresh_results: &mut [f64],
     fresh_track: &mut [f64],
-    index: usize,
-    fix: Tuple,
     was: Tally,
 ) -> Tally {
+    let index = index_of(was.seed, list.len() / 4);
+    let fix = fix_of(next(was.seed));
     copy(track, old);
     put(own, index, fix);
     let answer = kept::correct(inverse, s, list, results, track, index, fix);
@@ -324,36 +342,6 @@ fn one(
         index,
         answer,
         again,
-        was,
-    )
-}
-
-fn drawn(
-    inverse: bool,
-    s: &[u8],
-    list: &mut [f64],
-    own: &mut [f64],
-    results: &mut [f64],
-    track: &mut [f64],
-    old: &mut [f64],
-    fresh_results: &mut [f64],
-    fresh_track: &mut [f64],
-    was: Tally,
-) -> Tally {
-    let index = index_of(was.seed, list.len() / 4);
-    let fix = fix_of(next(was.seed));
-    one(
-        inverse,
-        s,
-        list,
-        own,
-        results,
-        track,
-        old,
-        fresh_results,
-        fresh_track,
-        index,
-        fix,
         was,
     )
 }
@@ -375,7 +363,7 @@ fn several(
     let mut now = was;
     let mut k: usize = 0;
     while k < 6 {
-        now = drawn(
+        now = one(
             inverse,
             s,
             list,
@@ -397,6 +385,7 @@ fn case(
     mode: usize,
     exact: usize,
     inverse: bool,
+    calm: bool,
     s: &mut [u8],
     list: &mut [f64],
     own: &mut [f64],
@@ -410,8 +399,8 @@ fn case(
     let seed = was.seed;
     write_words(s, mode, exact, seed);
     write_numbers(s, mode, next(seed));
-    fill(list, seed);
-    fill(own, seed);
+    fill(list, seed, calm);
+    fill(own, seed, calm);
     let first = kept::keep(inverse, s, list, results, track);
     let mut now = was;
     now.parted = plus(was.parted, one_if(first.number != 0));
@@ -429,21 +418,18 @@ fn case(
     )
 }
 
-// How many numbers the list of case k has.
+// How many numbers the list of case k of a mode has.
 fn size(k: usize) -> usize
     ensures { λ r. ⌜ r ≤ 8192 ⌝ }
 {
-    if k == 30 {
+    if k % 30 == 29 {
         return 8192;
     }
     4 * (k % 12)
 }
 
-// Case k in buffers for the longest list.
+// Case k of 960, in buffers for the longest list: sixty of a mode, the last thirty of them calm.
 fn cut(
-    mode: usize,
-    exact: usize,
-    inverse: bool,
     k: usize,
     s: &mut [u8],
     list: &mut [f64],
@@ -457,11 +443,12 @@ fn cut(
 ) -> Tally
     requires { ⌜ Roomy (now list) (now own) (now results) (now track) (now old) (now «fresh_results») (now «fresh_track») ⌝ }
 {
-    let m = size(k);
+    let m = size(k % 60);
     case(
-        mode,
-        exact,
-        inverse,
+        k / 240,
+        k / 120 % 2,
+        k / 60 % 2 == 1,
+        30 <= k % 60,
         s,
         &mut list[..m],
         &mut own[..m],
@@ -493,16 +480,16 @@ fn print_mode(mode: usize) {
     }
 }
 
-fn print_form(exact: usize, inverse: bool) {
+fn print_form(exact: usize, inverse: usize) {
     if exact == 0 {
         io::write_all(OUT, b"small-angle, ");
     } else {
         io::write_all(OUT, b"exact, ");
     }
-    if inverse {
-        io::write_all(OUT, b"inverse: ");
-    } else {
+    if inverse == 0 {
         io::write_all(OUT, b"forward: ");
+    } else {
+        io::write_all(OUT, b"inverse: ");
     }
 }
 
@@ -517,95 +504,29 @@ fn print_tally(t: Tally) {
     io::write_all(OUT, b" refused\n");
 }
 
-// Sixty cases of a mode, one of them with 2,048 fixes.
-fn sixty(
-    mode: usize,
-    exact: usize,
-    inverse: bool,
-    s: &mut [u8],
-    list: &mut [f64],
-    own: &mut [f64],
-    results: &mut [f64],
-    track: &mut [f64],
-    old: &mut [f64],
-    fresh_results: &mut [f64],
-    fresh_track: &mut [f64],
-    was: Tally,
-) -> Tally
-    requires { ⌜ Roomy (now list) (now own) (now results) (now track) (now old) (now «fresh_results») (now «fresh_track») ⌝ }
-{
-    let mut now = was;
-    let mut k: usize = 0;
-    while k < 60 {
-        now = cut(
-            mode,
-            exact,
-            inverse,
-            k,
-            s,
-            list,
-            own,
-            results,
-            track,
-            old,
-            fresh_results,
-            fresh_track,
-            now,
-        );
-        k += 1;
-    }
-    now
-}
-
-fn begun(seed: usize) -> Tally {
+fn begun(seed: usize, parted: usize) -> Tally {
     Tally {
         seed: seed,
         taken: 0,
         refused: 0,
         redone: 0,
         longer: 0,
-        parted: 0,
+        parted: parted,
     }
 }
 
-// A mode and its line; how many comparisons parted.
-fn told(
-    g: usize,
-    s: &mut [u8],
-    list: &mut [f64],
-    own: &mut [f64],
-    results: &mut [f64],
-    track: &mut [f64],
-    old: &mut [f64],
-    fresh_results: &mut [f64],
-    fresh_track: &mut [f64],
-) -> usize
-    requires { ⌜ Roomy (now list) (now own) (now results) (now track) (now old) (now «fresh_results») (now «fresh_track») ⌝ }
-{
-    let mode = g / 4;
-    let exact = g / 2 % 2;
-    let inverse = g % 2 == 1;
-    let t = sixty(
-        mode,
-        exact,
-        inverse,
-        s,
-        list,
-        own,
-        results,
-        track,
-        old,
-        fresh_results,
-        fresh_track,
-        begun(g),
-    );
-    print_mode(mode);
-    print_form(exact, inverse);
-    print_tally(t);
-    t.parted
+// After the last case of a mode its line, and a new count.
+fn told(k: usize, t: Tally) -> Tally {
+    if k % 60 == 59 {
+        print_mode(k / 240);
+        print_form(k / 120 % 2, k / 60 % 2);
+        print_tally(t);
+        return begun(t.seed, t.parted);
+    }
+    t
 }
 
-// Four modes, small-angle and exact, forward and inverse.
+// Four modes, small-angle and exact, forward and inverse: how many comparisons parted.
 fn replayed(
     s: &mut [u8],
     list: &mut [f64],
@@ -618,24 +539,27 @@ fn replayed(
 ) -> usize
     requires { ⌜ Roomy (now list) (now own) (now results) (now track) (now old) (now «fresh_results») (now «fresh_track») ⌝ }
 {
-    let mut parted: usize = 0;
-    let mut g: usize = 0;
-    while g < 16 {
-        let n = told(
-            g,
-            s,
-            list,
-            own,
-            results,
-            track,
-            old,
-            fresh_results,
-            fresh_track,
+    let mut now = begun(1, 0);
+    let mut k: usize = 0;
+    while k < 960 {
+        now = told(
+            k,
+            cut(
+                k,
+                s,
+                list,
+                own,
+                results,
+                track,
+                old,
+                fresh_results,
+                fresh_track,
+                now,
+            ),
         );
-        parted = plus(parted, n);
-        g += 1;
+        k += 1;
     }
-    parted
+    now.parted
 }
 
 fn main() {

@@ -7,10 +7,10 @@ use Rattle.corrections.proofs.fill.Statement.{statement}
 use Rattle.corrections.proofs.fill.Tie as tie
 
 abbrev Inv-loop : tie.InvT-loop
-Inv-loop list₀ start seed₀ i₀ list seed i = (i ≤ length list) × (length list ≡ length list₀)
+Inv-loop list₀ start calm seed₀ i₀ list seed i = (i ≤ length list) × (length list ≡ length list₀)
 
 abbrev μ-loop : tie.MeasureT-loop
-μ-loop list₀ start seed₀ i₀ list seed i = length list - i
+μ-loop list₀ start calm seed₀ i₀ list seed i = length list - i
 
 loop-holds : tie.Need-loop-holds Inv-loop μ-loop
 loop-holds c = search needs
@@ -18,8 +18,8 @@ loop-holds c = search needs
 sub-loop : tie.Need-sub-loop Inv-loop μ-loop
 sub-loop c = search needs
 
-fix-of-requires : tie.Need-fix-of-requires Inv-loop μ-loop
-fix-of-requires c κs = search needs
+listed-requires : tie.Need-listed-requires Inv-loop μ-loop
+listed-requires c κs = search needs
 
 write4-requires : tie.Need-write4-requires Inv-loop μ-loop
 write4-requires c κs = search needs
@@ -59,7 +59,7 @@ fill-spec =
     μ-loop
     loop-holds
     sub-loop
-    fix-of-requires
+    listed-requires
     write4-requires
     next-requires
     next-requires-2
