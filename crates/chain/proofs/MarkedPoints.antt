@@ -1,4 +1,5 @@
--- Document 01's marked points, evaluated through the whole definition of a call: a sheet's bytes, a list, an outcome. P6 is of the kept run. Assumes nothing.
+-- Document 01's marked points, evaluated through the whole definition of a call: a sheet's bytes, a list, an outcome. P6 is of the kept run, whose proofs
+-- (kept, MarkedPoints) put it into this table. Assumes nothing.
 use mathlib.Core.Path.{_≡_, refl}
 use mathlib.Core.Bool.{Bool, true, false}
 use mathlib.Core.List.{List, [], _∷_, _++_}
@@ -36,16 +37,16 @@ use Rattle.chain.specs.Rules.{Outcome, outcome, refusedAnswer, ranAnswer
 -- ---- sheets and lists to look at
 
 -- a sheet's bytes, given as words
-bytes : List ℕ → List ℕ
+unfoldable pub bytes : List ℕ → List ℕ
 bytes [] = []
 bytes (w ∷ ws) = le32 w ++ bytes ws
 
 -- P1's sheet: GRS80 cart
-p1 : List ℕ
+unfoldable pub p1 : List ℕ
 p1 = bytes (1 ∷ 40 ∷ 1 ∷ 16 ∷ 2 ∷ 0 ∷ 32 ∷ 8 ∷ 1 ∷ 0 ∷ [])
 
 -- a Helmert sheet with these flags and the upper words of dx, rx and t_epoch (7ff80000: not given); all else zero, no t_obs
-helmertSheet : ℕ → ℕ → ℕ → ℕ → List ℕ
+unfoldable pub helmertSheet : ℕ → ℕ → ℕ → ℕ → List ℕ
 helmertSheet flags dx rx epoch =
     bytes
     (1 ∷ 280 ∷ 1 ∷ 16 ∷ 1 ∷ 0 ∷ 32 ∷ 248 ∷ flags ∷ 0
@@ -57,46 +58,47 @@ helmertSheet flags dx rx epoch =
     ∷ 0 ∷ 0 ∷ 0 ∷ 0 ∷ 0 ∷ 0 ∷ 0 ∷ epoch ∷ 0 ∷ 0x7ff80000 ∷ [])
 
 -- P9's sheet: Molodensky, full form, GRS80, nothing moved
-p9 : List ℕ
+unfoldable pub p9 : List ℕ
 p9 = bytes (1 ∷ 88 ∷ 1 ∷ 16 ∷ 3 ∷ 0 ∷ 32 ∷ 56 ∷ 0 ∷ 1 ∷ 0 ∷ 0 ∷ 0 ∷ 0 ∷ 0 ∷ 0 ∷ 0 ∷ 0 ∷ 0 ∷ 0 ∷ 0 ∷ 0 ∷ [])
 
 -- P10's sheet: permtide, GRS80, to mean from zero, k = 0.3
-p10 : List ℕ
+unfoldable pub p10 : List ℕ
 p10 = bytes (1 ∷ 56 ∷ 1 ∷ 16 ∷ 4 ∷ 0 ∷ 32 ∷ 24 ∷ 1 ∷ 1 ∷ 2 ∷ 0 ∷ 0x33333333 ∷ 0x3fd33333 ∷ [])
 
 -- a fix at the origin at each time
-fixes : List Float → List Float
+unfoldable pub fixes : List Float → List Float
 fixes [] = []
 fixes (time ∷ times) = bits 0 ∷ bits 0 ∷ bits 0 ∷ time ∷ fixes times
 
 -- X of each fix
-xs : List Float → List Float
+unfoldable pub xs : List Float → List Float
 xs (x ∷ y ∷ z ∷ t ∷ l) = x ∷ xs l
 xs (x ∷ y ∷ z ∷ []) = []
 xs (x ∷ y ∷ []) = []
 xs (x ∷ []) = []
 xs [] = []
 
-one : Float
+unfoldable pub one : Float
 one = bits 0x3ff0_0000_0000_0000
 
-y2001 : Float
+unfoldable pub y2001 : Float
 y2001 = bits 0x409f_4400_0000_0000
 
-y2002 : Float
+unfoldable pub y2002 : Float
 y2002 = bits 0x409f_4800_0000_0000
 
 -- DT = (1, 0, 0), t_epoch 2000, in running mode or with the own-epoch flag: the resulting X of fixes at these times
-shifted-x : ℕ → List Float → List Float
+unfoldable pub shifted-x : ℕ → List Float → List Float
 shifted-x flags times = xs (shiftOf false (helmertSheet flags 0x3ff00000 0 0x409f4000) (fixes times) [] [] .list)
 
 -- the counts of a sheet of one step
-only : ℕ → List ℕ
+unfoldable pub only : ℕ → List ℕ
 only n = n ∷ replicate 15 0
 
 -- ---- the table
 
-marked-points :
+abbrev pub OfTheChain : Type 0
+OfTheChain =
     -- P1: forward on (0, 0, 0, 0)
     (shiftOf false p1 (fixes (bits 0 ∷ [])) [] []
     ≡ outcome (ranAnswer (only 1)) (bits 0x4158_54a6_4000_0000 ∷ bits 0 ∷ bits 0 ∷ bits 0 ∷ []))
@@ -123,5 +125,7 @@ marked-points :
     × (shiftOf false (helmertSheet 0 0 0x3ff00000 0x7ff80000) [] [] [] ≡ outcome (refusedAnswer (ofStep 6 0)) [])
     -- P12: dx = 1, no epoch
     × (shiftOf false (helmertSheet 0 0x3ff00000 0 0x7ff80000) [] [] [] ≡ outcome (refusedAnswer (ofStep 7 0)) [])
+
+pub marked-points : OfTheChain
 unfolding bytes p1 helmertSheet p9 p10 fixes xs one y2001 y2002 shifted-x only shiftOf outcomeOf shiftRefusalOf refusal9 refusal10 overOne chainForwardOf chainInverseOf entriesOf stepListOf stepCountOf word32 word64 numberAt oneNanAt le32 bodyLengthOf bodyAt readOf vec3At helmertRecordOf cartRecordOf molodenskyRecordOf permtideRecordOf stepInRule lacksConvention lacksEpoch lacksDuration writtenInRule bodyInRule fieldsInRuleOf vectorsFiniteOf scalesFiniteOf finite3Of timeOf lacksConventionOf lacksEpochOf refusal1 refusal2 refusal3 refusal4 refusal5 endBefore placeBroken someFrom deformationBefore refusal11 rulesOfStep fiveToEight elevens readerOrder firstBroken refusalOf entryAt parametersOf winnerOf lengthsOf anglesOf rotatedOf dynamicOf someOf prepareOf startOf stepOf runningOf nextOf ownEpochStepOf ownTimeOf grownOf scaleAtOf rotationMatrixOf firstOrderOf rowsOf forwardOf offsetOf poleOf poleHeightOf inverseOf onAxisOf cartInvOf coefficientOf tideOf liftOf figureOf mopedOf placeOf fullOffsetsOf offsetsOf cartesianOf namedOf ellipsoidOf primeVerticalOf meridianOf wOf geocentricOf sqrtOf sinOf cosOf signedOf sineOf cosineOf reducedOf rowOf bendOf sumOf clampOf atMostOne atan2Of angleOf insideOf octantIndexOf withinOf extremeAngleOf moderate scaleOf quotientAngleOf small smallAngleOf headOf cellIndexOf cellAt cells octantAt octants cutAngleOf tailOf alongOf diagonalOf hypotOf lengthOf boundedOf infinite larger smaller squaresOf ordinary guessOf reciprocalRootOf rootOf scaledRootOf rescaledOf signOf isNan ofBits toBits neg add sub mul div lt le eq ne sum round size
 marked-points = (refl, refl, refl, refl, refl, refl, refl, refl, refl, refl, refl)

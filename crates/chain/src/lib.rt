@@ -27,7 +27,7 @@ pub struct Answer {
 // ----- one step over the list ----------------------------------------------------------------
 
 // A step's direction: turned round where its inverted word is 1.
-fn turned(inverse: bool, entry: Entry) -> bool
+pub fn turned(inverse: bool, entry: Entry) -> bool
     ensures { λ r. ⌜ r ≡ turnedOf inverse entry ⌝ }
 {
     if entry.inverted == 1 {
@@ -105,8 +105,8 @@ fn backward(s: &[u8], n: usize, list: &mut [f64], velocities: &[f64], marks: &[u
 
 // ----- the rules of the lent lists --------------------------------------------------------------
 
-// Rule 9.
-fn list_broken(numbers: usize) -> bool
+// Rule 9: not whole tuples, or over 2,048.
+pub fn list_broken(numbers: usize) -> bool
     ensures { λ r. ⌜ r ≡ refusal9 numbers ⌝ }
 {
     (numbers % 4 != 0) | (8192 < numbers)

@@ -1,9 +1,9 @@
 -- Redoing, turn by turn over what is left of the three lists: the form in which the loop is proved. Assumes nothing.
-use Prim.Native.Nat.{ℕ, suc, _+_, _-_, _*_, _/_, _≤_, _<_}
+use Prim.Native.Nat.{ℕ, suc, _+_, _-_, _/_, _≤_, _<_}
 use native.Mathlib.Omega.{arith}
-use native.Mathlib.Nat.{add-zero, zero-add, add-assoc, add-comm}
-use mathlib.Core.Bool.{Bool, true, false, cond}
-use mathlib.Core.Path.{_≡_, refl, sym, ap, _∙_}
+use native.Mathlib.Nat.{add-zero, add-assoc, add-comm}
+use mathlib.Core.Bool.{Bool, true, false}
+use mathlib.Core.Path.{_≡_, refl, ap, _∙_}
 use mathlib.Core.List.{List, [], _∷_, _++_, append-assoc}
 use lib.ListN.{length, take, drop, length-drop, take-append-drop}
 use lib.Seq.{drop-drop}
@@ -66,7 +66,7 @@ next-index i = omega arith
 again-open : (f : Turns State) (state : State) (l rs ts : List Float) (i : ℕ) → i + 4 ≤ length l
     → againOf f (i / 4) state (drop i l) (drop i rs) (drop i ts)
     ≡ oneOf (alikeOf (trackedOf (turnAt f state l i .state)) (tupleAt ts i)) (turnAt f state l i) (drop (i + 4) rs) (drop (i + 4) ts)
-      (againOf f ((i + 4) / 4) (turnAt f state l i .state) (drop (i + 4) l) (drop (i + 4) rs) (drop (i + 4) ts))
+    (againOf f ((i + 4) / 4) (turnAt f state l i .state) (drop (i + 4) l) (drop (i + 4) rs) (drop (i + 4) ts))
 again-open f state l rs ts i h = rw (from-place l i h, tuple-from ts i, drop-drop 4 i rs, drop-drop 4 i ts, ← next-index i)
 
 module _ (f : Turns State) (state : State) (l rs ts : List Float) (i n : ℕ) where

@@ -1,7 +1,7 @@
 -- Refusals in their order, and what a call leaves by them. Assumes nothing.
-use Prim.Native.Nat.{ℕ, _+_, _*_, _/_, _%_, _≤_, _<_}
+use Prim.Native.Nat.{ℕ, _/_, _%_, _≤_, _<_}
 use native.Mathlib.Omega.{arith}
-use mathlib.Core.Bool.{Bool, true, false, not, cond, _||_}
+use mathlib.Core.Bool.{Bool, true, false, not, cond}
 use mathlib.Core.Path.{_≡_, refl, sym, ap, _∙_}
 use mathlib.Core.List.{List, [], _∷_}
 use lib.Dec.{eqb, ltb}
@@ -9,10 +9,9 @@ use lib.ListN.{length}
 use borrow.Author.Tests.{eq-eqb, ne-eqb, eqb-true, eqb-false, ltb-true, ltb-false, not-false}
 use Rattle.tuple.specs.declared.Tuple.{Tuple}
 use Rattle.sheet.specs.declared.Refusal.{Refusal}
-use Rattle.sheet.specs.Rules.{Rule, rule, accepted, ofSheet, firstBroken, refusalOf}
+use Rattle.sheet.specs.Rules.{rule, accepted, ofSheet, firstBroken, refusalOf}
 use Rattle.sheet.proofs.Order.{neither}
 use Rattle.chain.specs.Rules.{refusal9}
-use Rattle.kept.specs.declared.Corrected.{Corrected}
 use Rattle.kept.specs.Kept.{Kept, Redone, freshOf, correctedOf}
 use Rattle.kept.specs.Entries.{refusal12, refusal13, refusal14, keptOrder, keepRefusalOf, correctRefusalOf, shiftIn, turnedIn, keepOf, outcome, answerOf, correctOf}
 
@@ -42,6 +41,7 @@ all-pass own true false false false h e = (refl, refl, refl, refl)
 pub record Passed (s : List ℕ) (list results track : ℕ) : Type 0 where
   pub own : refusalOf s .number ≡ 0
   pub one-helmert : refusal12 s ≡ false
+  pub list-kept : refusal9 list ≡ false
   pub whole : list % 4 ≡ 0
   pub few : list ≤ 8192
   pub long-results : results ≡ list
@@ -80,6 +80,7 @@ module _ (s : List ℕ) (list results track : ℕ) where
       record {
         own = eqb-true _ _ (h .0);
         one-helmert = h .1;
+        list-kept = h .2;
         whole = eqb-true _ _ (not-false _ (n .0));
         few = ltb-false _ _ (n .1);
         long-results = eqb-true _ _ (not-false _ (d .0));
@@ -121,15 +122,37 @@ module _ (inverse : Bool) (s : List ℕ) (old : Kept) (index : ℕ) (fix : Tuple
   unfolding keepRefusalOf correctRefusalOf firstBroken
   late e =
       let h = all-pass (refusalOf s) (eqb (refusalOf s .number) 0) (refusal12 s) (refusal9 (length (old .list)))
-              (refusal13 (length (old .list)) (length (old .results)) (length (old .track))) (eqb-false _ _) e in
+      (refusal13 (length (old .list)) (length (old .results)) (length (old .track))) (eqb-false _ _) e in
       rw (h .0, h .1, h .2, h .3)
 
   accepted-before : before-14 .number ≡ 0 → before-14 ≡ accepted
   unfolding keepRefusalOf firstBroken
   accepted-before e =
       let h = all-pass (refusalOf s) (eqb (refusalOf s .number) 0) (refusal12 s) (refusal9 (length (old .list)))
-              (refusal13 (length (old .list)) (length (old .results)) (length (old .track))) (eqb-false _ _) e in
+      (refusal13 (length (old .list)) (length (old .results)) (length (old .track))) (eqb-false _ _) e in
       rw (h .0, h .1, h .2, h .3)
+
+  -- no refusal of a correction: none of a fresh run over the same lists, and a fix stands at the index
+  pub taken : correctRefusalOf s old index .number ≡ 0 → (before-14 .number ≡ 0) × (refusal14 (length (old .list)) index ≡ false)
+  unfolding firstBroken
+  taken e = by-own (eqb (before-14 .number) 0) refl
+    where
+      by-index : (b : Bool) → firstBroken (rule (ofSheet 14) b ∷ []) .number ≡ 0 → b ≡ false
+      by-index true z = absurd (omega arith)
+      by-index false z = refl
+
+      by-own : (b : Bool) → eqb (before-14 .number) 0 ≡ b → (before-14 .number ≡ 0) × (refusal14 (length (old .list)) index ≡ false)
+      by-own true d =
+          let h : before-14 .number ≡ 0 = eqb-true _ _ d in
+          (h, by-index _ (sym (ap (λ (r : Refusal). r .number) (late h)) ∙ e))
+      by-own false d =
+          let h : before-14 .number ≡ 0 → ⊥ = eqb-false _ _ d in
+          absurd (h (ap (λ (r : Refusal). r .number) (early h) ∙ e))
+
+  -- and the other way
+  pub not-refused : before-14 .number ≡ 0 → ltb index (length (old .list) / 4) ≡ true → correctRefusalOf s old index .number ≡ 0
+  unfolding firstBroken refusal14
+  not-refused h e = ap (λ (r : Refusal). r .number) (late h) ∙ rw e
 
   given-back : {r : Refusal} → r ≡ correctRefusalOf s old index → (r .number ≡ 0 → ⊥) → outcome (answerOf r 0) old ≡ correctOf inverse s old index fix
   unfolding correctOf

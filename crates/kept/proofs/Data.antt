@@ -1,10 +1,9 @@
 -- Sameness as data is equality: the test says yes exactly where two numbers, and two tuples, are equal. Assumes nothing.
-use Prim.Native.Nat.{ℕ}
-use mathlib.Core.Path.{_≡_, refl, sym, ap, _∙_, subst}
+use mathlib.Core.Path.{_≡_, refl, sym, ap, subst}
 use mathlib.Core.Bool.{Bool, true, false, _&&_, Bool·beq}
 use lib.Dec.{T, eqb}
 use lib.IntN.{ℤ, pos, negsuc}
-use lib.Ieee.{Float, nan, inf, fin, fits, binary64, toBits, ofBits}
+use lib.Ieee.{Float, nan, inf, fin, fits, binary64}
 use borrow.Author.Tests.{eqb-true, eq-eqb}
 use Rattle.floats.specs.Number.{sameOf}
 use Rattle.floats.proofs.Laws.{same-are-equal, equal-are-same}

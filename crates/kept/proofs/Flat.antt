@@ -1,12 +1,11 @@
 -- Tuples of a flat list from a place on. Assumes nothing.
-use Prim.Native.Nat.{ℕ, suc, _+_, _-_, _≤_}
+use Prim.Native.Nat.{ℕ, _+_, _-_, _≤_}
 use native.Mathlib.Omega.{arith}
 use native.Mathlib.Nat.{add-assoc}
-use mathlib.Core.Path.{_≡_, refl, sym}
-use mathlib.Core.Bool.{cond}
+use mathlib.Core.Path.{_≡_}
 use mathlib.Core.List.{List}
 use lib.Dec.{leb}
-use lib.ListN.{length, drop, getD, length-drop}
+use lib.ListN.{length, drop, length-drop}
 use lib.Seq.{getD-drop}
 use lib.Ieee.{Float, nan}
 use borrow.Author.Tests.{leb-true, le-leb}

@@ -1,11 +1,11 @@
 -- What holds of a kept run and its correction. Assumes nothing.
 use Prim.Native.Nat.{ℕ, zero, suc, _+_, _-_, _*_, _/_, _≤_, _<_}
 use native.Mathlib.Omega.{arith}
-use native.Mathlib.Nat.{zero-add, add-zero}
-use mathlib.Core.Bool.{Bool, true, false, cond}
+use native.Mathlib.Nat.{add-zero}
+use mathlib.Core.Bool.{Bool, true, false}
 use mathlib.Core.Logic.{inl}
-use mathlib.Core.Path.{_≡_, refl, sym, ap, _∙_, subst}
-use mathlib.Core.List.{List, [], _∷_, _++_, append-assoc}
+use mathlib.Core.Path.{_≡_, refl, sym, ap, _∙_}
+use mathlib.Core.List.{List, _++_, append-assoc}
 use lib.Dec.{leb}
 use lib.ListN.{length, take, drop, length-drop, take-append-drop}
 use lib.Seq.{take-at, drop-at, length-take-le, drop-paste, length-paste}
@@ -18,26 +18,25 @@ use Rattle.helmert.specs.Modes.{startOf, isRunningOf, stepOf}
 use Rattle.lists.specs.Flat.{numbersOf, tupleAt, putAt}
 use Rattle.lists.specs.Run.{Turns, ranOf, trackOf, stateAfterOf}
 use Rattle.lists.proofs.Places.{from-place, put-there, put-none, put-length, put-drop}
-use Rattle.lists.proofs.Laws.{ran-length, ran-short}
-use Rattle.kept.specs.Same.{alikeOf}
-use Rattle.kept.specs.Kept.{trackedOf, heldOf, Kept, keptOf, freshOf, writtenOf, carriedAt, keptAt, Stretch, Redone, redoOf, beforeOf, putFix, correctedOf, Correction}
+use Rattle.lists.proofs.Laws.{ran-length}
+use Rattle.kept.specs.Kept.{trackedOf, heldOf, Kept, keptOf, freshOf, writtenOf, carriedAt, keptAt, Stretch, Redone, redoOf, beforeOf, putFix, correctedOf}
 use Rattle.runs.specs.Turns.{helmertTurns}
 use Rattle.kept.proofs.Again.{Again, againOf, again-short}
-use Rattle.kept.proofs.Stretch.{redo-is-again, stretch-open}
-use Rattle.kept.proofs.Meeting.{track-at, state-stays, Renewed, again-first, Whole, whole-take, ran-append, track-append, track-length}
+use Rattle.kept.proofs.Stretch.{redo-is-again}
+use Rattle.kept.proofs.Meeting.{track-at, state-stays, Renewed, again-first, whole-take, ran-append, track-append, track-length}
 use Rattle.kept.proofs.Words.{stretch-by-states, stretch-is-unique}
 use Rattle.kept.proofs.Start.{before-first, before-running, before-else}
 
 -- ---- the state before an index
 
 -- a static, fixed or own-epoch step hands its state on as it is
-step-stays : (shift : Shift) (inverse : Bool) → isRunningOf shift ≡ false
+pub step-stays : (shift : Shift) (inverse : Bool) → isRunningOf shift ≡ false
     → (k : ℕ) (state : State) (v : Tuple) → helmertTurns inverse shift k state v .state ≡ state
 unfolding stepOf
 step-stays shift inverse e k state v = rw e
 
 -- a fresh run keeps the list as it is
-fresh-list : (shift : Shift) (inverse : Bool) (l : List Float) → freshOf shift inverse l .list ≡ l
+pub fresh-list : (shift : Shift) (inverse : Bool) (l : List Float) → freshOf shift inverse l .list ≡ l
 unfolding freshOf
 fresh-list shift inverse l = refl
 
@@ -64,7 +63,7 @@ module _ (shift : Shift) (inverse : Bool) (l : List Float) where
   by-mode true e index h = before-running-is index h e
   by-mode false e index h = before-else-is index e
 
-  before-is : (index : ℕ) → 4 * index ≤ length l → beforeOf shift (freshOf shift inverse l .track) index ≡ carried index
+  pub before-is : (index : ℕ) → 4 * index ≤ length l → beforeOf shift (freshOf shift inverse l .track) index ≡ carried index
   before-is = by-mode (isRunningOf shift) refl
 
 -- ---- a corrected run is a fresh one
@@ -199,28 +198,12 @@ module _ (shift : Shift) (inverse : Bool) (l : List Float) (index : ℕ) (fix : 
   pub corrected-equals-fresh : correctedOf shift inverse (freshOf shift inverse l) index fix .kept ≡ freshOf shift inverse (putAt l (4 * index) fix)
   corrected-equals-fresh = either (leb (4 * index + 4) (length l)) refl
 
--- After any corrections, one after another, a kept run equals a fresh run of the list as it stands.
-abbrev pub keptAfter : Shift → Bool → Kept → List Correction → Kept
-keptAfter shift inverse kept [] = kept
-keptAfter shift inverse kept (c ∷ later) = keptAfter shift inverse (correctedOf shift inverse kept (c .index) (c .fix) .kept) later
-
-abbrev pub listAfter : List Float → List Correction → List Float
-listAfter l [] = l
-listAfter l (c ∷ later) = listAfter (putAt l (4 * c .index) (c .fix)) later
-
-pub kept-stays-fresh : (shift : Shift) (inverse : Bool) (l : List Float) (corrections : List Correction)
-    → keptAfter shift inverse (freshOf shift inverse l) corrections ≡ freshOf shift inverse (listAfter l corrections)
-kept-stays-fresh shift inverse l [] = refl
-kept-stays-fresh shift inverse l (c ∷ later) =
-    ap (λ (k : Kept). keptAfter shift inverse k later) (corrected-equals-fresh shift inverse l (c .index) (c .fix))
-    ∙ kept-stays-fresh shift inverse (putAt l (4 * c .index) (c .fix)) later
-
 -- ---- the stretch
 
 -- The number of fixes redone is the stretch that the words define, whatever the lists held.
 pub redone-is-the-stretch : (shift : Shift) (inverse : Bool) (old : Kept) (index : ℕ) (fix : Tuple) → 4 * index + 4 ≤ length (old .list)
     → Stretch (carriedAt (helmertTurns inverse shift) index (beforeOf shift (old .track) index) (putAt (old .list) (4 * index) fix)) (keptAt (old .track))
-      index (length (old .list) / 4) (correctedOf shift inverse old index fix .count)
+    index (length (old .list) / 4) (correctedOf shift inverse old index fix .count)
 unfolding correctedOf redoOf
 redone-is-the-stretch shift inverse old index fix h =
     let at = 4 * index in
@@ -237,8 +220,8 @@ written-between : (old new : List Float) (at n : ℕ) → at + n ≤ length old 
 written-between old new at n h k =
     record {
       before =
-        ap (take at) (append-assoc (take at old) (take n new) (drop (at + n) old))
-        ∙ take-at (take at old) (take n new ++ drop (at + n) old) at (length-take-le at old (omega arith));
+          ap (take at) (append-assoc (take at old) (take n new) (drop (at + n) old))
+          ∙ take-at (take at old) (take n new ++ drop (at + n) old) at (length-take-le at old (omega arith));
       after = drop-paste old at new n (omega arith) k;
       long = length-paste old at new n h k;
     }
@@ -278,8 +261,8 @@ module _ (shift : Shift) (inverse : Bool) (old : Kept) (index : ℕ) (fix : Tupl
   list-outside =
       record {
         before =
-          ap (take (4 * index)) (put-there (old .list) (4 * index) fix h ∙ append-assoc (take (4 * index) (old .list)) (numbersOf fix) (drop (4 * index + 4) (old .list)))
-          ∙ take-at (take (4 * index) (old .list)) (numbersOf fix ++ drop (4 * index + 4) (old .list)) (4 * index) (length-take-le (4 * index) (old .list) (omega arith));
+            ap (take (4 * index)) (put-there (old .list) (4 * index) fix h ∙ append-assoc (take (4 * index) (old .list)) (numbersOf fix) (drop (4 * index + 4) (old .list)))
+            ∙ take-at (take (4 * index) (old .list)) (numbersOf fix ++ drop (4 * index + 4) (old .list)) (4 * index) (length-take-le (4 * index) (old .list) (omega arith));
         after = put-drop (old .list) (4 * index) fix h;
         long = put-length (old .list) (4 * index) fix h;
       }
@@ -306,12 +289,12 @@ module _ (shift : Shift) (inverse : Bool) (l : List Float) (still : isRunningOf 
         within = rw list-is (omega arith);
         apart = λ j a b e. omega arith;
         ends =
-          inl
-          (let d : index + 1 - 1 ≡ index = omega arith in
-          rw d
-          (state-stays (helmertTurns inverse shift) stays index (beforeOf shift (freshOf shift inverse l .track) index) (take (4 * (suc index - index)) (drop (4 * index) (putAt (freshOf shift inverse l .list) (4 * index) fix)))
-          ∙ before-else shift (freshOf shift inverse l .track) index still
-          ∙ sym (still-track index h)));
+            inl
+            (let d : index + 1 - 1 ≡ index = omega arith in
+            rw d
+            (state-stays (helmertTurns inverse shift) stays index (beforeOf shift (freshOf shift inverse l .track) index) (take (4 * (suc index - index)) (drop (4 * index) (putAt (freshOf shift inverse l .list) (4 * index) fix)))
+            ∙ before-else shift (freshOf shift inverse l .track) index still
+            ∙ sym (still-track index h)));
       })
     where
       list-is : freshOf shift inverse l .list ≡ l

@@ -8,4 +8,5 @@ pub mod Start
 pub mod Laws
 pub mod Afresh
 pub mod Answers
-pub mod Examples
+pub mod Promises
+pub mod MarkedPoints

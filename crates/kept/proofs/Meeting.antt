@@ -1,11 +1,11 @@
 -- Two runs over the same fixes agree from where their states meet: the redoing of what a run left is the run itself. For any step. Assumes nothing.
-use Prim.Native.Nat.{ℕ, zero, suc, _+_, _*_, _/_, _≤_, _<_}
+use Prim.Native.Nat.{ℕ, zero, suc, _+_, _*_, _≤_}
 use native.Mathlib.Omega.{arith}
-use native.Mathlib.Nat.{zero-add}
-use mathlib.Core.Bool.{Bool, true, false, cond}
+use native.Mathlib.Nat.{zero-add, add-zero}
+use mathlib.Core.Bool.{Bool, true, false}
 use mathlib.Core.Path.{_≡_, refl, sym, ap, _∙_}
 use mathlib.Core.List.{List, [], _∷_, _++_}
-use lib.ListN.{length, take, drop}
+use lib.ListN.{length, take}
 use lib.Ieee.{Float}
 use Rattle.tuple.specs.declared.Tuple.{Tuple}
 use Rattle.helmert.specs.declared.State.{State}
@@ -37,6 +37,29 @@ track-at f k state (x ∷ y ∷ z ∷ []) j h = absurd (omega arith)
 track-at f k state (x ∷ y ∷ []) j h = absurd (omega arith)
 track-at f k state (x ∷ []) j h = absurd (omega arith)
 track-at f k state [] j h = absurd (omega arith)
+
+-- the result of fix j: its turn, in the state that the run carries to it
+pub result-at : (f : Turns State) (k : ℕ) (state : State) (l : List Float) (j : ℕ) → 4 * j + 4 ≤ length l
+    → tupleAt (ranOf f k state l) (4 * j) ≡ f (k + j) (stateAfterOf f k state (take (4 * j) l)) (tupleAt l (4 * j)) .tuple
+result-at f k state (x ∷ y ∷ z ∷ t ∷ rest) zero h =
+    tuple-first _ _ ∙ rw (add-zero k) (ap (λ (v : Tuple). f k state v .tuple) (sym (tuple-first (fourOf x y z t) rest)))
+result-at f k state (x ∷ y ∷ z ∷ t ∷ rest) (suc j) h =
+    let turn = f k state (fourOf x y z t) in
+    let new = ranOf f (suc k) (turn .state) rest in
+    let e : 4 * suc j ≡ 4 + 4 * j = omega arith in
+    let d : 4 * suc j ≡ suc (suc (suc (suc (4 * j)))) = omega arith in
+    let n : suc k + j ≡ k + suc j = omega arith in
+    ap (tupleAt (numbersOf (turn .tuple) ++ new)) e
+    ∙ sym (tuple-beyond (numbersOf (turn .tuple) ++ new) 4 (4 * j))
+    ∙ result-at f (suc k) (turn .state) rest j (omega arith)
+    ∙ ap (λ (m : ℕ). f m (stateAfterOf f (suc k) (turn .state) (take (4 * j) rest)) (tupleAt rest (4 * j)) .tuple) n
+    ∙ ap (λ (v : Tuple). f (k + suc j) (stateAfterOf f (suc k) (turn .state) (take (4 * j) rest)) v .tuple) (tuple-beyond (x ∷ y ∷ z ∷ t ∷ rest) 4 (4 * j))
+    ∙ ap (λ (m : ℕ). f (k + suc j) (stateAfterOf f (suc k) (turn .state) (take (4 * j) rest)) (tupleAt (x ∷ y ∷ z ∷ t ∷ rest) m) .tuple) (sym e)
+    ∙ ap (λ (m : ℕ). f (k + suc j) (stateAfterOf f k state (take m (x ∷ y ∷ z ∷ t ∷ rest))) (tupleAt (x ∷ y ∷ z ∷ t ∷ rest) (4 * suc j)) .tuple) (sym d)
+result-at f k state (x ∷ y ∷ z ∷ []) j h = absurd (omega arith)
+result-at f k state (x ∷ y ∷ []) j h = absurd (omega arith)
+result-at f k state (x ∷ []) j h = absurd (omega arith)
+result-at f k state [] j h = absurd (omega arith)
 
 -- a step that hands its state on as it is carries the one that it started with
 pub state-stays : (f : Turns State) → ((k : ℕ) (state : State) (v : Tuple) → f k state v .state ≡ state)
@@ -116,6 +139,11 @@ pub track-append : (f : Turns State) (k : ℕ) (state : State) {n : ℕ} {a : Li
 track-append f k state none b = rw (zero-add k)
 track-append f k state (more {n} {x} {y} {z} {t} w) b =
     ap (λ (l : List Float). numbersOf (trackedOf (f k state (fourOf x y z t) .state)) ++ l) (rw (next n k) at (track-append f (suc k) (f k state (fourOf x y z t) .state) w b))
+
+pub state-append : (f : Turns State) (k : ℕ) (state : State) {n : ℕ} {a : List Float} → Whole n a → (b : List Float)
+    → stateAfterOf f k state (a ++ b) ≡ stateAfterOf f (n + k) (stateAfterOf f k state a) b
+state-append f k state none b = rw (zero-add k)
+state-append f k state (more {n} {x} {y} {z} {t} w) b = rw (next n k) at (state-append f (suc k) (f k state (fourOf x y z t) .state) w b)
 
 pub track-length : (f : Turns State) (k : ℕ) (state : State) (l : List Float) → length (trackOf trackedOf f k state l) ≡ length l
 track-length f k state (x ∷ y ∷ z ∷ t ∷ rest) = ap (λ (n : ℕ). suc (suc (suc (suc n)))) (track-length f (suc k) (f k state (fourOf x y z t) .state) rest)

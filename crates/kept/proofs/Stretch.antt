@@ -1,5 +1,5 @@
 -- Redoing turn by turn is writing the run as far as the stretch goes. Assumes nothing.
-use Prim.Native.Nat.{ℕ, zero, suc, _+_, _*_, _/_, _≤_, _<_}
+use Prim.Native.Nat.{ℕ, zero, suc, _+_, _*_, _/_}
 use native.Mathlib.Omega.{arith}
 use native.Mathlib.Nat.{zero-add}
 use mathlib.Core.Bool.{Bool, true, false, cond}
@@ -66,7 +66,7 @@ again-spliced f k state (x ∷ y ∷ z ∷ t ∷ rest) rs ts =
     ap (oneOf (alikeOf (trackedOf (turn .state)) (tupleAt ts 0)) turn (drop 4 rs) (drop 4 ts)) (again-spliced f (suc k) (turn .state) rest (drop 4 rs) (drop 4 ts))
     ∙ one-spliced (alikeOf (trackedOf (turn .state)) (tupleAt ts 0)) turn (ranOf f (suc k) (turn .state) rest) new rs ts (stretchOf new (drop 4 ts))
     ∙ ap (λ (n : ℕ). spliced n (numbersOf (turn .tuple) ++ ranOf f (suc k) (turn .state) rest) (numbersOf (trackedOf (turn .state)) ++ new) rs ts)
-      (sym (stretch-open (trackedOf (turn .state)) new ts))
+    (sym (stretch-open (trackedOf (turn .state)) new ts))
 again-spliced f k state (x ∷ y ∷ z ∷ []) rs ts = refl
 again-spliced f k state (x ∷ y ∷ []) rs ts = refl
 again-spliced f k state (x ∷ []) rs ts = refl
@@ -77,8 +77,8 @@ again-spliced f k state [] rs ts = refl
 pub redo-is-again : (f : Turns State) (state : State) (l rs ts : List Float) (index : ℕ)
     → redoOf f state (keptOf l rs ts) index
     ≡ redoneOf (joined 0 (4 * index) rs ts (againOf f index state (drop (4 * index) l) (drop (4 * index) rs) (drop (4 * index) ts)) .count)
-      (keptOf l (joined 0 (4 * index) rs ts (againOf f index state (drop (4 * index) l) (drop (4 * index) rs) (drop (4 * index) ts)) .results)
-      (joined 0 (4 * index) rs ts (againOf f index state (drop (4 * index) l) (drop (4 * index) rs) (drop (4 * index) ts)) .track))
+    (keptOf l (joined 0 (4 * index) rs ts (againOf f index state (drop (4 * index) l) (drop (4 * index) rs) (drop (4 * index) ts)) .results)
+    (joined 0 (4 * index) rs ts (againOf f index state (drop (4 * index) l) (drop (4 * index) rs) (drop (4 * index) ts)) .track))
 unfolding redoOf
 redo-is-again f state l rs ts index =
     let at = 4 * index in

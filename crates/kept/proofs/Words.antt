@@ -8,11 +8,11 @@ use mathlib.Core.Path.{_≡_, refl, sym, ap, _∙_, subst}
 use mathlib.Core.List.{List}
 use lib.Dec.{T, ltb}
 use borrow.Author.Tests.{ltb-true, ltb-false}
-use lib.ListN.{length, take, drop, length-drop}
+use lib.ListN.{length, drop, length-drop}
 use lib.Ieee.{Float}
 use Rattle.helmert.specs.declared.State.{State}
 use Rattle.lists.specs.Flat.{tupleAt}
-use Rattle.lists.specs.Run.{Turns, trackOf, stateAfterOf}
+use Rattle.lists.specs.Run.{Turns, trackOf}
 use Rattle.kept.specs.Same.{alikeOf}
 use Rattle.kept.specs.Kept.{trackedOf, heldOf, meetsOf, stretchFrom, stretchOf, carriedAt, keptAt, Stretch}
 use Rattle.kept.proofs.Data.{alike-are-equal, equal-are-alike}
@@ -102,18 +102,18 @@ module _ (f : Turns State) (state : State) (l ts : List Float) (index : ℕ) (h 
         some = some;
         within = omega arith;
         apart = λ j a b e.
-          let m = j - index in
-          let d : index + m ≡ j = omega arith in
-          let no : meetsOf new old m ≡ false = rw (zero-add m) at (r .fails m (omega arith)) in
-          let yes : meetsOf new old m ≡ true = equal-meet m (omega arith) (rw d e) in
-          absurd (subst T (sym yes ∙ no) tt);
+            let m = j - index in
+            let d : index + m ≡ j = omega arith in
+            let no : meetsOf new old m ≡ false = rw (zero-add m) at (r .fails m (omega arith)) in
+            let yes : meetsOf new old m ≡ true = equal-meet m (omega arith) (rw d e) in
+            absurd (subst T (sym yes ∙ no) tt);
         ends =
-          ⊎-elim (λ e. inr (omega arith))
-          (λ g.
+            ⊎-elim (λ e. inr (omega arith))
+            (λ g.
             let m = n - 1 in
             let d : index + m ≡ index + n - 1 = omega arith in
             inl (rw d at (meet-equal m (omega arith) (rw (zero-add m) at (g m (omega arith))))))
-          (r .holds);
+            (r .holds);
       }
 
 -- ---- no other number of fixes is a stretch

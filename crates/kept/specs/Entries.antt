@@ -4,7 +4,6 @@ use mathlib.Core.Bool.{Bool, not, cond, _||_}
 use mathlib.Core.List.{List, [], _∷_}
 use lib.Dec.{eqb, ltb}
 use lib.ListN.{length}
-use lib.Ieee.{Float}
 use Rattle.tuple.specs.declared.Tuple.{Tuple}
 use Rattle.helmert.specs.declared.Helmert.{Helmert}
 use Rattle.helmert.specs.declared.Shift.{Shift}
@@ -18,7 +17,7 @@ use Rattle.sheet.specs.Rules.{Rule, rule, ofSheet, firstBroken, refusalOf}
 use Rattle.chain.specs.Chain.{turnedOf}
 use Rattle.chain.specs.Rules.{refusal9}
 use Rattle.kept.specs.declared.Corrected.{Corrected}
-use Rattle.kept.specs.Kept.{Kept, keptOf, freshOf, Redone, correctedOf}
+use Rattle.kept.specs.Kept.{Kept, freshOf, correctedOf}
 
 -- ---- the rules of a kept run
 

@@ -1,6 +1,13 @@
 // The kept run: a list, its results and its track, kept apart, shifted under a sheet of one Helmert step; and the correction of one fix.
+//
+// Document 01, "Kept run"; the Rust has none. `keep` runs the list as the chain does and writes, after each fix, the state that the step carries on: last
+// time, T. `correct` writes a new fix into the list and redoes from there, in running mode from the track before it, up to the first fix after which the
+// carried state is the kept one, else to the list's end. States are compared as data: every NaN is every other, and zeros differ by sign.
+//
+// No rounding but the step's own. Proved from a sheet's bytes on (proofs/Promises.antt): the results are the chain's; a kept run in which fixes are corrected
+// equals, in every bit, a fresh run of the list as it stands; the count is the stretch's length, one where the mode is not running; nothing outside the
+// stretch is written, whatever the three lists held. Used by callers that correct fixes of a list they keep; the program `corrections` replays some thousands.
 ghost use mathlib.Core.Path.{_≡_};
-ghost use mathlib.Core.Bool.{true};
 ghost use Prim.Native.Nat.{_+_, _*_, _%_, _≤_, _<_};
 ghost use lib.ListN.{length};
 ghost use Rattle.kept.specs.Same.{alikeNumberOf, alikeOf};
@@ -9,8 +16,6 @@ ghost use mathlib.Core.List.{[]};
 ghost use Rattle.helmert.specs.Modes.{prepareOf};
 ghost use Rattle.runs.specs.Turns.{helmertTurns};
 ghost use Rattle.sheet.specs.Rules.{firstBroken};
-ghost use Rattle.chain.specs.Chain.{turnedOf};
-ghost use Rattle.chain.specs.Rules.{refusal9};
 ghost use Rattle.kept.specs.Entries.{refusal12, refusal13, refusal14, keptOrder, keepRefusalOf, keepOf, helmertOf, outcome, correctOf};
 use bodies::Step;
 use helmert::Helmert;
@@ -33,7 +38,8 @@ fn alike_number(x: f64, y: f64) -> bool
 fn alike(v: Tuple, w: Tuple) -> bool
     ensures { λ r. ⌜ r ≡ alikeOf v w ⌝ }
 {
-    alike_number(v.x, w.x) & (alike_number(v.y, w.y) & (alike_number(v.z, w.z) & alike_number(v.t, w.t)))
+    alike_number(v.x, w.x)
+        & (alike_number(v.y, w.y) & (alike_number(v.z, w.z) & alike_number(v.t, w.t)))
 }
 
 // A state as the track holds it.
@@ -95,7 +101,15 @@ fn before(shift: Shift, track: &[f64], index: usize) -> State
 }
 
 // Redoes from an index on until the states meet.
-fn redo(shift: Shift, inverse: bool, list: &[f64], results: &mut [f64], track: &mut [f64], index: usize, start: State) -> usize
+fn redo(
+    shift: Shift,
+    inverse: bool,
+    list: &[f64],
+    results: &mut [f64],
+    track: &mut [f64],
+    index: usize,
+    start: State,
+) -> usize
     requires { ⌜ (4 * index ≤ length (now list)) × (length (now results) ≡ length (now list)) × (length (now track) ≡ length (now list)) ⌝ }
     ensures { λ r. ⌜ redoneOf r (keptOf (now (list .entry)) (now (results .exit)) (now (track .exit)))
         ≡ redoOf (helmertTurns inverse shift) start (keptOf (now (list .entry)) (now (results .entry)) (now (track .entry))) index ⌝ }
@@ -103,7 +117,7 @@ fn redo(shift: Shift, inverse: bool, list: &[f64], results: &mut [f64], track: &
     let mut state = start;
     let mut i = 4 * index;
     let mut n = 0;
-    while 4 <= list.len() - i {
+    while 4 <= list.len() - i { // a fix is left
         let r = helmert::step(shift, inverse, state, lists::read4(list, i));
         let now = tracked(r.state);
         let met = alike(now, lists::read4(track, i));
@@ -114,13 +128,21 @@ fn redo(shift: Shift, inverse: bool, list: &[f64], results: &mut [f64], track: &
             return n;
         }
         state = r.state;
-        i += 4;
+        i += 4; // the next fix
     }
     n
 }
 
 // Writes the fix into the list, and redoes.
-fn put_right(shift: Shift, inverse: bool, list: &mut [f64], results: &mut [f64], track: &mut [f64], index: usize, fix: Tuple) -> usize
+fn put_right(
+    shift: Shift,
+    inverse: bool,
+    list: &mut [f64],
+    results: &mut [f64],
+    track: &mut [f64],
+    index: usize,
+    fix: Tuple,
+) -> usize
     requires { ⌜ (index < 2048) × (4 * index + 4 ≤ length (now list)) × (length (now results) ≡ length (now list)) × (length (now track) ≡ length (now list)) ⌝ }
     ensures { λ r. ⌜ redoneOf r (keptOf (now (list .exit)) (now (results .exit)) (now (track .exit)))
         ≡ correctedOf shift inverse (keptOf (now (list .entry)) (now (results .entry)) (now (track .entry))) index fix ⌝ }
@@ -153,13 +175,6 @@ fn shift_of(entry: Entry) -> Shift
     helmert::prepare(helmert_of(step))
 }
 
-// Turned round where the step's inverted word is 1.
-fn turned(inverse: bool, entry: Entry) -> bool
-    ensures { λ r. ⌜ r ≡ turnedOf inverse entry ⌝ }
-{
-    if entry.inverted == 1 { !inverse } else { inverse }
-}
-
 // ----- the rules -----------------------------------------------------------------------------
 
 // Rule 12: not one Helmert step.
@@ -167,13 +182,6 @@ fn step_broken(s: &[u8]) -> bool
     ensures { λ r. ⌜ r ≡ refusal12 (now (s .entry)) ⌝ }
 {
     (sheet::step_count(s) != 1) | (words::read32(s, 16) != 1)
-}
-
-// Rule 9: not whole tuples, or over 2,048.
-fn list_broken(list: usize) -> bool
-    ensures { λ r. ⌜ r ≡ refusal9 list ⌝ }
-{
-    (list % 4 != 0) | (8192 < list)
 }
 
 // Rule 13: results or track not as long as the list.
@@ -199,13 +207,19 @@ fn check(s: &[u8], list: usize, results: usize, track: usize) -> Refusal
         return own;
     }
     if step_broken(s) {
-        return Refusal { number: 12, step: 0 };
+        return Refusal {
+            number: 12,
+            step: 0,
+        };
     }
-    if list_broken(list) {
+    if chain::list_broken(list) {
         return Refusal { number: 9, step: 0 };
     }
     if lengths_broken(list, results, track) {
-        return Refusal { number: 13, step: 0 };
+        return Refusal {
+            number: 13,
+            step: 0,
+        };
     }
     Refusal::none()
 }
@@ -213,17 +227,29 @@ fn check(s: &[u8], list: usize, results: usize, track: usize) -> Refusal
 // ----- the entries -----------------------------------------------------------------------------
 
 // A fresh kept run: reads the list, writes results and, after each fix, the track: last time, T.
-pub fn keep(inverse: bool, s: &[u8], list: &[f64], results: &mut [f64], track: &mut [f64]) -> Refusal
+pub fn keep(
+    inverse: bool,
+    s: &[u8],
+    list: &[f64],
+    results: &mut [f64],
+    track: &mut [f64],
+) -> Refusal
     ensures { λ r. ⌜ (r ≡ keepRefusalOf (now (s .entry)) (keptOf (now (list .entry)) (now (results .entry)) (now (track .entry))))
         × (keptOf (now (list .entry)) (now (results .exit)) (now (track .exit))
-            ≡ keepOf inverse (now (s .entry)) (keptOf (now (list .entry)) (now (results .entry)) (now (track .entry)))) ⌝ }
+        ≡ keepOf inverse (now (s .entry)) (keptOf (now (list .entry)) (now (results .entry)) (now (track .entry)))) ⌝ }
 {
     let refusal = check(s, list.len(), results.len(), track.len());
     if refusal.number != 0 {
         return refusal;
     }
     let entry = sheet::entry_at(s, 0);
-    fresh(shift_of(entry), turned(inverse, entry), list, results, track);
+    fresh(
+        shift_of(entry),
+        chain::turned(inverse, entry),
+        list,
+        results,
+        track,
+    );
     refusal
 }
 
@@ -234,7 +260,15 @@ pub struct Corrected {
 }
 
 // Corrects one fix: writes it into the list and redoes from there until the carried state equals the kept one, else to the end.
-pub fn correct(inverse: bool, s: &[u8], list: &mut [f64], results: &mut [f64], track: &mut [f64], index: usize, fix: Tuple) -> Corrected
+pub fn correct(
+    inverse: bool,
+    s: &[u8],
+    list: &mut [f64],
+    results: &mut [f64],
+    track: &mut [f64],
+    index: usize,
+    fix: Tuple,
+) -> Corrected
     ensures { λ r. ⌜ outcome r (keptOf (now (list .exit)) (now (results .exit)) (now (track .exit)))
         ≡ correctOf inverse (now (s .entry)) (keptOf (now (list .entry)) (now (results .entry)) (now (track .entry))) index fix ⌝ }
 {
@@ -246,14 +280,25 @@ pub fn correct(inverse: bool, s: &[u8], list: &mut [f64], results: &mut [f64], t
         };
     }
     if index_broken(list.len(), index) {
-        let none = Refusal { number: 14, step: 0 };
+        let none = Refusal {
+            number: 14,
+            step: 0,
+        };
         return Corrected {
             refusal: none,
             redone: 0,
         };
     }
     let entry = sheet::entry_at(s, 0);
-    let n = put_right(shift_of(entry), turned(inverse, entry), list, results, track, index, fix);
+    let n = put_right(
+        shift_of(entry),
+        chain::turned(inverse, entry),
+        list,
+        results,
+        track,
+        index,
+        fix,
+    );
     Corrected {
         refusal: refusal,
         redone: n as u64,

@@ -47,7 +47,7 @@ returns-5 c =
     let own = sym (ap (λ (r : Refusal). r .number) (c .before .before .before .before .before .before .before .before .before .check .ensures)) ∙ c .before .before .before .before .before .before .before .if1 .left in
     c .none .ensures
     ∙ none-refused _ _ _ _ own (sym (c .before .before .before .before .before .before .step-broken .ensures) ∙ c .before .before .before .before .before .if2 .left) (sym (c .before .before .before .before .list-broken .ensures) ∙ c .before .before .before .if3 .left)
-      (sym (c .before .before .lengths-broken .ensures) ∙ c .before .if4 .left)
+    (sym (c .before .before .lengths-broken .ensures) ∙ c .before .if4 .left)
 
 pub check-spec : {M : Type 1} → statement M
 check-spec =

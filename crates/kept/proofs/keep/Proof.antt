@@ -39,9 +39,11 @@ same-length-2 c = search needs
 returns-2 : tie.Need-returns-2
 unfolding keepRefusalOf
 returns-2 c =
-    let e = c .before .before .before .before .before .before .before .before .before .before .before .before .check .ensures in
-    (e, keep-done _ _ _ (sym (ap (λ (r : Refusal). r .number) e) ∙ c .before .before .before .before .before .before .before .before .before .before .if1 .left)
-    (c .before .before .before .before .fresh .ensures ∙ rw (c .before .before .before .before .before .before .before .turned .ensures, c .before .before .before .before .before .before .before .before .shift-of .ensures, c .before .before .before .before .before .before .before .before .before .entry-at .ensures)))
+    let e = c .before .before .before .before .before .before .before .before .before .before .before .before .check .ensures in (
+      e,
+      keep-done _ _ _ (sym (ap (λ (r : Refusal). r .number) e) ∙ c .before .before .before .before .before .before .before .before .before .before .if1 .left)
+          (c .before .before .before .before .fresh .ensures ∙ rw (c .before .before .before .before .before .before .before .turned .ensures, c .before .before .before .before .before .before .before .before .shift-of .ensures, c .before .before .before .before .before .before .before .before .before .entry-at .ensures)),
+    )
 
 pub keep-spec : {M : Type 1} → statement M
 keep-spec =

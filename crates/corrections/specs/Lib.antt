@@ -1,0 +1,2 @@
+-- What the contracts of `corrections` cite.
+pub mod Room
