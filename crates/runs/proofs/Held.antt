@@ -9,7 +9,7 @@ use Rattle.helmert.specs.declared.Shift.{Shift}
 use Rattle.helmert.specs.declared.State.{State}
 use Rattle.helmert.specs.declared.Stepped.{Stepped}
 use Rattle.helmert.specs.Apply.{forwardOf, inverseOf, applyOf}
-use Rattle.helmert.specs.Modes.{rotationAtOf, scaleAtOf, nextOf, runningOf}
+use Rattle.helmert.specs.Modes.{grownOf, rotationAtOf, scaleAtOf, nextOf, runningOf, ownTimeOf, ownEpochStepOf}
 
 -- S and the matrix at a time
 abbrev pub scaleOf : Shift → Float → Float
@@ -72,3 +72,11 @@ pub unrotated-turn : (shift : Shift) (inverse : Bool) (state : State) (v : Tuple
 unfolding runningOf forwardOf inverseOf
 unrotated-turn shift true state v h m met e = rw (e, met .held .scale, met .next, h)
 unrotated-turn shift false state v h m met e = rw (e, met .held .scale, met .next, h)
+
+-- ---- own-epoch: the same at a tuple's own time
+
+pub own-epoch-turn : (shift : Shift) (inverse : Bool) (v : Tuple) {w : Tuple} (time : Float) → time ≡ ownTimeOf shift (v .t)
+    → w ≡ applyOf inverse (grownOf (shift .parameters .t) (time ⊖ shift .epoch) (shift .parameters .dt)) (scaleOf shift time) (shift .rotated) (matrixOf shift time) v
+    → w ≡ ownEpochStepOf shift inverse v
+unfolding ownEpochStepOf
+own-epoch-turn shift inverse v time et e = e ∙ rw et

@@ -11,7 +11,7 @@ ghost use Rattle.cart.specs.Step.{cartFwdOf, cartInvOf};
 ghost use Rattle.permtide.specs.Step.{fwdOf, invOf};
 ghost use Rattle.molodensky.specs.Step.{commonOf};
 ghost use Rattle.helmert.specs.Apply.{forwardOf, inverseOf};
-ghost use Rattle.helmert.specs.Modes.{prepareOf, startOf, fixedStepOf, runningOf, ownEpochStepOf};
+ghost use Rattle.helmert.specs.Modes.{prepareOf, startOf, fixedStepOf, runningOf, ownTimeOf, ownEpochStepOf};
 ghost use Rattle.lists.specs.Run.{ranOf, countOf};
 ghost use Rattle.runs.specs.Turns.{noState, plainTurns, allTurns, steppedTurns, velocityAt, markAt, movedTurns, cartTurns, permtideTurns, molodenskyTurns, deformationTurns, helmertTurns};
 use cart::Cart;
@@ -255,6 +255,90 @@ fn own_epoch_inverse(list: &mut [f64], shift: Shift)
     }
 }
 
+// A NaN time is read as t_epoch.
+fn own_time(shift: Shift, time: f64) -> f64
+    ensures { λ r. ⌜ r ≡ ownTimeOf shift time ⌝ }
+{
+    if floats::is_nan(time) {
+        shift.epoch
+    } else {
+        time
+    }
+}
+
+// Own-epoch with small angles: a loop for each convention, as in running mode below.
+fn own_epoch_position_vector_forward(list: &mut [f64], shift: Shift)
+    requires { ⌜ (shift .rotated ≡ true) × (shift .exact ≡ false) × (shift .«position_vector» ≡ true) ⌝ }
+    ensures { λ _. ⌜ now (list .exit) ≡ ranOf (allTurns (ownEpochStepOf shift false)) 0 noState (now (list .entry)) ⌝ }
+{
+    let p = shift.parameters;
+    let mut i = 0;
+    while 4 <= list.len() - i {
+        let v = lists::read4(list, i);
+        let dt = own_time(shift, v.t) - shift.epoch;
+        let t = helmert::grown(p.t, dt, p.dt);
+        let s = helmert::scale_at(p, dt);
+        let m = rotation::rotation_matrix(helmert::rotation_at(p, dt), false, true);
+        let w = helmert::forward(t, s, true, m, v);
+        lists::write4(list, i, w);
+        i += 4;
+    }
+}
+
+fn own_epoch_position_vector_inverse(list: &mut [f64], shift: Shift)
+    requires { ⌜ (shift .rotated ≡ true) × (shift .exact ≡ false) × (shift .«position_vector» ≡ true) ⌝ }
+    ensures { λ _. ⌜ now (list .exit) ≡ ranOf (allTurns (ownEpochStepOf shift true)) 0 noState (now (list .entry)) ⌝ }
+{
+    let p = shift.parameters;
+    let mut i = 0;
+    while 4 <= list.len() - i {
+        let v = lists::read4(list, i);
+        let dt = own_time(shift, v.t) - shift.epoch;
+        let t = helmert::grown(p.t, dt, p.dt);
+        let s = helmert::scale_at(p, dt);
+        let m = rotation::rotation_matrix(helmert::rotation_at(p, dt), false, true);
+        let w = helmert::inverse(t, s, true, m, v);
+        lists::write4(list, i, w);
+        i += 4;
+    }
+}
+
+fn own_epoch_coordinate_frame_forward(list: &mut [f64], shift: Shift)
+    requires { ⌜ (shift .rotated ≡ true) × (shift .exact ≡ false) × (shift .«position_vector» ≡ false) ⌝ }
+    ensures { λ _. ⌜ now (list .exit) ≡ ranOf (allTurns (ownEpochStepOf shift false)) 0 noState (now (list .entry)) ⌝ }
+{
+    let p = shift.parameters;
+    let mut i = 0;
+    while 4 <= list.len() - i {
+        let v = lists::read4(list, i);
+        let dt = own_time(shift, v.t) - shift.epoch;
+        let t = helmert::grown(p.t, dt, p.dt);
+        let s = helmert::scale_at(p, dt);
+        let m = rotation::rotation_matrix(helmert::rotation_at(p, dt), false, false);
+        let w = helmert::forward(t, s, true, m, v);
+        lists::write4(list, i, w);
+        i += 4;
+    }
+}
+
+fn own_epoch_coordinate_frame_inverse(list: &mut [f64], shift: Shift)
+    requires { ⌜ (shift .rotated ≡ true) × (shift .exact ≡ false) × (shift .«position_vector» ≡ false) ⌝ }
+    ensures { λ _. ⌜ now (list .exit) ≡ ranOf (allTurns (ownEpochStepOf shift true)) 0 noState (now (list .entry)) ⌝ }
+{
+    let p = shift.parameters;
+    let mut i = 0;
+    while 4 <= list.len() - i {
+        let v = lists::read4(list, i);
+        let dt = own_time(shift, v.t) - shift.epoch;
+        let t = helmert::grown(p.t, dt, p.dt);
+        let s = helmert::scale_at(p, dt);
+        let m = rotation::rotation_matrix(helmert::rotation_at(p, dt), false, false);
+        let w = helmert::inverse(t, s, true, m, v);
+        lists::write4(list, i, w);
+        i += 4;
+    }
+}
+
 // Running: T grows, and R, S and the matrix are worked out anew, only where the time changes. Small angles have a loop for each convention: the matrix is
 // then nine numbers in registers, and no test of the shift is left in the loop.
 fn running_position_vector_forward(list: &mut [f64], shift: Shift)
@@ -484,13 +568,53 @@ fn run_fixed(list: &mut [f64], inverse: bool, shift: Shift)
     }
 }
 
-fn run_own_epoch(list: &mut [f64], inverse: bool, shift: Shift)
+fn run_own_epoch_position_vector(list: &mut [f64], inverse: bool, shift: Shift)
+    requires { ⌜ (shift .rotated ≡ true) × (shift .exact ≡ false) × (shift .«position_vector» ≡ true) ⌝ }
+    ensures { λ _. ⌜ now (list .exit) ≡ ranOf (allTurns (ownEpochStepOf shift inverse)) 0 noState (now (list .entry)) ⌝ }
+{
+    if inverse {
+        own_epoch_position_vector_inverse(list, shift);
+    } else {
+        own_epoch_position_vector_forward(list, shift);
+    }
+}
+
+fn run_own_epoch_coordinate_frame(list: &mut [f64], inverse: bool, shift: Shift)
+    requires { ⌜ (shift .rotated ≡ true) × (shift .exact ≡ false) × (shift .«position_vector» ≡ false) ⌝ }
+    ensures { λ _. ⌜ now (list .exit) ≡ ranOf (allTurns (ownEpochStepOf shift inverse)) 0 noState (now (list .entry)) ⌝ }
+{
+    if inverse {
+        own_epoch_coordinate_frame_inverse(list, shift);
+    } else {
+        own_epoch_coordinate_frame_forward(list, shift);
+    }
+}
+
+fn run_own_epoch_other(list: &mut [f64], inverse: bool, shift: Shift)
     ensures { λ _. ⌜ now (list .exit) ≡ ranOf (allTurns (ownEpochStepOf shift inverse)) 0 noState (now (list .entry)) ⌝ }
 {
     if inverse {
         own_epoch_inverse(list, shift);
     } else {
         own_epoch_forward(list, shift);
+    }
+}
+
+fn run_own_epoch(list: &mut [f64], inverse: bool, shift: Shift)
+    ensures { λ _. ⌜ now (list .exit) ≡ ranOf (allTurns (ownEpochStepOf shift inverse)) 0 noState (now (list .entry)) ⌝ }
+{
+    if shift.rotated {
+        if shift.exact {
+            run_own_epoch_other(list, inverse, shift);
+        } else {
+            if shift.position_vector {
+                run_own_epoch_position_vector(list, inverse, shift);
+            } else {
+                run_own_epoch_coordinate_frame(list, inverse, shift);
+            }
+        }
+    } else {
+        run_own_epoch_other(list, inverse, shift);
     }
 }
 
