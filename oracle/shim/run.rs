@@ -114,18 +114,21 @@ fn nan_z_on_the_axis(op: &Op, step: &Step, inverse: bool, job: &Job, before: &[f
 // ----- From a sheet's body to the Rust's parameters ------------------------------------
 
 fn operator(body: &Body, job: &Job) -> Result<Op, Error> {
-    let ctx = Lent::new(&job.velocities, &job.marks);
-    let raw = parameters(body);
+    new(body, &parameters(body), &Lent::new(&job.velocities, &job.marks))
+}
+
+/// The Rust's `new` of a body's kind.
+pub fn new(body: &Body, raw: &RawParameters, ctx: &dyn Context) -> Result<Op, Error> {
     match body {
-        Body::Helmert(_) => crate::helmert::new(&raw, &ctx),
-        Body::Cart { .. } => crate::cart::new(&raw, &ctx),
-        Body::Molodensky { .. } => crate::molodensky::new(&raw, &ctx),
-        Body::Permtide { .. } => crate::permtide::new(&raw, &ctx),
-        Body::Deformation { .. } => crate::deformation::new(&raw, &ctx),
+        Body::Helmert(_) => crate::helmert::new(raw, ctx),
+        Body::Cart { .. } => crate::cart::new(raw, ctx),
+        Body::Molodensky { .. } => crate::molodensky::new(raw, ctx),
+        Body::Permtide { .. } => crate::permtide::new(raw, ctx),
+        Body::Deformation { .. } => crate::deformation::new(raw, ctx),
     }
 }
 
-fn parameters(body: &Body) -> RawParameters {
+pub fn parameters(body: &Body) -> RawParameters {
     let mut raw = RawParameters::default();
     match *body {
         Body::Helmert(ref h) => helmert(h, &mut raw),

@@ -181,7 +181,14 @@ pub fn common(op: Motion, inverse: bool, v: Velocity, mark: u8, cart: Tuple) -> 
     ensures { λ r. ⌜ r ≡ commonOf op inverse v mark cart ⌝ }
 {
     if mark == 1 {
-        let geo = geocart::geographic(op.ellps, cart);
+        let place = geocart::place(op.ellps, cart);
+        // the height is not read
+        let geo = Tuple {
+            x: place.lam,
+            y: place.phi,
+            z: 0.0,
+            t: cart.t,
+        };
         return Shifted {
             tuple: deformed(op, inverse, v, geo, cart),
             counted: true,

@@ -12,6 +12,7 @@ use Rattle.tuple.specs.declared.Tuple.{Tuple}
 use Rattle.ellipsoid.specs.declared.Ellipsoid.{Ellipsoid}
 use Rattle.ellipsoid.specs.Figure.{one, primeVerticalOf}
 use Rattle.geocart.specs.declared.Legs.{Legs}
+use Rattle.geocart.specs.declared.Position.{Position}
 
 -- ---- geographic to cartesian
 
@@ -72,3 +73,7 @@ geographicOf e cartesian =
     cond (lt p cutoff)
     (record { x = lam; y = poleOf Z; z = poleHeightOf e Z; t = cartesian .t })
     (record { x = lam; y = atan2Of (m .num) (m .denom); z = bowringHeightOf e p Z m; t = cartesian .t })
+
+-- its longitude and latitude alone
+abbrev pub placeOf : Ellipsoid → Tuple → Position
+placeOf e cartesian = let g = geographicOf e cartesian in record { lam = g .x; phi = g .y }

@@ -2,9 +2,10 @@
 //
 // The method is Bowring's (1976, 1985) with Fukushima's (1999) square root for a hypotenuse, in the Rust's own sequence of roundings and with its letters.
 // One difference, listed: a point on the axis whose Z is NaN has a NaN latitude, where the Rust takes the pole that the NaN's sign bit happens to name.
-// `cartesian` is cart's forward step; `geographic` is what deformation asks for a place by. cart's own inverse is another method, in the crate cart.
+// `cartesian` is cart's forward step; `place`, `geographic` without the height, is what deformation asks for a place by. cart's own inverse is another
+// method, in the crate cart.
 ghost use mathlib.Core.Path.{_≡_};
-ghost use Rattle.geocart.specs.Geocart.{cartesianOf, poleOf, poleHeightOf, bowringOf, bowringHeightOf, geographicOf};
+ghost use Rattle.geocart.specs.Geocart.{cartesianOf, poleOf, poleHeightOf, bowringOf, bowringHeightOf, geographicOf, placeOf};
 use ellipsoid::Ellipsoid;
 use tuple::Tuple;
 
@@ -14,6 +15,12 @@ const FRAC_PI_2: f64 = 1.5707963267948966;
 pub struct Legs {
     pub num: f64,
     pub denom: f64,
+}
+
+// Longitude and latitude.
+pub struct Position {
+    pub lam: f64,
+    pub phi: f64,
 }
 
 pub fn cartesian(ellps: Ellipsoid, geographic: Tuple) -> Tuple
@@ -95,5 +102,25 @@ pub fn geographic(ellps: Ellipsoid, cartesian: Tuple) -> Tuple
         y: arctan::atan2(m.num, m.denom),
         z: bowring_height(ellps, p, z, m),
         t: cartesian.t,
+    }
+}
+
+// Longitude and latitude as `geographic` gives them, for those who leave the height unread: it costs a third of the work.
+pub fn place(ellps: Ellipsoid, cartesian: Tuple) -> Position
+    ensures { λ r. ⌜ r ≡ placeOf ellps cartesian ⌝ }
+{
+    let z = cartesian.z;
+    let lam = arctan::atan2(cartesian.y, cartesian.x);
+    let p = hypot::hypot(cartesian.x, cartesian.y);
+    if p < 1.0e-12 {
+        return Position {
+            lam: lam,
+            phi: pole(z),
+        };
+    }
+    let m = bowring(ellps, p, z);
+    Position {
+        lam: lam,
+        phi: arctan::atan2(m.num, m.denom),
     }
 }

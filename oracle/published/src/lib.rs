@@ -45,4 +45,5 @@ mod molodensky;
 #[path = "../../../docs/src/src/inner_op/permtide.rs"]
 mod permtide;
 
-pub use run::{Ran, as_published, run};
+pub use run::{Ran, as_published, new, parameters, run};
+pub use shim::{Flat, Lent, Op, RawParameters};

@@ -1,7 +1,7 @@
--- `runs::run_own_epoch` meets its contract. Assumes nothing.
+-- `runs::run_own_epoch_other` meets its contract. Assumes nothing.
 use borrow.Author.Needs.{needs}
-use Rattle.runs.proofs.run_own_epoch.Statement.{statement}
-use Rattle.runs.proofs.run_own_epoch.Tie as tie
+use Rattle.runs.proofs.run_own_epoch_other.Statement.{statement}
+use Rattle.runs.proofs.run_own_epoch_other.Tie as tie
 
 own-epoch-inverse-requires : tie.Need-own-epoch-inverse-requires
 own-epoch-inverse-requires c κs = search needs
@@ -21,8 +21,8 @@ same-length-2 c = search needs
 returns-2 : tie.Need-returns-2
 returns-2 c = rw (c .before .before .before .before .if1 .left) (c .before .before .own-epoch-forward .ensures)
 
-pub run-own-epoch-spec : {M : Type 1} → statement M
-run-own-epoch-spec =
+pub run-own-epoch-other-spec : {M : Type 1} → statement M
+run-own-epoch-other-spec =
     tie.close
     (tie.spec
     own-epoch-inverse-requires

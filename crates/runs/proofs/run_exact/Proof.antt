@@ -1,7 +1,7 @@
--- `runs::run_running` meets its contract. Assumes nothing.
+-- `runs::run_exact` meets its contract. Assumes nothing.
 use borrow.Author.Needs.{needs}
-use Rattle.runs.proofs.run_running.Statement.{statement}
-use Rattle.runs.proofs.run_running.Tie as tie
+use Rattle.runs.proofs.run_exact.Statement.{statement}
+use Rattle.runs.proofs.run_exact.Tie as tie
 
 running-inverse-requires : tie.Need-running-inverse-requires
 running-inverse-requires c κs = search needs
@@ -21,8 +21,8 @@ same-length-2 c = search needs
 returns-2 : tie.Need-returns-2
 returns-2 c = rw (c .before .before .before .before .if1 .left) (c .before .before .running-forward .ensures)
 
-pub run-running-spec : {M : Type 1} → statement M
-run-running-spec =
+pub run-exact-spec : {M : Type 1} → statement M
+run-exact-spec =
     tie.close
     (tie.spec
     running-inverse-requires

@@ -1,0 +1,154 @@
+//! The original and ours over the same lists, in one process and in turns: a row a step and direction.
+//!
+//!     bench [passes, 200]
+//!
+//! original: docs/src over oracle/shim, as published, in release. ours: the library's archive for the machine at hand. A time is the least of the passes, in
+//! ns a tuple; a ratio is original / ours; its spread leaves out the lowest and the highest tenth of the passes. The answers are compared too.
+mod clock;
+mod steps;
+
+use clock::{in_turns, took};
+use published::{Flat, Lent, Op, RawParameters};
+use steps::{Row, TUPLES};
+
+/// A row in one direction, with all that both ways need.
+struct Run<'a> {
+    row: &'a Row,
+    inverse: bool,
+    sheet: Vec<u8>,
+    raw: RawParameters,
+    list: Vec<f64>,
+    velocities: Vec<f64>,
+    marks: Vec<u8>,
+}
+
+impl Run<'_> {
+    fn new(row: &Row, inverse: bool) -> Run<'_> {
+        let list = steps::list(row.takes[inverse as usize], row.times);
+        let (velocities, marks) = if row.deforms() { (steps::velocities(), vec![1; TUPLES]) } else { (vec![], vec![]) };
+        let sheet = job::sheet(&[job::Step { inverted: false, body: row.body.clone() }]);
+        Run { row, inverse, sheet, raw: published::parameters(&row.body), list, velocities, marks }
+    }
+
+    fn name(&self) -> String {
+        format!("{}, {}", self.row.step, if self.inverse { "inverse" } else { "forward" })
+    }
+
+    fn operator(&self) -> Op {
+        published::new(&self.row.body, &self.raw, &Lent::new(&self.velocities, &self.marks)).expect("the crate takes the step")
+    }
+
+    /// Velocities and marks of the fix at an index.
+    fn lent(&self, i: usize) -> (&[f64], &[u8]) {
+        if self.row.deforms() { (&self.velocities[3 * i..3 * i + 3], &self.marks[i..i + 1]) } else { (&[], &[]) }
+    }
+
+    // ----- One pass of each way over a copy of the list -----------------------------------
+
+    fn original(&self, op: &Op, list: &mut [f64]) -> f64 {
+        list.copy_from_slice(&self.list);
+        took(|| {
+            op.apply(&Lent::new(&self.velocities, &self.marks), &mut Flat(list), self.inverse);
+        })
+    }
+
+    fn ours(&self, list: &mut [f64]) -> f64 {
+        list.copy_from_slice(&self.list);
+        let mut counts = [0; 16];
+        let mut told = 0;
+        let ns = took(|| {
+            told = ours::shift_in_place(self.inverse, &self.sheet, list, &self.velocities, &self.marks, &mut counts);
+        });
+        assert_eq!((told, counts[0]), (0, TUPLES));
+        ns
+    }
+
+    /// Each fix a list of its own.
+    fn original_ones(&self, op: &Op, list: &mut [f64]) -> f64 {
+        list.copy_from_slice(&self.list);
+        took(|| {
+            for (i, one) in list.chunks_exact_mut(4).enumerate() {
+                let (velocities, marks) = self.lent(i);
+                op.apply(&Lent::new(velocities, marks), &mut Flat(one), self.inverse);
+            }
+        })
+    }
+
+    fn original_ones_new(&self, list: &mut [f64]) -> f64 {
+        list.copy_from_slice(&self.list);
+        took(|| {
+            for (i, one) in list.chunks_exact_mut(4).enumerate() {
+                let (velocities, marks) = self.lent(i);
+                self.operator().apply(&Lent::new(velocities, marks), &mut Flat(one), self.inverse);
+            }
+        })
+    }
+
+    fn ours_ones(&self, list: &mut [f64]) -> f64 {
+        list.copy_from_slice(&self.list);
+        let mut counts = [0; 16];
+        took(|| {
+            for (i, one) in list.chunks_exact_mut(4).enumerate() {
+                let (velocities, marks) = self.lent(i);
+                ours::shift_in_place(self.inverse, &self.sheet, one, velocities, marks, &mut counts);
+            }
+        })
+    }
+}
+
+/// Both did the same work: no number of one is further than a micrometre, or 1e-12 rad, from the other's.
+fn agree(name: &str, run: &Run, original: &[f64], ours: &[f64]) {
+    for (i, (a, b)) in original.iter().zip(ours).enumerate() {
+        assert!((a - b).abs() <= 1e-6, "{name}: number {i} is {a} and {b}, from {:?}", &run.list[i / 4 * 4..i / 4 * 4 + 4]);
+    }
+}
+
+fn runs(rows: &[Row]) -> Vec<Run<'_>> {
+    rows.iter().flat_map(|row| [false, true].map(|inverse| Run::new(row, inverse))).collect()
+}
+
+fn main() {
+    let passes = std::env::args().nth(1).map_or(200, |a| a.parse().expect("a number of passes"));
+    let rows = steps::rows();
+    let runs = runs(&rows);
+
+    clock::head("lists of 2,048, ns a tuple");
+    for run in &runs {
+        lists(run, passes);
+    }
+    clock::head("lists of one, the sheet read / `new` each time");
+    for run in runs.iter().filter(|run| run.row.in_the_original()) {
+        read_each_time(run, passes / 4 + 1);
+    }
+    clock::head("lists of one, the sheet read / operator made");
+    for run in runs.iter().filter(|run| run.row.in_the_original()) {
+        operator_made(run, passes / 4 + 1);
+    }
+}
+
+fn lists(run: &Run, passes: usize) {
+    let (mut a, mut b) = (run.list.clone(), run.list.clone());
+    if !run.row.in_the_original() {
+        let (ours, _) = in_turns(passes, || run.ours(&mut b), || 0.0);
+        return clock::print_alone(&run.name(), &ours, TUPLES);
+    }
+    let op = run.operator();
+    let (original, ours) = in_turns(passes, || run.original(&op, &mut a), || run.ours(&mut b));
+    agree(&run.name(), run, &a, &b);
+    clock::print(&run.name(), &original, &ours, TUPLES, run.row.aims[run.inverse as usize]);
+}
+
+fn read_each_time(run: &Run, passes: usize) {
+    let (mut a, mut b) = (run.list.clone(), run.list.clone());
+    let (original, ours) = in_turns(passes, || run.original_ones_new(&mut a), || run.ours_ones(&mut b));
+    agree(&run.name(), run, &a, &b);
+    clock::print(&run.name(), &original, &ours, TUPLES, 2.0);
+}
+
+fn operator_made(run: &Run, passes: usize) {
+    let (mut a, mut b) = (run.list.clone(), run.list.clone());
+    let op = run.operator();
+    let (original, ours) = in_turns(passes, || run.original_ones(&op, &mut a), || run.ours_ones(&mut b));
+    agree(&run.name(), run, &a, &b);
+    clock::print(&run.name(), &original, &ours, TUPLES, 1.0);
+}

@@ -1,0 +1,38 @@
+-- `geocart::place` meets its contract. Assumes nothing.
+use Rattle.geocart.specs.Geocart.{geographicOf}
+use borrow.Author.Needs.{needs}
+use Rattle.geocart.proofs.place.Statement.{statement}
+use Rattle.geocart.proofs.place.Tie as tie
+
+atan2-requires : tie.Need-atan2-requires
+atan2-requires c κs = search needs
+
+hypot-requires : tie.Need-hypot-requires
+hypot-requires c κs = search needs
+
+pole-requires : tie.Need-pole-requires
+pole-requires c κs = search needs
+
+returns : tie.Need-returns
+unfolding geographicOf
+returns c = rw (c .pole .ensures, c .before .before .before .atan2 .ensures, ← c .before .before .hypot .ensures, c .before .if1 .taken)
+
+bowring-requires : tie.Need-bowring-requires
+bowring-requires c κs = search needs
+
+atan2-requires-2 : tie.Need-atan2-requires-2
+atan2-requires-2 c κs = search needs
+
+returns-2 : tie.Need-returns-2
+unfolding geographicOf
+returns-2 c =
+    rw (
+      c .atan22 .ensures,
+      c .before .bowring .ensures,
+      c .before .before .before .before .atan2 .ensures,
+      ← c .before .before .before .hypot .ensures,
+      c .before .before .if1 .left,
+    )
+
+pub place-spec : {M : Type 1} → statement M
+place-spec = tie.close (tie.spec atan2-requires hypot-requires pole-requires returns bowring-requires atan2-requires-2 returns-2)
