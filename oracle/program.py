@@ -1,4 +1,4 @@
-"""Runs the program on every job of vectors/answers.bin and compares what it prints with the answer, to the letter.
+"""Runs the program on every job of crates/vectors/data/answers.bin and compares what it prints with the answer, to the letter.
 
     program.py COMMAND..     the last line is 'N passed, M failed'
 """
@@ -7,11 +7,11 @@ import struct
 import subprocess
 import sys
 
-ANSWERS = os.path.join(os.path.dirname(os.path.abspath(__file__)), "vectors/answers.bin")
+ANSWERS = os.path.join(os.path.dirname(os.path.abspath(__file__)), "../crates/vectors/data/answers.bin")
 
 
 def records(file):
-    """Each job and its answer, as bytes. vectors/README.md has the layout."""
+    """Each job and its answer, as bytes. crates/vectors/README.md has the layout."""
     form, count = struct.unpack_from("<2I", file)
     assert form == 1
     at = 8

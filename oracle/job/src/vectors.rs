@@ -1,4 +1,4 @@
-//! The file of fixed answers, oracle/vectors/answers.bin. Its layout stands in oracle/vectors/README.md.
+//! The file of fixed answers, crates/vectors/data/answers.bin. Its layout stands in crates/vectors/README.md.
 use crate::{Answer, Job, canonical, program_input};
 
 /// The file's form word.

@@ -1,0 +1,2 @@
+-- What the proofs of `vectors` share.
+pub mod Turns
