@@ -20,9 +20,10 @@ toldOf steps o =
 abbrev pub shiftText : Bool → List ℕ → List Float → List Float → List ℕ → List ℕ
 shiftText inverse sheet list velocities marks = toldOf (stepCountOf sheet) (shiftOf inverse sheet list velocities marks)
 
--- A bad job is 16, before all others; any other is its sheet over its list.
+-- a job's sheet over its list
+unfoldable pub jobText : List ℕ → List ℕ
+jobText j = shiftText (inverseOf j) (sheetOf j) (tuplesOf j) (velocitiesOf j) (marksOf j)
+
+-- A bad job is 16, before all others.
 unfoldable pub answerOf : List ℕ → List ℕ
-answerOf j =
-    cond (refusal16 (headOf j) (length j))
-    (refusedText 16 0)
-    (shiftText (inverseOf j) (sheetOf j) (tuplesOf j) (velocitiesOf j) (marksOf j))
+answerOf j = cond (refusal16 (headOf j) (length j)) (refusedText 16 0) (jobText j)

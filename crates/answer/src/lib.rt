@@ -3,12 +3,11 @@
 // Document 01, "Program". The text is fixed for every job by specs/Answer.antt, in a room of any length; the longest text has 35,156 bytes. A bad job is 16,
 // before all others. No rounding but the steps' own. Used by the program `shift`.
 ghost use mathlib.Core.Path.{_≡_};
-ghost use mathlib.Core.Bool.{true, false};
 ghost use Prim.Native.Nat.{_*_, _≤_};
-ghost use lib.ListN.{length, take, drop};
+ghost use lib.ListN.{length};
 ghost use Rattle.text.specs.Text.{text, appended};
-ghost use Rattle.job.specs.Job.{headOf, tuplesAt, velocitiesAt, marksAt, refusal16, numbersOf};
-ghost use Rattle.answer.specs.Answer.{shiftText, answerOf};
+ghost use Rattle.job.specs.Job.{headOf, marksAt};
+ghost use Rattle.answer.specs.Answer.{shiftText, jobText, answerOf};
 use job::Head;
 
 // A sheet over a list, told. The list is the caller's to drop.
@@ -31,10 +30,16 @@ fn told(
     report::ran(room, 0, sheet::step_count(s), &counts, list)
 }
 
-// A job that is not bad, in lists as long as its words say.
-fn good(room: &mut [u8], job: &[u8], head: Head, list: &mut [f64], velocities: &mut [f64]) -> usize
-    requires { ⌜ (head ≡ headOf (now job)) × (refusal16 head (length (now job)) ≡ false) × (length (now list) ≡ 4 * head .tuples) × (length (now velocities) ≡ 3 * head .velocities) ⌝ }
-    ensures { λ r. ⌜ text (now (room .exit)) r ≡ appended (text (now (room .entry)) 0) (answerOf (now (job .entry))) ⌝ }
+// A job's sheet over its list, in lists as long as its words say.
+fn shifted(
+    room: &mut [u8],
+    job: &[u8],
+    head: Head,
+    list: &mut [f64],
+    velocities: &mut [f64],
+) -> usize
+    requires { ⌜ (head ≡ headOf (now job)) × (marksAt head ≤ length (now job)) × (length (now list) ≡ 4 * head .tuples) × (length (now velocities) ≡ 3 * head .velocities) ⌝ }
+    ensures { λ r. ⌜ text (now (room .exit)) r ≡ appended (text (now (room .entry)) 0) (jobText (now (job .entry))) ⌝ }
 {
     let a = job::tuples_at(head);
     let b = job::velocities_at(head);
@@ -51,6 +56,13 @@ fn good(room: &mut [u8], job: &[u8], head: Head, list: &mut [f64], velocities: &
     )
 }
 
+// Room for the tuples of a job, and for its velocities.
+fn zeros() -> [f64; 2048]
+    ensures { λ r. ⌜ 2048 ≡ length r ⌝ }
+{
+    [0.0; 2048]
+}
+
 pub fn answer(job: &[u8], room: &mut [u8]) -> usize
     ensures { λ r. ⌜ text (now (room .exit)) r ≡ appended (text (now (room .entry)) 0) (answerOf (now (job .entry))) ⌝ }
 {
@@ -58,9 +70,9 @@ pub fn answer(job: &[u8], room: &mut [u8]) -> usize
     if job::is_bad(head, job.len()) {
         return report::refused(room, 0, 16, 0);
     }
-    let mut list = [0.0f64; 2048];
-    let mut velocities = [0.0f64; 1536];
+    let mut list = zeros();
+    let mut velocities = zeros();
     let n = 4 * job::wide(head.tuples);
     let m = 3 * job::wide(head.velocities);
-    good(room, job, head, &mut list[..n], &mut velocities[..m])
+    shifted(room, job, head, &mut list[..n], &mut velocities[..m])
 }
