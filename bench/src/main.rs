@@ -59,7 +59,7 @@ impl Run<'_> {
         let ns = took(|| {
             told = ours::shift_in_place(self.inverse, &self.sheet, list, &self.velocities, &self.marks, &mut counts);
         });
-        assert_eq!((told, counts[0]), (0, TUPLES));
+        assert_eq!((told, counts[0] as usize), (0, TUPLES));
         ns
     }
 
