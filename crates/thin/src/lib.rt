@@ -6,11 +6,15 @@ ghost use mathlib.Core.Path.{_≡_};
 ghost use mathlib.Core.Bool.{true, false, cond};
 ghost use Prim.Native.Nat.{_+_, _<_};
 ghost use Rattle.runs.specs.Turns.{noState};
+ghost use Rattle.sheet.specs.Rules.{ofSheet};
 ghost use Rattle.chain.specs.Chain.{turnsOf, stateOf};
-ghost use Rattle.thin.specs.Tuples.{tuplesOf, tallyOf};
+ghost use Rattle.chain.specs.Rules.{refusedAnswer, outcome, shiftOf};
+ghost use Rattle.thin.specs.Tuples.{tuplesOf, tallyOf, flatOf};
 ghost use Rattle.thin.specs.Plans.{planOf, startsOf, beginOf, tallied, turnOf};
+ghost use Rattle.thin.specs.Sheets.{placeOf, todoOf, thinRefusalOf, stepsOf, notedOf};
 use bodies::Step;
 use cart::Inverse;
+use chain::Answer;
 use deformation::Motion;
 use ellipsoid::Ellipsoid;
 use helmert::Shift;
@@ -18,6 +22,7 @@ use helmert::State;
 use molodensky::Moped;
 use permtide::Tide;
 use rotation::Vec3;
+use sheet::Refusal;
 use tuple::Tuple;
 
 // A step made ready: what depends on the record alone is worked out once a list.
@@ -192,4 +197,120 @@ pub fn run_step(
         i += 1;
     }
     at.counted
+}
+
+// ----- a sheet over the list -------------------------------------------------------------
+
+// What the loop over the steps takes of a sheet: the step's place, its direction and its record.
+pub struct Todo {
+    pub place: usize,
+    pub inverse: bool,
+    pub step: Step,
+}
+
+// The place of the step that comes i-th of n: the first first, inverse the last first.
+fn place_of(inverse: bool, n: usize, i: usize) -> usize
+    requires { ⌜ i < n ⌝ }
+    ensures { λ r. ⌜ r ≡ placeOf inverse n i ⌝ }
+{
+    if inverse { n - 1 - i } else { i }
+}
+
+// That step, in the chain's direction, turned round where its inverted word is 1.
+fn next_step(inverse: bool, s: &[u8], n: usize, i: usize) -> Todo
+    requires { ⌜ i < n ⌝ }
+    ensures { λ r. ⌜ r ≡ todoOf inverse (now (s .entry)) n i ⌝ }
+{
+    let place = place_of(inverse, n, i);
+    let entry = sheet::entry_at(s, place);
+    let step = entry.step;
+    let turned = chain::turned(inverse, entry);
+    Todo {
+        place: place,
+        inverse: turned,
+        step: step,
+    }
+}
+
+// A refusal of the lent lists carries no step.
+fn of_lists(number: u32) -> Refusal
+    ensures { λ r. ⌜ r ≡ ofSheet number ⌝ }
+{
+    Refusal {
+        number: number,
+        step: 0,
+    }
+}
+
+// The rules in document 01's order: the sheet's own, then 9, then 10.
+fn refusal_of(s: &[u8], tuples: usize, velocities: &[f64], marks: &[u8]) -> Refusal
+    ensures { λ r. ⌜ r ≡ thinRefusalOf (now (s .entry)) tuples (now (velocities .entry)) (now (marks .entry)) ⌝ }
+{
+    let own = sheet::check(s);
+    if own.number != 0 {
+        return own;
+    }
+    if 2048 < tuples {
+        return of_lists(9);
+    }
+    if chain::lent_broken(chain::has_deformation(s), 4 * tuples, velocities, marks) {
+        return of_lists(10);
+    }
+    Refusal::none()
+}
+
+// How many steps are run: none of a refused call.
+fn steps_of(s: &[u8], refusal: Refusal) -> usize
+    ensures { λ r. ⌜ r ≡ stepsOf (now (s .entry)) refusal ⌝ }
+{
+    if refusal.number == 0 {
+        return sheet::step_count(s);
+    }
+    0
+}
+
+// No counts yet.
+fn answer_of(refusal: Refusal) -> Answer
+    ensures { λ r. ⌜ r ≡ refusedAnswer refusal ⌝ }
+{
+    Answer {
+        refusal: refusal,
+        counts: [0usize; 16],
+    }
+}
+
+fn noted(answer: Answer, place: usize, count: usize) -> Answer
+    requires { ⌜ place < 16 ⌝ }
+    ensures { λ r. ⌜ r ≡ notedOf answer place count ⌝ }
+{
+    let mut counts = answer.counts;
+    let refusal = answer.refusal;
+    counts[place] = count;
+    Answer {
+        refusal: refusal,
+        counts: counts,
+    }
+}
+
+// A sheet's bytes over a list of tuples.
+pub fn shift(
+    inverse: bool,
+    s: &[u8],
+    list: &mut [Tuple],
+    velocities: &[f64],
+    marks: &[u8],
+) -> Answer
+    ensures { λ r. ⌜ outcome r (flatOf (now (list .exit))) ≡ shiftOf inverse (now (s .entry)) (flatOf (now (list .entry))) (now (velocities .entry)) (now (marks .entry)) ⌝ }
+{
+    let refusal = refusal_of(s, list.len(), velocities, marks);
+    let n = steps_of(s, refusal);
+    let mut answer = answer_of(refusal);
+    let mut i = 0;
+    while i < n {
+        let e = next_step(inverse, s, n, i);
+        let count = run_step(list, e.inverse, e.step, velocities, marks);
+        answer = noted(answer, e.place, count);
+        i += 1;
+    }
+    answer
 }
