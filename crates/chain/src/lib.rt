@@ -8,7 +8,7 @@ ghost use mathlib.Core.Path.{_≡_};
 ghost use mathlib.Core.Bool.{true, false};
 ghost use Prim.Native.Nat.{_*_, _≤_, _<_};
 ghost use lib.ListN.{length};
-ghost use Rattle.sheet.specs.Layout.{kindAt, entryAt};
+ghost use Rattle.sheet.specs.Layout.{stepCountOf as headerCountOf, kindAt, entryAt};
 ghost use Rattle.sheet.specs.Bytes.{entryOf, kindIn};
 ghost use Rattle.sheet.specs.Rules.{ofSheet, deformationBefore};
 ghost use Rattle.chain.specs.Chain.{turnedOf, stepListOf, stepCountOf, forwardOf, inverseOf, placesOf, entriesOf};
@@ -137,7 +137,7 @@ fn lent_for(deforms: bool, numbers: usize) -> usize
 }
 
 // Rule 10.
-fn lent_broken(deforms: bool, numbers: usize, velocities: &[f64], marks: &[u8]) -> bool
+pub fn lent_broken(deforms: bool, numbers: usize, velocities: &[f64], marks: &[u8]) -> bool
     ensures { λ r. ⌜ r ≡ refusal10 deforms numbers (now (velocities .entry)) (now (marks .entry)) ⌝ }
 {
     let tuples = lent_for(deforms, numbers);
@@ -162,6 +162,13 @@ fn deforms(s: &[u8], n: usize) -> bool
         i += 1;
     }
     found
+}
+
+// Whether a sheet has a deformation step.
+pub fn has_deformation(s: &[u8]) -> bool
+    ensures { λ r. ⌜ r ≡ deformationBefore (kindAt (now (s .entry))) (headerCountOf (now (s .entry))) ⌝ }
+{
+    deforms(s, sheet::step_count(s))
 }
 
 // ----- the entries ------------------------------------------------------------------------------

@@ -135,7 +135,7 @@ pub fn run_molodensky(list: &mut [f64], inverse: bool, step: Molodensky) -> usiz
 // ----- deformation -----------------------------------------------------------------------
 
 // The velocity of fix k; NaNs where none is lent.
-fn velocity_at(velocities: &[f64], k: usize) -> Velocity
+pub fn velocity_at(velocities: &[f64], k: usize) -> Velocity
     ensures { λ r. ⌜ r ≡ velocityAt (now (velocities .entry)) k ⌝ }
 {
     if k < velocities.len() / 3 {
@@ -155,7 +155,7 @@ fn velocity_at(velocities: &[f64], k: usize) -> Velocity
 }
 
 // The mark of fix k; absent where none is lent.
-fn mark_at(marks: &[u8], k: usize) -> u8
+pub fn mark_at(marks: &[u8], k: usize) -> u8
     ensures { λ r. ⌜ r ≡ markAt (now (marks .entry)) k ⌝ }
 {
     if k < marks.len() {

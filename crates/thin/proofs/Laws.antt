@@ -1,0 +1,279 @@
+-- A step over a list of tuple records is the step over the same numbers as a flat list; and the law by which the loop over the records is proved: what one
+-- turn makes carries the loop's invariant from a tuple to the next. Assumes nothing.
+use Prim.Native.Nat.{ℕ, zero, suc, _+_, _*_, _-_, _%_, _≤_, _<_}
+use native.Mathlib.Omega.{arith}
+use native.Mathlib.Nat.{add-assoc, add-zero, zero-add}
+use native.Mathlib.Numerals.{add-one}
+use mathlib.Core.Path.{_≡_, refl, sym, ap, _∙_}
+use mathlib.Core.Bool.{Bool, true, false, cond}
+use mathlib.Core.List.{List, [], _∷_, _++_, append-assoc, append-nil}
+use lib.ListN.{length, take, drop, set, getD, replicate, length-set, length-replicate, drop-of-length-le}
+use lib.Seq.{take-suc-set, drop-set-lt, drop-cons, take-all}
+use lib.Dec.{eqb, ltb}
+use lib.Ieee.{Float, nan}
+use borrow.Author.Tests.{eq-eqb, ne-eqb, eqb-true, lt-ltb, le-ltb, ltb-true, ltb-false}
+use Rattle.tuple.specs.declared.Tuple.{Tuple}
+use Rattle.tuple.specs.Sums.{nanTuple}
+use Rattle.helmert.specs.declared.State.{State}
+use Rattle.bodies.specs.declared.Step.{Step}
+use Rattle.bodies.specs.declared.Step.the-variants.{Cart, Permtide, Deformation, Molodensky, Helmert}
+use Rattle.lists.specs.Flat.{fourOf, numbersOf}
+use Rattle.lists.specs.Run.{Turns, ranOf, countOf}
+use Rattle.sheet.specs.declared.Entry.{Entry}
+use Rattle.sheet.specs.declared.Refusal.{Refusal}
+use Rattle.sheet.specs.Layout.{stepCountOf, kindAt, entryAt}
+use Rattle.sheet.specs.Rules.{accepted, ofSheet, firstBroken, deformationBefore, refusalOf}
+use Rattle.sheet.proofs.Order.{not-zero, accepted-count}
+use Rattle.chain.specs.declared.Answer.{Answer}
+use Rattle.chain.specs.Chain.{turnsOf, stateOf, stepListOf, stepCountOf as stepCountAt, forwardOf, inverseOf, chainOf, placesOf, entriesOf}
+use Rattle.chain.specs.Rules.{refusal9, refusal10, shiftRefusalOf, outcome, refusedAnswer, ranOutcome, outcomeOf, shiftOf}
+use Rattle.chain.proofs.Laws.{Forward, Backward, forward-start, forward-again, forward-end, backward-start, backward-again, backward-end}
+use Rattle.thin.specs.declared.Plan.{Plan}
+use Rattle.thin.specs.declared.Carried.{Carried}
+use Rattle.thin.specs.declared.Turned.{Turned}
+use Rattle.thin.specs.declared.Todo.{Todo}
+use Rattle.thin.specs.Tuples.{tuplesOf, tallyOf, flatOf}
+use Rattle.thin.specs.Plans.{planOf, planTurnsOf, startsOf, tallied, turnOf}
+use Rattle.thin.specs.Sheets.{placeOf, todoOf, thinRefusalOf, stepsOf}
+
+-- ---- the same numbers as a flat list
+
+pub flat-tuples : {S : Type 0} (f : Turns S) (k : ℕ) (state : S) (us : List Tuple) → flatOf (tuplesOf f k state us) ≡ ranOf f k state (flatOf us)
+flat-tuples f k state [] = refl
+flat-tuples f k state (u ∷ us) =
+    ap (λ (more : List Float). numbersOf (f k state u .tuple) ++ more) (flat-tuples f (suc k) (f k state u .state) us)
+
+pub flat-tally : {S : Type 0} (f : Turns S) (k : ℕ) (state : S) (us : List Tuple) → tallyOf f k state us ≡ countOf f k state (flatOf us)
+flat-tally f k state [] = refl
+flat-tally f k state (u ∷ us) =
+    ap (λ (more : ℕ). cond (f k state u .counted) 1 0 + more) (flat-tally f (suc k) (f k state u .state) us)
+
+-- two lists with the same numbers are the same list
+abbrev tuplesIn : List Float → List Tuple
+tuplesIn (x ∷ y ∷ z ∷ t ∷ rest) = fourOf x y z t ∷ tuplesIn rest
+tuplesIn (x ∷ y ∷ z ∷ []) = []
+tuplesIn (x ∷ y ∷ []) = []
+tuplesIn (x ∷ []) = []
+tuplesIn [] = []
+
+tuples-in-flat : (us : List Tuple) → tuplesIn (flatOf us) ≡ us
+tuples-in-flat [] = refl
+tuples-in-flat (u ∷ us) = ap (λ (more : List Tuple). u ∷ more) (tuples-in-flat us)
+
+pub flat-injective : (us ws : List Tuple) → flatOf us ≡ flatOf ws → us ≡ ws
+flat-injective us ws e = sym (tuples-in-flat us) ∙ ap tuplesIn e ∙ tuples-in-flat ws
+
+-- ---- a plan makes of every tuple what its step makes of it
+
+pub plan-turns : (velocities : List Float) (marks : List ℕ) (inverse : Bool) (step : Step) → planTurnsOf velocities marks (planOf inverse step) ≡ turnsOf inverse velocities marks step
+unfolding planOf
+plan-turns velocities marks true (Cart r) = refl
+plan-turns velocities marks false (Cart r) = refl
+plan-turns velocities marks true (Permtide r) = refl
+plan-turns velocities marks false (Permtide r) = refl
+plan-turns velocities marks inverse (Deformation r) = refl
+plan-turns velocities marks inverse (Molodensky r) = refl
+plan-turns velocities marks inverse (Helmert h) = refl
+
+pub plan-starts : (inverse : Bool) (step : Step) → startsOf (planOf inverse step) ≡ stateOf step
+unfolding planOf
+plan-starts true (Cart r) = refl
+plan-starts false (Cart r) = refl
+plan-starts true (Permtide r) = refl
+plan-starts false (Permtide r) = refl
+plan-starts inverse (Deformation r) = refl
+plan-starts inverse (Molodensky r) = refl
+plan-starts inverse (Helmert h) = refl
+
+pub turn-is : (velocities : List Float) (marks : List ℕ) (plan : Plan) (k : ℕ) (at : Carried) (u : Tuple)
+    → turnOf velocities marks plan k at u ≡ tallied at (planTurnsOf velocities marks plan k (at .state) u)
+unfolding turnOf
+turn-is velocities marks plan k at u = refl
+
+-- ---- the loop over the records
+
+-- the invariant at index i: what stands before it and what the run makes from there on are the run of the whole list, and so are the counts
+pub record Walked (f : Turns State) (start : State) (ys : List Tuple) (i : ℕ) (at : Carried) (zs : List Tuple) : Type 0 where
+  pub within : i ≤ length ys
+  pub long : length zs ≡ length ys
+  pub run : take i zs ++ tuplesOf f i (at .state) (drop i zs) ≡ tuplesOf f 0 start ys
+  pub total : at .counted + tallyOf f i (at .state) (drop i zs) ≡ tallyOf f 0 start ys
+  pub few : at .counted ≤ i
+
+pub walk-start : (f : Turns State) (start : State) (ys : List Tuple) → Walked f start ys 0 (record { state = start; counted = 0 }) ys
+walk-start f start ys = record { within = omega arith; long = refl; run = refl; total = zero-add (tallyOf f 0 start ys); few = omega arith }
+
+at-most-one : (b : Bool) → cond b 1 0 ≤ 1
+at-most-one true = omega arith
+at-most-one false = omega arith
+
+pub walk-again : {f : Turns State} {start : State} {ys : List Tuple} {i : ℕ} {at : Carried} {zs : List Tuple} {r : Turned} → i < length zs
+    → r ≡ tallied at (f i (at .state) (getD zs i nanTuple)) → Walked f start ys i at zs → Walked f start ys (i + 1) (r .carried) (set zs i (r .tuple))
+walk-again {f} {start} {ys} {i} {at} {zs} {r} h e now =
+    let after : drop (suc i) (set zs i (r .tuple)) ≡ drop (suc i) zs = drop-set-lt (suc i) zs i (r .tuple) (omega arith) in
+    record {
+      within = omega (arith, h, now .long);
+      long = length-set zs i (r .tuple) ∙ now .long;
+      run = rw (add-one, take-suc-set zs i (r .tuple) h, after, e, append-assoc) (rw (drop-cons zs i nanTuple h) at (now .run));
+      total = rw (add-one, after, e, add-assoc (at .counted)) (rw (drop-cons zs i nanTuple h) at (now .total));
+      few = rw e (omega (arith, at-most-one (f i (at .state) (getD zs i nanTuple) .counted), now .few));
+    }
+
+pub walk-end : {f : Turns State} {start : State} {ys : List Tuple} {i : ℕ} {at : Carried} {zs : List Tuple} → length zs ≤ i → Walked f start ys i at zs
+    → (zs ≡ tuplesOf f 0 start ys) × (at .counted ≡ tallyOf f 0 start ys)
+walk-end {f} {start} {ys} {i} {at} {zs} h now =
+    let none : drop i zs ≡ [] = drop-of-length-le zs h in
+    (rw (take-all i zs h, none, append-nil) at (now .run), rw (none, add-zero (at .counted)) at (now .total))
+
+-- ---- a sheet's steps over the records: the flat entry's laws, of the same numbers
+
+pub flat-length : (us : List Tuple) → length (flatOf us) ≡ 4 * length us
+flat-length [] = refl
+flat-length (u ∷ us) = rw (flat-length us) (omega arith)
+
+-- the rules read the list's length and nothing else of it
+pub same-refusal : (own : Refusal) (deforms : Bool) (l l′ velocities : List Float) (marks : List ℕ) → length l ≡ length l′ → shiftRefusalOf own deforms l velocities marks ≡ shiftRefusalOf own deforms l′ velocities marks
+unfolding shiftRefusalOf
+same-refusal own deforms l l′ velocities marks e = rw e
+
+pub refusal-is-flat : (s : List ℕ) (us : List Tuple) (velocities : List Float) (marks : List ℕ)
+    → thinRefusalOf s (length us) velocities marks ≡ shiftRefusalOf (refusalOf s) (deformationBefore (kindAt s) (stepCountOf s)) (flatOf us) velocities marks
+unfolding thinRefusalOf
+refusal-is-flat s us velocities marks = same-refusal _ _ _ _ velocities marks (length-replicate (4 * length us) nan ∙ sym (flat-length us))
+
+-- rule 9 of whole tuples
+four-times : (tuples : ℕ) → ltb 8192 (4 * tuples) ≡ ltb 2048 tuples
+four-times tuples = either-way (ltb 2048 tuples) refl
+  where
+    either-way : (t : Bool) → ltb 2048 tuples ≡ t → ltb 8192 (4 * tuples) ≡ t
+    either-way true e = lt-ltb 8192 (4 * tuples) (let h = ltb-true 2048 tuples e in omega arith)
+    either-way false e = le-ltb 8192 (4 * tuples) (let h = ltb-false 2048 tuples e in omega arith)
+
+nine-is : (tuples : ℕ) → refusal9 (4 * tuples) ≡ ltb 2048 tuples
+unfolding refusal9
+nine-is tuples = rw (eq-eqb (4 * tuples % 4) 0 (omega arith)) (four-times tuples)
+
+module _ (own : Refusal) (deforms : Bool) (l velocities : List Float) (marks : List ℕ) where
+  abbrev refusal : Refusal
+  refusal = shiftRefusalOf own deforms l velocities marks
+
+  pub own-first : (own .number ≡ 0 → ⊥) → refusal ≡ own
+  unfolding shiftRefusalOf firstBroken
+  own-first h = rw (ne-eqb (own .number) 0 h)
+
+  own-accepted : (k : ℕ) → own .number ≡ k → refusal .number ≡ 0 → own .number ≡ 0
+  own-accepted zero ek e = ek
+  own-accepted (suc k) ek e = ap (λ (r : Refusal). r .number) (sym (own-first (λ z. not-zero k (sym ek ∙ z)))) ∙ e
+
+  by-lists : (nine ten : Bool) → cond nine (ofSheet 9) (cond ten (ofSheet 10) accepted) .number ≡ 0 → cond nine (ofSheet 9) (cond ten (ofSheet 10) accepted) ≡ accepted
+  by-lists true ten e = absurd (not-zero 8 e)
+  by-lists false true e = absurd (not-zero 9 e)
+  by-lists false false e = refl
+
+  -- refusal 0 is the refusal of nothing
+  refusal-none : refusal .number ≡ 0 → refusal ≡ accepted
+  unfolding shiftRefusalOf firstBroken
+  refusal-none e =
+      let none : own .number ≡ 0 = own-accepted (own .number) refl e in
+      let e′ = rw (eq-eqb (own .number) 0 none) at e in
+      rw (eq-eqb (own .number) 0 none) (by-lists (refusal9 (length l)) (refusal10 deforms (length l) velocities marks) e′)
+
+-- the outcomes of the tests, in their order
+module _ (own : Refusal) (deforms : Bool) (tuples : ℕ) (velocities : List Float) (marks : List ℕ) (none : own .number ≡ 0) where
+  abbrev given : Refusal
+  given = shiftRefusalOf own deforms (replicate (4 * tuples) nan) velocities marks
+
+  pub too-many : 2048 < tuples → given ≡ ofSheet 9
+  unfolding shiftRefusalOf firstBroken
+  too-many h = rw (eq-eqb (own .number) 0 none, length-replicate (4 * tuples) nan, nine-is tuples, lt-ltb 2048 tuples h)
+
+  pub lent-wrong : tuples ≤ 2048 → refusal10 deforms (4 * tuples) velocities marks ≡ true → given ≡ ofSheet 10
+  unfolding shiftRefusalOf firstBroken
+  lent-wrong h ten = rw (eq-eqb (own .number) 0 none, length-replicate (4 * tuples) nan, nine-is tuples, le-ltb 2048 tuples h, ten)
+
+  pub nothing-wrong : tuples ≤ 2048 → refusal10 deforms (4 * tuples) velocities marks ≡ false → given ≡ accepted
+  unfolding shiftRefusalOf firstBroken
+  nothing-wrong h ten = rw (eq-eqb (own .number) 0 none, length-replicate (4 * tuples) nan, nine-is tuples, le-ltb 2048 tuples h, ten)
+
+-- at most 16 steps are run: of a refused call none, and an accepted sheet has no more
+steps-at : (s : List ℕ) (refusal : Refusal) (t : Bool) → eqb (refusal .number) 0 ≡ t → (refusal .number ≡ 0 → stepCountOf s ≤ 16) → cond t (stepCountOf s) 0 ≤ 16
+steps-at s refusal true e few = few (eqb-true (refusal .number) 0 e)
+steps-at s refusal false e few = omega arith
+
+pub steps-few : (s : List ℕ) (tuples : ℕ) (velocities : List Float) (marks : List ℕ) → stepsOf s (thinRefusalOf s tuples velocities marks) ≤ 16
+unfolding stepsOf thinRefusalOf
+steps-few s tuples velocities marks =
+    steps-at s (shiftRefusalOf (refusalOf s) (deformationBefore (kindAt s) (stepCountOf s)) (replicate (4 * tuples) nan) velocities marks) _ refl
+    (λ e. accepted-count s (own-accepted (refusalOf s) _ _ velocities marks (refusalOf s .number) refl e))
+
+-- ---- the loop over the steps, either way: `chain`'s invariants, of the same numbers
+
+abbrev pub Ahead : Bool → List Float → List ℕ → (ℕ → Entry) → ℕ → List Float → ℕ → List Float → List ℕ → Type 0
+Ahead false velocities marks entry n l₀ i l counts = Forward velocities marks entry n l₀ i l counts
+Ahead true velocities marks entry n l₀ i l counts = Backward velocities marks entry n l₀ (n - i) l counts
+
+module _ (velocities : List Float) (marks : List ℕ) (entry : ℕ → Entry) (n : ℕ) (l₀ : List Float) (most : n ≤ 16) where
+  pub ahead-start : (inverse : Bool) → Ahead inverse velocities marks entry n l₀ 0 l₀ (replicate 16 0)
+  ahead-start false = forward-start velocities marks entry n l₀ most
+  ahead-start true = let z : n - 0 ≡ n = omega arith in rw z (backward-start velocities marks entry n l₀ most)
+
+  module _ (i : ℕ) (l : List Float) (counts : List ℕ) where
+    pub ahead-again : (inverse : Bool) {l′ : List Float} {count : ℕ} → i < n
+        → l′ ≡ stepListOf inverse velocities marks (entry (placeOf inverse n i)) l → count ≡ stepCountAt inverse velocities marks (entry (placeOf inverse n i)) l
+        → Ahead inverse velocities marks entry n l₀ i l counts → Ahead inverse velocities marks entry n l₀ (i + 1) l′ (set counts (placeOf inverse n i) count)
+    ahead-again false h el ec now = forward-again most h refl el ec now
+    ahead-again true h el ec now =
+        let z : n - (i + 1) ≡ n - 1 - i = omega arith in
+        rw z (backward-again most (n - 1 - i) (omega (arith, h)) refl el ec now)
+
+    pub ahead-end : (inverse : Bool) → n ≤ i → Ahead inverse velocities marks entry n l₀ i l counts
+        → (l ≡ chainOf inverse velocities marks (entriesOf entry n 0) l₀ .list) × (counts ≡ placesOf (chainOf inverse velocities marks (entriesOf entry n 0) l₀ .counts))
+    ahead-end false h now = forward-end most h now
+    ahead-end true h now = backward-end most (omega (arith, h)) now
+
+-- one step over the records is the chain's step over the same numbers
+module _ (inverse : Bool) (s : List ℕ) (velocities : List Float) (marks : List ℕ) (n i : ℕ) (todo : Todo) (zs zs′ : List Tuple) (count : ℕ) (et : todo ≡ todoOf inverse s n i)
+    (ez : zs′ ≡ tuplesOf (turnsOf (todo .inverse) velocities marks (todo .step)) 0 (stateOf (todo .step)) zs) (ec : count ≡ tallyOf (turnsOf (todo .inverse) velocities marks (todo .step)) 0 (stateOf (todo .step)) zs) where
+  pub todo-list : flatOf zs′ ≡ stepListOf inverse velocities marks (entryAt s (placeOf inverse n i)) (flatOf zs)
+  unfolding todoOf stepListOf
+  todo-list = ap flatOf ez ∙ flat-tuples (turnsOf (todo .inverse) velocities marks (todo .step)) 0 (stateOf (todo .step)) zs ∙ rw et
+
+  pub todo-count : count ≡ stepCountAt inverse velocities marks (entryAt s (placeOf inverse n i)) (flatOf zs)
+  unfolding todoOf stepCountAt
+  todo-count = ec ∙ flat-tally (turnsOf (todo .inverse) velocities marks (todo .step)) 0 (stateOf (todo .step)) zs ∙ rw et
+
+-- no step: the list as it was, and no counts
+no-counts : (inverse : Bool) (velocities : List Float) (marks : List ℕ) (l : List Float) → placesOf (chainOf inverse velocities marks [] l .counts) ≡ replicate 16 0
+unfolding forwardOf inverseOf
+no-counts true velocities marks l = refl
+no-counts false velocities marks l = refl
+
+same-list : (inverse : Bool) (velocities : List Float) (marks : List ℕ) (l : List Float) → chainOf inverse velocities marks [] l .list ≡ l
+unfolding forwardOf inverseOf
+same-list true velocities marks l = refl
+same-list false velocities marks l = refl
+
+-- the loop's end: what the flat entry answers, and its list
+module _ (inverse : Bool) (s : List ℕ) (velocities : List Float) (marks : List ℕ) (ys zs : List Tuple) (answer : Answer) where
+  abbrev flat-refusal : Refusal
+  flat-refusal = shiftRefusalOf (refusalOf s) (deformationBefore (kindAt s) (stepCountOf s)) (flatOf ys) velocities marks
+
+  by-refusal : (t : Bool) → eqb (flat-refusal .number) 0 ≡ t → answer .refusal ≡ flat-refusal
+      → (flatOf zs ≡ chainOf inverse velocities marks (entriesOf (entryAt s) (cond t (stepCountOf s) 0) 0) (flatOf ys) .list)
+      → (answer .counts ≡ placesOf (chainOf inverse velocities marks (entriesOf (entryAt s) (cond t (stepCountOf s) 0) 0) (flatOf ys) .counts))
+      → outcome answer (flatOf zs) ≡ cond t (ranOutcome (chainOf inverse velocities marks (entriesOf (entryAt s) (stepCountOf s) 0) (flatOf ys))) (outcome (refusedAnswer flat-refusal) (flatOf ys))
+  unfolding entriesOf
+  by-refusal true e er el ec = λ j. outcome (record { refusal = (er ∙ refusal-none _ _ _ velocities marks (eqb-true (flat-refusal .number) 0 e)) j; counts = ec j }) (el j)
+  by-refusal false e er el ec = λ j. outcome (record { refusal = er j; counts = (ec ∙ no-counts inverse velocities marks (flatOf ys)) j }) ((el ∙ same-list inverse velocities marks (flatOf ys)) j)
+
+  pub shift-end : {refusal : Refusal} {n i : ℕ} → refusal ≡ thinRefusalOf s (length ys) velocities marks → n ≡ stepsOf s refusal → answer .refusal ≡ refusal → n ≤ i
+      → Ahead inverse velocities marks (entryAt s) n (flatOf ys) i (flatOf zs) (answer .counts) → outcome answer (flatOf zs) ≡ shiftOf inverse s (flatOf ys) velocities marks
+  unfolding shiftOf outcomeOf stepsOf
+  shift-end {refusal} {n} {i} er en ea past now =
+      let e : refusal ≡ flat-refusal = er ∙ refusal-is-flat s ys velocities marks in
+      let m : n ≡ cond (eqb (flat-refusal .number) 0) (stepCountOf s) 0 = en ∙ rw e in
+      let end = rw m at (ahead-end velocities marks (entryAt s) n (flatOf ys) (few er en) i (flatOf zs) (answer .counts) inverse past now) in
+      by-refusal (eqb (flat-refusal .number) 0) refl (ea ∙ e) (end .0) (end .1)
+    where
+      few : {refusal : Refusal} {n : ℕ} → refusal ≡ thinRefusalOf s (length ys) velocities marks → n ≡ stepsOf s refusal → n ≤ 16
+      few er en = rw (en, er) (steps-few s (length ys) velocities marks)

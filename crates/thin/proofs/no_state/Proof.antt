@@ -1,0 +1,10 @@
+-- `thin::no_state` meets its contract. Assumes nothing.
+use Rattle.floats.proofs.Nan.{zero-over-zero}
+use Rattle.thin.proofs.no_state.Statement.{statement}
+use Rattle.thin.proofs.no_state.Tie as tie
+
+returns : tie.Need-returns
+returns c = rw zero-over-zero
+
+pub no-state-spec : {M : Type 1} → statement M
+no-state-spec = tie.close (tie.spec returns)

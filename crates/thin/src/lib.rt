@@ -1,0 +1,316 @@
+// The thin entry over a lent list of tuple records.
+//
+// Document 01, "afterwards also a thin entry over a lent list of tuple records". The flat lists are the core; these few functions walk a `&mut [Tuple]`
+// where it stands and hand each tuple to the covered step.
+ghost use mathlib.Core.Path.{_≡_};
+ghost use mathlib.Core.Bool.{true, false, cond};
+ghost use Prim.Native.Nat.{_+_, _<_};
+ghost use Rattle.runs.specs.Turns.{noState};
+ghost use Rattle.sheet.specs.Rules.{ofSheet};
+ghost use Rattle.chain.specs.Chain.{turnsOf, stateOf};
+ghost use Rattle.chain.specs.Rules.{refusedAnswer, outcome, shiftOf};
+ghost use Rattle.thin.specs.Tuples.{tuplesOf, tallyOf, flatOf};
+ghost use Rattle.thin.specs.Plans.{planOf, startsOf, beginOf, tallied, turnOf};
+ghost use Rattle.thin.specs.Sheets.{placeOf, todoOf, thinRefusalOf, stepsOf, notedOf};
+use bodies::Step;
+use cart::Inverse;
+use chain::Answer;
+use deformation::Motion;
+use ellipsoid::Ellipsoid;
+use helmert::Shift;
+use helmert::State;
+use molodensky::Moped;
+use permtide::Tide;
+use rotation::Vec3;
+use sheet::Refusal;
+use tuple::Tuple;
+
+// A step made ready: what depends on the record alone is worked out once a list.
+pub enum Plan {
+    CartForward(Ellipsoid),
+    CartInverse(Inverse),
+    PermtideForward(Tide),
+    PermtideInverse(Tide),
+    MolodenskyEither(Moped, bool),
+    DeformationEither(Motion, bool),
+    HelmertEither(Shift, bool),
+}
+
+// What a loop carries from one tuple to the next: Helmert's state, and how many tuples counted.
+pub struct Carried {
+    pub state: State,
+    pub counted: usize,
+}
+
+pub struct Turned {
+    pub carried: Carried,
+    pub tuple: Tuple,
+}
+
+// ----- a step made ready -----------------------------------------------------------------
+
+fn plan_of(inverse: bool, step: Step) -> Plan
+    ensures { λ r. ⌜ r ≡ planOf inverse step ⌝ }
+{
+    match step {
+        Step::Cart(r) => {
+            let ellps = Ellipsoid::named(r.ellipsoid);
+            if inverse {
+                return Plan::CartInverse(Inverse::new(ellps));
+            }
+            return Plan::CartForward(ellps);
+        }
+        Step::Permtide(r) => {
+            let op = Tide::new(r);
+            if inverse {
+                return Plan::PermtideInverse(op);
+            }
+            return Plan::PermtideForward(op);
+        }
+        Step::Deformation(r) => {
+            return Plan::DeformationEither(Motion::new(r), inverse);
+        }
+        Step::Molodensky(r) => {
+            return Plan::MolodenskyEither(Moped::new(r), inverse);
+        }
+        Step::Helmert(h) => {
+            return Plan::HelmertEither(helmert::prepare(h), inverse);
+        }
+    }
+}
+
+// No state: NaN and zeros, which no step but Helmert's reads.
+fn no_state() -> State
+    ensures { λ r. ⌜ r ≡ noState ⌝ }
+{
+    State {
+        last: 0.0 / 0.0,
+        t: Vec3 {
+            x: 0.0,
+            y: 0.0,
+            z: 0.0,
+        },
+    }
+}
+
+fn start_of(plan: Plan) -> State
+    ensures { λ r. ⌜ r ≡ startsOf plan ⌝ }
+{
+    match plan {
+        Plan::CartForward(_) => no_state(),
+        Plan::CartInverse(_) => no_state(),
+        Plan::PermtideForward(_) => no_state(),
+        Plan::PermtideInverse(_) => no_state(),
+        Plan::MolodenskyEither(_, _) => no_state(),
+        Plan::DeformationEither(_, _) => no_state(),
+        Plan::HelmertEither(shift, _) => helmert::start(shift),
+    }
+}
+
+fn begin(plan: Plan) -> Carried
+    ensures { λ r. ⌜ r ≡ beginOf plan ⌝ }
+{
+    let state = start_of(plan);
+    Carried {
+        state: state,
+        counted: 0,
+    }
+}
+
+// ----- one tuple -------------------------------------------------------------------------
+
+// One more where a tuple counts.
+fn tally(n: usize, counted: bool) -> usize
+    requires { ⌜ n < 18446744073709551615 ⌝ }
+    ensures { λ r. ⌜ r ≡ n + cond counted 1 0 ⌝ }
+{
+    if counted { n + 1 } else { n }
+}
+
+fn carried_on(at: Carried, state: State, tuple: Tuple, counted: bool) -> Turned
+    requires { ⌜ at .counted < 18446744073709551615 ⌝ }
+    ensures { λ r. ⌜ r ≡ tallied at (record { state = state; tuple = tuple; counted = counted }) ⌝ }
+{
+    let n = tally(at.counted, counted);
+    let carried = Carried { state: state, counted: n };
+    Turned { carried: carried, tuple: tuple }
+}
+
+fn turn(plan: Plan, at: Carried, k: usize, u: Tuple, velocities: &[f64], marks: &[u8]) -> Turned
+    requires { ⌜ at .counted < 18446744073709551615 ⌝ }
+    ensures { λ r. ⌜ r ≡ turnOf (now (velocities .entry)) (now (marks .entry)) plan k at u ⌝ }
+{
+    let state = at.state;
+    match plan {
+        Plan::CartForward(ellps) => {
+            let r = cart::cart_fwd(ellps, u);
+            return carried_on(at, state, r.tuple, r.counted);
+        }
+        Plan::CartInverse(c) => {
+            let r = cart::cart_inv(c, u);
+            return carried_on(at, state, r.tuple, r.counted);
+        }
+        Plan::PermtideForward(op) => {
+            let v = permtide::fwd(op, u);
+            return carried_on(at, state, v, true);
+        }
+        Plan::PermtideInverse(op) => {
+            let v = permtide::inv(op, u);
+            return carried_on(at, state, v, true);
+        }
+        Plan::MolodenskyEither(op, inverse) => {
+            let v = molodensky::common(op, inverse, u);
+            return carried_on(at, state, v, true);
+        }
+        Plan::DeformationEither(op, inverse) => {
+            let v = runs::velocity_at(velocities, k);
+            let r = deformation::common(op, inverse, v, runs::mark_at(marks, k), u);
+            return carried_on(at, state, r.tuple, r.counted);
+        }
+        Plan::HelmertEither(shift, inverse) => {
+            let r = helmert::step(shift, inverse, state, u);
+            return carried_on(at, r.state, r.tuple, true);
+        }
+    }
+}
+
+// ----- a step over the list --------------------------------------------------------------
+
+// One step over a list, either way: Helmert in every mode with its carried state, and the four that have none.
+pub fn run_step(
+    list: &mut [Tuple],
+    inverse: bool,
+    step: Step,
+    velocities: &[f64],
+    marks: &[u8],
+) -> usize
+    ensures { λ r. ⌜ (now (list .exit) ≡ tuplesOf (turnsOf inverse (now (velocities .entry)) (now (marks .entry)) step) 0 (stateOf step) (now (list .entry)))
+        × (r ≡ tallyOf (turnsOf inverse (now (velocities .entry)) (now (marks .entry)) step) 0 (stateOf step) (now (list .entry))) ⌝ }
+{
+    let plan = plan_of(inverse, step);
+    let mut at = begin(plan);
+    let mut i = 0;
+    while i < list.len() {
+        let r = turn(plan, at, i, list[i], velocities, marks);
+        list[i] = r.tuple;
+        at = r.carried;
+        i += 1;
+    }
+    at.counted
+}
+
+// ----- a sheet over the list -------------------------------------------------------------
+
+// What the loop over the steps takes of a sheet: the step's place, its direction and its record.
+pub struct Todo {
+    pub place: usize,
+    pub inverse: bool,
+    pub step: Step,
+}
+
+// The place of the step that comes i-th of n: the first first, inverse the last first.
+fn place_of(inverse: bool, n: usize, i: usize) -> usize
+    requires { ⌜ i < n ⌝ }
+    ensures { λ r. ⌜ r ≡ placeOf inverse n i ⌝ }
+{
+    if inverse { n - 1 - i } else { i }
+}
+
+// That step, in the chain's direction, turned round where its inverted word is 1.
+fn next_step(inverse: bool, s: &[u8], n: usize, i: usize) -> Todo
+    requires { ⌜ i < n ⌝ }
+    ensures { λ r. ⌜ r ≡ todoOf inverse (now (s .entry)) n i ⌝ }
+{
+    let place = place_of(inverse, n, i);
+    let entry = sheet::entry_at(s, place);
+    let step = entry.step;
+    let turned = chain::turned(inverse, entry);
+    Todo {
+        place: place,
+        inverse: turned,
+        step: step,
+    }
+}
+
+// A refusal of the lent lists carries no step.
+fn of_lists(number: u32) -> Refusal
+    ensures { λ r. ⌜ r ≡ ofSheet number ⌝ }
+{
+    Refusal {
+        number: number,
+        step: 0,
+    }
+}
+
+// The rules in document 01's order: the sheet's own, then 9, then 10.
+fn refusal_of(s: &[u8], tuples: usize, velocities: &[f64], marks: &[u8]) -> Refusal
+    ensures { λ r. ⌜ r ≡ thinRefusalOf (now (s .entry)) tuples (now (velocities .entry)) (now (marks .entry)) ⌝ }
+{
+    let own = sheet::check(s);
+    if own.number != 0 {
+        return own;
+    }
+    if 2048 < tuples {
+        return of_lists(9);
+    }
+    if chain::lent_broken(chain::has_deformation(s), 4 * tuples, velocities, marks) {
+        return of_lists(10);
+    }
+    Refusal::none()
+}
+
+// How many steps are run: none of a refused call.
+fn steps_of(s: &[u8], refusal: Refusal) -> usize
+    ensures { λ r. ⌜ r ≡ stepsOf (now (s .entry)) refusal ⌝ }
+{
+    if refusal.number == 0 {
+        return sheet::step_count(s);
+    }
+    0
+}
+
+// No counts yet.
+fn answer_of(refusal: Refusal) -> Answer
+    ensures { λ r. ⌜ r ≡ refusedAnswer refusal ⌝ }
+{
+    Answer {
+        refusal: refusal,
+        counts: [0usize; 16],
+    }
+}
+
+fn noted(answer: Answer, place: usize, count: usize) -> Answer
+    requires { ⌜ place < 16 ⌝ }
+    ensures { λ r. ⌜ r ≡ notedOf answer place count ⌝ }
+{
+    let mut counts = answer.counts;
+    let refusal = answer.refusal;
+    counts[place] = count;
+    Answer {
+        refusal: refusal,
+        counts: counts,
+    }
+}
+
+// A sheet's bytes over a list of tuples.
+pub fn shift(
+    inverse: bool,
+    s: &[u8],
+    list: &mut [Tuple],
+    velocities: &[f64],
+    marks: &[u8],
+) -> Answer
+    ensures { λ r. ⌜ outcome r (flatOf (now (list .exit))) ≡ shiftOf inverse (now (s .entry)) (flatOf (now (list .entry))) (now (velocities .entry)) (now (marks .entry)) ⌝ }
+{
+    let refusal = refusal_of(s, list.len(), velocities, marks);
+    let n = steps_of(s, refusal);
+    let mut answer = answer_of(refusal);
+    let mut i = 0;
+    while i < n {
+        let e = next_step(inverse, s, n, i);
+        let count = run_step(list, e.inverse, e.step, velocities, marks);
+        answer = noted(answer, e.place, count);
+        i += 1;
+    }
+    answer
+}
