@@ -134,3 +134,7 @@ going-on {t₀} {t} {u} {whole} {rest} piece rest′ g p e =
 
 pub going-ends : {t₀ t : Text} {whole rest : List ℕ} → Going t₀ whole t rest → rest ≡ [] → t ≡ appended t₀ whole
 going-ends {t₀} {t} g e = sym (no-more t (g .in-room)) ∙ ap (appended t) (sym e) ∙ g .goal
+
+-- a start that is within its room already
+pub going-here : (t : Text) (whole : List ℕ) → t .place ≤ length (t .room) → Going t whole t whole
+going-here t whole h = record { goal = refl; in-room = h; as-long = refl }
