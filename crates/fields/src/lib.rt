@@ -5,6 +5,7 @@
 // no number by its bits. Every byte is fixed for every input and a room of any length. Used by `show`.
 ghost use mathlib.Core.Path.{_≡_};
 ghost use Rattle.text.specs.Text.{text, appended};
+ghost use Rattle.text.specs.Digits.{decimalOf};
 ghost use Rattle.fields.specs.Words.{helmertFlags, molodenskyFlags, deformationFlags, conventionText, conventionLine, systemText, systemLine, kindText, kindLine, invertedText, invertedLine};
 ghost use Rattle.fields.specs.Fields.{lengthUnit, angleUnit, lengthsText, anglesText, scalesText, helmertText, cartText, figuresText, shiftsText, molodenskyText, permtideText, deformationText, fieldsText};
 use lines::Unit;
@@ -17,12 +18,17 @@ fn wide(x: u32) -> u64
     x as u64
 }
 
+fn put_u32(room: &mut [u8], at: usize, n: u32) -> usize
+    ensures { λ r. ⌜ text (now (room .exit)) r ≡ appended (text (now (room .entry)) at) (decimalOf n) ⌝ }
+{
+    text::put_decimal(room, at, wide(n))
+}
+
 fn put_helmert_flags(room: &mut [u8], at: usize, flags: u32) -> usize
     ensures { λ r. ⌜ text (now (room .exit)) r ≡ appended (text (now (room .entry)) at) (helmertFlags flags) ⌝ }
 {
-    let n = wide(flags);
     let p = text::put_bytes(room, at, b"  flags: ");
-    let q = text::put_decimal(room, p, n);
+    let q = put_u32(room, p, flags);
     let r = lines::put_flag(room, q, b"; exact ", flags % 2 == 1);
     let t = lines::put_flag(room, r, b"; uas ", flags / 2 % 2 == 1);
     let u = lines::put_flag(room, t, b"; mm ", flags / 4 % 2 == 1);
@@ -33,9 +39,8 @@ fn put_helmert_flags(room: &mut [u8], at: usize, flags: u32) -> usize
 fn put_molodensky_flags(room: &mut [u8], at: usize, flags: u32) -> usize
     ensures { λ r. ⌜ text (now (room .exit)) r ≡ appended (text (now (room .entry)) at) (molodenskyFlags flags) ⌝ }
 {
-    let n = wide(flags);
     let p = text::put_bytes(room, at, b"  flags: ");
-    let q = text::put_decimal(room, p, n);
+    let q = put_u32(room, p, flags);
     let r = lines::put_flag(room, q, b"; abridged ", flags % 2 == 1);
     let t = lines::put_flag(room, r, b"; two ellipsoids ", flags / 2 % 2 == 1);
     text::put_bytes(room, t, b"\n")
@@ -44,9 +49,8 @@ fn put_molodensky_flags(room: &mut [u8], at: usize, flags: u32) -> usize
 fn put_deformation_flags(room: &mut [u8], at: usize, flags: u32) -> usize
     ensures { λ r. ⌜ text (now (room .exit)) r ≡ appended (text (now (room .entry)) at) (deformationFlags flags) ⌝ }
 {
-    let n = wide(flags);
     let p = text::put_bytes(room, at, b"  flags: ");
-    let q = text::put_decimal(room, p, n);
+    let q = put_u32(room, p, flags);
     let r = lines::put_flag(room, q, b"; raw ", flags % 2 == 1);
     text::put_bytes(room, r, b"\n")
 }
@@ -70,7 +74,7 @@ fn put_convention(room: &mut [u8], at: usize, n: u32) -> usize
     ensures { λ r. ⌜ text (now (room .exit)) r ≡ appended (text (now (room .entry)) at) (conventionLine n) ⌝ }
 {
     let p = text::put_bytes(room, at, b"  convention: ");
-    let q = text::put_decimal(room, p, wide(n));
+    let q = put_u32(room, p, n);
     put_convention_words(room, q, n)
 }
 
@@ -93,7 +97,7 @@ fn put_system(room: &mut [u8], at: usize, name: &[u8], n: u32) -> usize
     ensures { λ r. ⌜ text (now (room .exit)) r ≡ appended (text (now (room .entry)) at) (systemLine (now (name .entry)) n) ⌝ }
 {
     let p = text::put_bytes(room, at, name);
-    let q = text::put_decimal(room, p, wide(n));
+    let q = put_u32(room, p, n);
     put_system_words(room, q, n)
 }
 
@@ -122,7 +126,7 @@ pub fn put_kind(room: &mut [u8], at: usize, n: u32) -> usize
     ensures { λ r. ⌜ text (now (room .exit)) r ≡ appended (text (now (room .entry)) at) (kindLine n) ⌝ }
 {
     let p = text::put_bytes(room, at, b"  kind: ");
-    let q = text::put_decimal(room, p, wide(n));
+    let q = put_u32(room, p, n);
     put_kind_words(room, q, n)
 }
 
@@ -142,7 +146,7 @@ pub fn put_inverted(room: &mut [u8], at: usize, n: u32) -> usize
     ensures { λ r. ⌜ text (now (room .exit)) r ≡ appended (text (now (room .entry)) at) (invertedLine n) ⌝ }
 {
     let p = text::put_bytes(room, at, b"  inverted: ");
-    let q = text::put_decimal(room, p, wide(n));
+    let q = put_u32(room, p, n);
     put_inverted_words(room, q, n)
 }
 
