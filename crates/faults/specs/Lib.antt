@@ -1,0 +1,2 @@
+-- What the contracts of `faults` cite.
+pub mod Faults

@@ -1,0 +1,16 @@
+-- `fields::length_unit` meets its contract. Assumes nothing.
+use Rattle.fields.specs.Fields.{lengthUnit}
+use Rattle.fields.specs.Fields.{lengthsText}
+use Rattle.fields.proofs.length_unit.Statement.{statement}
+use Rattle.fields.proofs.length_unit.Tie as tie
+
+returns : tie.Need-returns
+unfolding lengthUnit
+returns c = rw (c .if1 .taken)
+
+returns-2 : tie.Need-returns-2
+unfolding lengthUnit
+returns-2 c = rw (c .if1 .left)
+
+pub length-unit-spec : {M : Type 1} → statement M
+length-unit-spec = tie.close (tie.spec returns returns-2)

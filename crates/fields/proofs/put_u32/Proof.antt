@@ -1,0 +1,19 @@
+-- `fields::put_u32` meets its contract. Assumes nothing.
+use borrow.Author.Needs.{needs}
+use Rattle.fields.proofs.put_u32.Statement.{statement}
+use Rattle.fields.proofs.put_u32.Tie as tie
+
+wide-requires : tie.Need-wide-requires
+wide-requires c κs = search needs
+
+put-decimal-requires : tie.Need-put-decimal-requires
+put-decimal-requires c κs = search needs
+
+same-length : tie.Need-same-length
+same-length c = search needs
+
+returns : tie.Need-returns
+returns c = rw (← c .before .before .before .wide .ensures) (c .before .before .put-decimal .ensures)
+
+pub put-u32-spec : {M : Type 1} → statement M
+put-u32-spec = tie.close (tie.spec wide-requires put-decimal-requires same-length returns)

@@ -1,0 +1,2 @@
+-- Known values.
+pub mod Examples

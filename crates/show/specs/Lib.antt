@@ -1,0 +1,2 @@
+-- What the contracts of `show` cite.
+pub mod Show

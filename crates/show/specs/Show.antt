@@ -1,0 +1,89 @@
+-- A sheet shown: its header, and step by step its directory entry and its fields; or the refusal in words, with the step and the place.
+use Prim.Native.Nat.{ℕ, zero, suc, _+_, _-_, _*_}
+use mathlib.Core.Bool.{cond}
+use mathlib.Core.List.{List, [], _++_}
+use lib.Dec.{eqb}
+use lib.ListN.{length}
+use Rattle.sheet.specs.Layout.{formOf, totalLengthOf, stepCountOf, directoryOffsetOf, kindAt, invertedAt, offsetAt, lengthAt}
+use Rattle.sheet.specs.Rules.{refusalOf}
+use Rattle.text.specs.Ascii.{ascii}
+use Rattle.text.specs.Digits.{decimalOf}
+use Rattle.fields.specs.Words.{kindLine, invertedLine}
+use Rattle.fields.specs.Fields.{fieldsText}
+use Rattle.faults.specs.Faults.{faultOf}
+
+-- a name and a number
+unfoldable pub lineOf : List ℕ → ℕ → List ℕ
+lineOf name n = name ++ decimalOf n ++ ascii "\n"
+
+-- ---- the header: form; total length; step count; directory offset
+
+unfoldable pub headerText : ℕ → ℕ → ℕ → ℕ → List ℕ
+headerText form total count offset =
+    lineOf (ascii "form: ") form
+    ++ lineOf (ascii "total length: ") total
+    ++ lineOf (ascii "step count: ") count
+    ++ lineOf (ascii "directory offset: ") offset
+
+unfoldable pub headText : List ℕ → List ℕ
+headText s = headerText (formOf s) (totalLengthOf s) (stepCountOf s) (directoryOffsetOf s)
+
+-- ---- a step: its directory entry, kind; inverted; body offset; body length; then its fields
+
+unfoldable pub entryText : ℕ → ℕ → ℕ → ℕ → List ℕ
+entryText kind inverted offset bodyLength =
+    kindLine kind ++ invertedLine inverted ++ lineOf (ascii "  body offset: ") offset ++ lineOf (ascii "  body length: ") bodyLength
+
+unfoldable pub stepText : List ℕ → ℕ → List ℕ
+stepText s i =
+    lineOf (ascii "step ") (i + 1)
+    ++ entryText (kindAt s i) (invertedAt s i) (offsetAt s i) (lengthAt s i)
+    ++ fieldsText (kindAt s i) s (offsetAt s i)
+
+-- k steps from step i on
+unfoldable pub stepsText : List ℕ → ℕ → ℕ → List ℕ
+stepsText s zero i = []
+stepsText s (suc k) i = stepText s i ++ stepsText s k (i + 1)
+
+unfoldable pub acceptedText : List ℕ → List ℕ
+acceptedText s = headText s ++ stepsText s (stepCountOf s) 0
+
+-- ---- a refusal
+
+-- the rule in document 01's words
+unfoldable pub ruleText : ℕ → List ℕ
+ruleText n =
+    cond (eqb n 1) (ascii "fewer than 16 or more than 4,240 bytes, or total length differs\n")
+    (cond (eqb n 2) (ascii "form not 1\n")
+    (cond (eqb n 3) (ascii "step count 0 or over 16\n")
+    (cond (eqb n 4) (ascii "directory offset not 16, a directory outside the sheet, a kind, inverted word or body length outside its rule, an offset not where the body before it ends, or bodies not ending at the total length\n")
+    (cond (eqb n 5) (ascii "a body field outside its rule\n")
+    (cond (eqb n 6) (ascii "rotated, convention none\n")
+    (cond (eqb n 7) (ascii "dynamic, t_epoch not given\n")
+    (cond (eqb n 8) (ascii "neither dt nor t_epoch\n")
+    (ascii "second deformation step\n"))))))))
+
+unfoldable pub answerText : ℕ → ℕ → List ℕ
+answerText number step = ascii "refused " ++ decimalOf number ++ ascii " step " ++ decimalOf step ++ ascii ": " ++ ruleText number
+
+-- the byte of the word that a refusal of the sheet as a whole is about: 1 the total length, 2 the form, 3 the step count, 4 where the fault is
+unfoldable pub wordPlace : List ℕ → ℕ → ℕ
+wordPlace s number = cond (eqb number 1) 4 (cond (eqb number 2) 0 (cond (eqb number 3) 8 (faultOf s)))
+
+unfoldable pub sheetPlace : List ℕ → ℕ → List ℕ
+sheetPlace s number = lineOf (ascii "place: byte ") (wordPlace s number) ++ lineOf (ascii "bytes: ") (length s) ++ headText s
+
+-- a step's entry and body, and the step as it is
+unfoldable pub stepPlace : List ℕ → ℕ → List ℕ
+stepPlace s i =
+    lineOf (ascii "place: directory entry at byte ") (16 + 16 * i)
+    ++ lineOf (ascii "place: body at byte ") (offsetAt s i)
+    ++ stepText s i
+
+unfoldable pub refusedText : List ℕ → ℕ → ℕ → List ℕ
+refusedText s number step = answerText number step ++ cond (eqb step 0) (sheetPlace s number) (stepPlace s (step - 1))
+
+-- ---- a sheet
+
+unfoldable pub showText : List ℕ → List ℕ
+showText s = cond (eqb (refusalOf s .number) 0) (acceptedText s) (refusedText s (refusalOf s .number) (refusalOf s .step))

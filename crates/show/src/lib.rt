@@ -1,0 +1,225 @@
+// A sheet shown to whoever fits it: every field by its name and in its unit; or the refusal in words, with the step and the place.
+//
+// The text is fixed byte by byte by specs/Show.antt, for every sheet and a room of any length. A refused sheet's text has the rule in document 01's words; for
+// a refusal of the sheet as a whole the byte of the word that it is about and the header; for a step's refusal the bytes of its directory entry and its body, and
+// the whole step as it is. Used by the program sheet_show.
+ghost use mathlib.Core.Path.{_≡_};
+ghost use Prim.Native.Nat.{_+_, _-_, _<_};
+ghost use lib.ListN.{length};
+ghost use Rattle.text.specs.Text.{text, appended};
+ghost use Rattle.text.specs.Digits.{decimalOf};
+ghost use Rattle.show.specs.Show.{lineOf, headerText, headText, entryText, stepText, stepsText, acceptedText, ruleText, answerText, wordPlace, sheetPlace, stepPlace, refusedText, showText};
+
+fn wide(x: u32) -> usize
+    ensures { λ r. ⌜ (r ≡ x) × (r < 4294967296) ⌝ }
+{
+    x as usize
+}
+
+fn long(x: usize) -> u64
+    ensures { λ r. ⌜ r ≡ x ⌝ }
+{
+    x as u64
+}
+
+fn put_count(room: &mut [u8], at: usize, n: usize) -> usize
+    ensures { λ r. ⌜ text (now (room .exit)) r ≡ appended (text (now (room .entry)) at) (decimalOf n) ⌝ }
+{
+    text::put_decimal(room, at, long(n))
+}
+
+fn put_line(room: &mut [u8], at: usize, name: &[u8], n: usize) -> usize
+    ensures { λ r. ⌜ text (now (room .exit)) r ≡ appended (text (now (room .entry)) at) (lineOf (now (name .entry)) n) ⌝ }
+{
+    let p = text::put_bytes(room, at, name);
+    let q = put_count(room, p, n);
+    text::put_bytes(room, q, b"\n")
+}
+
+fn put_word(room: &mut [u8], at: usize, name: &[u8], n: u32) -> usize
+    ensures { λ r. ⌜ text (now (room .exit)) r ≡ appended (text (now (room .entry)) at) (lineOf (now (name .entry)) n) ⌝ }
+{
+    put_line(room, at, name, wide(n))
+}
+
+// ----- the header -------------------------------------------------------------------------
+
+fn put_header(room: &mut [u8], at: usize, form: u32, total: u32, count: u32, offset: u32) -> usize
+    ensures { λ r. ⌜ text (now (room .exit)) r ≡ appended (text (now (room .entry)) at) (headerText form total count offset) ⌝ }
+{
+    let p = put_word(room, at, b"form: ", form);
+    let q = put_word(room, p, b"total length: ", total);
+    let r = put_word(room, q, b"step count: ", count);
+    put_word(room, r, b"directory offset: ", offset)
+}
+
+fn put_head(room: &mut [u8], at: usize, s: &[u8]) -> usize
+    ensures { λ r. ⌜ text (now (room .exit)) r ≡ appended (text (now (room .entry)) at) (headText (now (s .entry))) ⌝ }
+{
+    let form = words::read32(s, 0);
+    let total = words::read32(s, 4);
+    let count = words::read32(s, 8);
+    let offset = words::read32(s, 12);
+    put_header(room, at, form, total, count, offset)
+}
+
+// ----- a step -----------------------------------------------------------------------------
+
+fn put_entry(room: &mut [u8], at: usize, kind: u32, inverted: u32, offset: u32, length: u32) -> usize
+    ensures { λ r. ⌜ text (now (room .exit)) r ≡ appended (text (now (room .entry)) at) (entryText kind inverted offset length) ⌝ }
+{
+    let p = fields::put_kind(room, at, kind);
+    let q = fields::put_inverted(room, p, inverted);
+    let r = put_word(room, q, b"  body offset: ", offset);
+    put_word(room, r, b"  body length: ", length)
+}
+
+fn put_step(room: &mut [u8], at: usize, s: &[u8], i: usize) -> usize
+    requires { ⌜ i < 4294967296 ⌝ }
+    ensures { λ r. ⌜ text (now (room .exit)) r ≡ appended (text (now (room .entry)) at) (stepText (now (s .entry)) i) ⌝ }
+{
+    let place = 16 + 16 * i;
+    let kind = words::read32(s, place);
+    let inverted = words::read32(s, place + 4);
+    let offset = words::read32(s, place + 8);
+    let length = words::read32(s, place + 12);
+    let p = put_line(room, at, b"step ", i + 1);
+    let q = put_entry(room, p, kind, inverted, offset, length);
+    fields::put_fields(room, q, kind, s, offset)
+}
+
+fn put_steps(room: &mut [u8], at: usize, s: &[u8], n: usize) -> usize
+    requires { ⌜ n < 4294967296 ⌝ }
+    ensures { λ r. ⌜ text (now (room .exit)) r ≡ appended (text (now (room .entry)) at) (stepsText (now (s .entry)) n 0) ⌝ }
+{
+    let mut p = text::put_bytes(room, at, b"");
+    let mut i = 0;
+    while i < n {
+        p = put_step(room, p, s, i);
+        i += 1;
+    }
+    p
+}
+
+fn put_accepted(room: &mut [u8], at: usize, s: &[u8]) -> usize
+    ensures { λ r. ⌜ text (now (room .exit)) r ≡ appended (text (now (room .entry)) at) (acceptedText (now (s .entry))) ⌝ }
+{
+    let n = sheet::step_count(s);
+    let p = put_head(room, at, s);
+    put_steps(room, p, s, n)
+}
+
+// ----- a refusal --------------------------------------------------------------------------
+
+fn put_rule(room: &mut [u8], at: usize, number: u32) -> usize
+    ensures { λ r. ⌜ text (now (room .exit)) r ≡ appended (text (now (room .entry)) at) (ruleText number) ⌝ }
+{
+    if number == 1 {
+        return text::put_bytes(
+            room,
+            at,
+            b"fewer than 16 or more than 4,240 bytes, or total length differs\n",
+        );
+    }
+    if number == 2 {
+        return text::put_bytes(room, at, b"form not 1\n");
+    }
+    if number == 3 {
+        return text::put_bytes(room, at, b"step count 0 or over 16\n");
+    }
+    if number == 4 {
+        return text::put_bytes(
+            room,
+            at,
+            b"directory offset not 16, a directory outside the sheet, a kind, inverted word or body length outside its rule, an offset not where the body before it ends, or bodies not ending at the total length\n",
+        );
+    }
+    if number == 5 {
+        return text::put_bytes(room, at, b"a body field outside its rule\n");
+    }
+    if number == 6 {
+        return text::put_bytes(room, at, b"rotated, convention none\n");
+    }
+    if number == 7 {
+        return text::put_bytes(room, at, b"dynamic, t_epoch not given\n");
+    }
+    if number == 8 {
+        return text::put_bytes(room, at, b"neither dt nor t_epoch\n");
+    }
+    text::put_bytes(room, at, b"second deformation step\n")
+}
+
+fn put_answer(room: &mut [u8], at: usize, number: u32, step: u32) -> usize
+    ensures { λ r. ⌜ text (now (room .exit)) r ≡ appended (text (now (room .entry)) at) (answerText number step) ⌝ }
+{
+    let p = text::put_bytes(room, at, b"refused ");
+    let q = put_number(room, p, number);
+    let r = text::put_bytes(room, q, b" step ");
+    let t = put_number(room, r, step);
+    let u = text::put_bytes(room, t, b": ");
+    put_rule(room, u, number)
+}
+
+fn put_number(room: &mut [u8], at: usize, n: u32) -> usize
+    ensures { λ r. ⌜ text (now (room .exit)) r ≡ appended (text (now (room .entry)) at) (decimalOf n) ⌝ }
+{
+    put_count(room, at, wide(n))
+}
+
+// The byte of the word that a refusal of the sheet as a whole is about.
+fn word_place(s: &[u8], number: u32) -> usize
+    ensures { λ r. ⌜ r ≡ wordPlace (now (s .entry)) number ⌝ }
+{
+    if number == 1 {
+        return 4;
+    }
+    if number == 2 {
+        return 0;
+    }
+    if number == 3 {
+        return 8;
+    }
+    faults::fault(s)
+}
+
+fn put_sheet_place(room: &mut [u8], at: usize, s: &[u8], number: u32) -> usize
+    ensures { λ r. ⌜ text (now (room .exit)) r ≡ appended (text (now (room .entry)) at) (sheetPlace (now (s .entry)) number) ⌝ }
+{
+    let place = word_place(s, number);
+    let p = put_line(room, at, b"place: byte ", place);
+    let q = put_line(room, p, b"bytes: ", s.len());
+    put_head(room, q, s)
+}
+
+fn put_step_place(room: &mut [u8], at: usize, s: &[u8], i: usize) -> usize
+    requires { ⌜ i < 4294967296 ⌝ }
+    ensures { λ r. ⌜ text (now (room .exit)) r ≡ appended (text (now (room .entry)) at) (stepPlace (now (s .entry)) i) ⌝ }
+{
+    let place = 16 + 16 * i;
+    let offset = words::read32(s, place + 8);
+    let p = put_line(room, at, b"place: directory entry at byte ", place);
+    let q = put_word(room, p, b"place: body at byte ", offset);
+    put_step(room, q, s, i)
+}
+
+fn put_refused(room: &mut [u8], at: usize, s: &[u8], number: u32, step: u32) -> usize
+    ensures { λ r. ⌜ text (now (room .exit)) r ≡ appended (text (now (room .entry)) at) (refusedText (now (s .entry)) number step) ⌝ }
+{
+    let p = put_answer(room, at, number, step);
+    if step == 0 {
+        return put_sheet_place(room, p, s, number);
+    }
+    put_step_place(room, p, s, wide(step - 1))
+}
+
+// ----- a sheet ------------------------------------------------------------------------------
+
+pub fn put_sheet(room: &mut [u8], at: usize, s: &[u8]) -> usize
+    ensures { λ r. ⌜ text (now (room .exit)) r ≡ appended (text (now (room .entry)) at) (showText (now (s .entry))) ⌝ }
+{
+    let refusal = sheet::check(s);
+    if refusal.number == 0 {
+        return put_accepted(room, at, s);
+    }
+    put_refused(room, at, s, refusal.number, refusal.step)
+}
