@@ -90,10 +90,10 @@ pub fn add(room: &mut [u8], len: usize, inverted: u32, step: Step) -> Added
     ensures { λ r. ⌜ outcome r (now (room .exit)) ≡ addedOf (now (room .entry)) len inverted step ⌝ }
 {
     let found = standing(room, len);
-    let refusal = found.refusal;
-    if refusal.number != 0 {
+    let own = found.refusal;
+    if own.number != 0 {
         return Added {
-            refusal: refusal,
+            refusal: own,
             length: len,
         };
     }
