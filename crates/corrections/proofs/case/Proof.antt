@@ -5,31 +5,31 @@ use Rattle.corrections.proofs.case.Statement.{statement}
 use Rattle.corrections.proofs.case.Tie as tie
 
 write-words-requires : tie.Need-write-words-requires
-write-words-requires c κs = search needs
+write-words-requires c κs = tt
 
 next-requires : tie.Need-next-requires
-next-requires c κs = search needs
+next-requires c κs = tt
 
 write-numbers-requires : tie.Need-write-numbers-requires
-write-numbers-requires c κs = search needs
+write-numbers-requires c κs = tt
 
 fill-requires : tie.Need-fill-requires
-fill-requires c κs = search needs
+fill-requires c κs = tt
 
 fill-requires-2 : tie.Need-fill-requires-2
-fill-requires-2 c κs = search needs
+fill-requires-2 c κs = tt
 
 keep-requires : tie.Need-keep-requires
-keep-requires c κs = search needs
+keep-requires c κs = tt
 
 one-if-requires : tie.Need-one-if-requires
-one-if-requires c κs = search needs
+one-if-requires c κs = tt
 
 plus-requires : tie.Need-plus-requires
-plus-requires c κs = search needs
+plus-requires c κs = tt
 
 several-requires : tie.Need-several-requires
-several-requires c κs = search needs
+several-requires c κs = tt
 
 same-length : tie.Need-same-length
 same-length c = omega (arith, c .before .before .before .before .before .before .before .before .before .before .before .before .before .before .before .before .before .before .before .before .before .before .before .before .before .before .before .before .before .before .before .before .before .before .before .before .before .before .before .before .before .before .before .before .s2 .given, c .before .before .before .before .before .before .before .before .before .before .before .before .before .before .before .before .before .before .before .before .before .before .before .before .before .before .before .before .before .before .before .before .before .before .before .before .before .before .before .before .before .before .before .before .before .before .before .before .before .s .given)
@@ -56,7 +56,7 @@ same-length-8 : tie.Need-same-length-8
 same-length-8 c = search needs
 
 returns : tie.Need-returns
-returns c = search needs
+returns c = tt
 
 pub case-spec : {M : Type 1} → statement M
 case-spec =

@@ -7,7 +7,7 @@ use Rattle.corrections.proofs.cut.Statement.{statement}
 use Rattle.corrections.proofs.cut.Tie as tie
 
 size-requires : tie.Need-size-requires
-size-requires c κs = search needs
+size-requires c κs = tt
 
 slice-relend-prefix-case : tie.Need-slice-relend-prefix-case
 slice-relend-prefix-case c = search needs
@@ -52,7 +52,7 @@ slice-aggregate-case-7 : tie.Need-slice-aggregate-case-7
 slice-aggregate-case-7 c = sym (length-take-le _ _ (omega (arith, c .before .before .before .before .before .before .before .before .size .ensures, c .before .before .before .before .before .before .before .before .before .before .before .before .before .before .before .before .before .pre .fresh-track-long)))
 
 case-requires : tie.Need-case-requires
-case-requires c κs = search needs
+case-requires c κs = tt
 
 same-length : tie.Need-same-length
 same-length c = search needs
@@ -79,7 +79,7 @@ same-length-8 : tie.Need-same-length-8
 same-length-8 c = search needs
 
 returns : tie.Need-returns
-returns c = search needs
+returns c = tt
 
 pub cut-spec : {M : Type 1} → statement M
 cut-spec =

@@ -4,28 +4,28 @@ use Rattle.corrections.proofs.one.Statement.{statement}
 use Rattle.corrections.proofs.one.Tie as tie
 
 index-of-requires : tie.Need-index-of-requires
-index-of-requires c κs = search needs
+index-of-requires c κs = tt
 
 next-requires : tie.Need-next-requires
-next-requires c κs = search needs
+next-requires c κs = tt
 
 fix-of-requires : tie.Need-fix-of-requires
-fix-of-requires c κs = search needs
+fix-of-requires c κs = tt
 
 copy-requires : tie.Need-copy-requires
-copy-requires c κs = search needs
+copy-requires c κs = tt
 
 put-requires : tie.Need-put-requires
-put-requires c κs = search needs
+put-requires c κs = tt
 
 correct-requires : tie.Need-correct-requires
-correct-requires c κs = search needs
+correct-requires c κs = tt
 
 keep-requires : tie.Need-keep-requires
-keep-requires c κs = search needs
+keep-requires c κs = tt
 
 compared-requires : tie.Need-compared-requires
-compared-requires c κs = search needs
+compared-requires c κs = tt
 
 same-length : tie.Need-same-length
 same-length c = c .before .before .before .before .before .before .before .before .before .before .before .before .before .before .before .before .before .before .before .before .before .list .given
@@ -49,7 +49,7 @@ same-length-7 : tie.Need-same-length-7
 same-length-7 c = c .before .before .before .before .before .before .before .before .before .fresh-track .given
 
 returns : tie.Need-returns
-returns c = search needs
+returns c = tt
 
 pub one-spec : {M : Type 1} → statement M
 one-spec =

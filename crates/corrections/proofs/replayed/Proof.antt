@@ -16,7 +16,7 @@ abbrev μ-loop : tie.MeasureT-loop
     960 - k
 
 begun-requires : tie.Need-begun-requires Inv-loop μ-loop
-begun-requires c κs = search needs
+begun-requires c κs = tt
 
 loop-holds : tie.Need-loop-holds Inv-loop μ-loop
 loop-holds c = search needs
@@ -26,7 +26,7 @@ cut-requires c κs =
     record { list-long = omega (arith, c .before .before .before .before .before .before .before .before .before .loop .inv .2, c .before .before .before .before .before .before .before .before .before .before .before .before .before .before .before .before .before .before .before .pre .list-long); own-long = omega (arith, c .before .before .before .before .before .before .before .before .before .loop .inv .3, c .before .before .before .before .before .before .before .before .before .before .before .before .before .before .before .before .before .before .before .pre .own-long); results-long = omega (arith, c .before .before .before .before .before .before .before .before .before .loop .inv .4, c .before .before .before .before .before .before .before .before .before .before .before .before .before .before .before .before .before .before .before .pre .results-long); track-long = omega (arith, c .before .before .before .before .before .before .before .before .before .loop .inv .5, c .before .before .before .before .before .before .before .before .before .before .before .before .before .before .before .before .before .before .before .pre .track-long); old-long = omega (arith, c .before .before .before .before .before .before .before .before .before .loop .inv .6, c .before .before .before .before .before .before .before .before .before .before .before .before .before .before .before .before .before .before .before .pre .old-long); fresh-results-long = omega (arith, c .before .before .before .before .before .before .before .before .before .loop .inv .7, c .before .before .before .before .before .before .before .before .before .before .before .before .before .before .before .before .before .before .before .pre .fresh-results-long); fresh-track-long = omega (arith, c .before .before .before .before .before .before .before .before .before .loop .inv .8, c .before .before .before .before .before .before .before .before .before .before .before .before .before .before .before .before .before .before .before .pre .fresh-track-long) }
 
 told-requires : tie.Need-told-requires Inv-loop μ-loop
-told-requires c κs = search needs
+told-requires c κs = tt
 
 add-k : tie.Need-add-k Inv-loop μ-loop
 add-k c = omega (arith, c .before .before .before .before .before .before .before .before .before .before .before .before .before .before .before .before .before .before .before .before .before .before .before .before .before .before)
@@ -72,7 +72,7 @@ same-length-8 : tie.Need-same-length-8 Inv-loop μ-loop
 same-length-8 c = search needs
 
 returns : tie.Need-returns Inv-loop μ-loop
-returns c = search needs
+returns c = tt
 
 pub replayed-spec : {M : Type 1} → statement M
 replayed-spec =
