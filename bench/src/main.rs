@@ -5,6 +5,7 @@
 //! original: docs/src over oracle/shim, as published, in release. ours: the library's archive for the machine at hand. A time is the least of the passes, in
 //! ns a tuple; a ratio is original / ours; its spread leaves out the lowest and the highest tenth of the passes. The answers are compared too.
 mod clock;
+mod library;
 mod steps;
 
 use clock::{in_turns, took};
@@ -54,13 +55,9 @@ impl Run<'_> {
 
     fn ours(&self, list: &mut [f64]) -> f64 {
         list.copy_from_slice(&self.list);
-        let mut counts = [0; 16];
-        let mut told = 0;
-        let ns = took(|| {
-            told = ours::shift_in_place(self.inverse, &self.sheet, list, &self.velocities, &self.marks, &mut counts);
-        });
-        assert_eq!((told, counts[0] as usize), (0, TUPLES));
-        ns
+        took(|| {
+            library::shift(self.inverse, &self.sheet, list, &self.velocities, &self.marks);
+        })
     }
 
     /// Each fix a list of its own.
@@ -86,11 +83,10 @@ impl Run<'_> {
 
     fn ours_ones(&self, list: &mut [f64]) -> f64 {
         list.copy_from_slice(&self.list);
-        let mut counts = [0; 16];
         took(|| {
             for (i, one) in list.chunks_exact_mut(4).enumerate() {
                 let (velocities, marks) = self.lent(i);
-                ours::shift_in_place(self.inverse, &self.sheet, one, velocities, marks, &mut counts);
+                library::shift(self.inverse, &self.sheet, one, velocities, marks);
             }
         })
     }
@@ -124,7 +120,52 @@ fn main() {
     for run in runs.iter().filter(|run| run.row.in_the_original()) {
         operator_made(run, passes / 4 + 1);
     }
+    kept_runs(&runs, passes / 4 + 1);
 }
+
+/// The cost of correcting one fix of a kept list beside that of keeping the list, and a list of one.
+#[cfg(kept)]
+fn kept(run: &Run, passes: usize) {
+    let mut list = run.list.clone();
+    let (mut results, mut track) = (list.clone(), list.clone());
+    let (mut r, mut t) = ([0.0; 4], [0.0; 4]);
+    let one = run.list[..4].to_vec();
+    let times = 64;
+    let (whole, single) = in_turns(
+        passes,
+        || took(|| library::kept::keep(&run.sheet, &run.list, &mut results, &mut track)),
+        || took(|| (0..times).for_each(|_| library::kept::keep(&run.sheet, &one, &mut r, &mut t))),
+    );
+    let mut redone = 0;
+    let (corrected, _) = in_turns(
+        passes,
+        || {
+            took(|| {
+                for k in 0..times {
+                    let at = 4 * (31 * k % TUPLES);
+                    let fix = [list[at] + 1.0, list[at + 1], list[at + 2], list[at + 3]];
+                    redone += library::kept::correct(&run.sheet, &mut list, &mut results, &mut track, at / 4, &fix);
+                }
+            })
+        },
+        || 0.0,
+    );
+    let (whole, single) = (clock::least(&whole), clock::least(&single) / times as f64);
+    let corrected = clock::least(&corrected) / times as f64;
+    let redone = redone as f64 / ((passes + 1) * times) as f64;
+    println!("{:<48} {whole:>9.0} {single:>9.0} {corrected:>9.0} {redone:>7.1}", run.row.step);
+}
+
+#[cfg(kept)]
+fn kept_runs(runs: &[Run], passes: usize) {
+    println!("\n{:<48} {:>9} {:>9} {:>9} {:>7}", "kept run, ns a call", "keep 2,048", "keep one", "correct one", "redone");
+    for run in runs.iter().filter(|run| run.row.helmert() && !run.inverse) {
+        kept(run, passes);
+    }
+}
+
+#[cfg(not(kept))]
+fn kept_runs(_runs: &[Run], _passes: usize) {}
 
 fn lists(run: &Run, passes: usize) {
     let (mut a, mut b) = (run.list.clone(), run.list.clone());

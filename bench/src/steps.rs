@@ -74,6 +74,11 @@ impl Row {
         !matches!(&self.body, Body::Helmert(h) if h.flags & OWN_EPOCH != 0)
     }
 
+    #[cfg(kept)]
+    pub fn helmert(&self) -> bool {
+        matches!(self.body, Body::Helmert(_))
+    }
+
     pub fn deforms(&self) -> bool {
         matches!(self.body, Body::Deformation { .. })
     }

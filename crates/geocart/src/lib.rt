@@ -11,6 +11,9 @@ use tuple::Tuple;
 
 const FRAC_PI_2: f64 = 1.5707963267948966;
 
+// For p < 1 picometre, we simplify things to avoid numerical havoc.
+const CUTOFF: f64 = 1.0e-12;
+
 // The legs of the latitude's angle: phi_num and phi_denom of the Rust.
 pub struct Legs {
     pub num: f64,
@@ -87,8 +90,7 @@ pub fn geographic(ellps: Ellipsoid, cartesian: Tuple) -> Tuple
     let lam = arctan::atan2(cartesian.y, cartesian.x);
     // The perpendicular distance from the point to the Z axis.
     let p = hypot::hypot(cartesian.x, cartesian.y);
-    // For p < 1 picometre, we simplify things to avoid numerical havoc.
-    if p < 1.0e-12 {
+    if p < CUTOFF {
         return Tuple {
             x: lam,
             y: pole(z),
@@ -112,7 +114,7 @@ pub fn place(ellps: Ellipsoid, cartesian: Tuple) -> Position
     let z = cartesian.z;
     let lam = arctan::atan2(cartesian.y, cartesian.x);
     let p = hypot::hypot(cartesian.x, cartesian.y);
-    if p < 1.0e-12 {
+    if p < CUTOFF {
         return Position {
             lam: lam,
             phi: pole(z),

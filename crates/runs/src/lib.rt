@@ -356,10 +356,10 @@ fn running_position_vector_forward(list: &mut [f64], shift: Shift)
     let mut i = 0;
     while 4 <= list.len() - i {
         let v = lists::read4(list, i);
-        if v.t != state.last {
-            let dt = v.t - shift.epoch;
+        if v.t != state.last { // then all is taken anew
+            let dt = v.t - shift.epoch; // not from the last time
             state = helmert::next(shift, state, v.t);
-            s = helmert::scale_at(p, dt);
+            s = helmert::scale_at(p, dt); // the sheet's at dt
             m = rotation::rotation_matrix(helmert::rotation_at(p, dt), false, true);
         }
         let w = helmert::forward(state.t, s, true, m, v);
@@ -521,7 +521,11 @@ fn running_forward(list: &mut [f64], shift: Shift)
             let dt = v.t - shift.epoch;
             state = helmert::next(shift, state, v.t);
             s = helmert::scale_at(p, dt);
-            m = rotation::rotation_matrix(helmert::rotation_at(p, dt), shift.exact, shift.position_vector);
+            m = rotation::rotation_matrix(
+                helmert::rotation_at(p, dt),
+                shift.exact,
+                shift.position_vector,
+            );
         }
         let w = helmert::forward(state.t, s, shift.rotated, m, v);
         lists::write4(list, i, w);
@@ -547,7 +551,11 @@ fn running_inverse(list: &mut [f64], shift: Shift)
             let dt = v.t - shift.epoch;
             state = helmert::next(shift, state, v.t);
             s = helmert::scale_at(p, dt);
-            m = rotation::rotation_matrix(helmert::rotation_at(p, dt), shift.exact, shift.position_vector);
+            m = rotation::rotation_matrix(
+                helmert::rotation_at(p, dt),
+                shift.exact,
+                shift.position_vector,
+            );
         }
         let w = helmert::inverse(state.t, s, shift.rotated, m, v);
         lists::write4(list, i, w);

@@ -62,20 +62,7 @@ pub fn shift(job: &Job) -> Answer {
 pub fn shift_bytes(inverse: bool, sheet: &[u8], list: &[f64], velocities: &[f64], marks: &[u8]) -> Answer {
     let mut list = list.to_vec();
     let mut counts = [u32::MAX; 16]; // each is written, refused or not
-    let (refusal, step) = apart(shift_in_place(inverse, sheet, &mut list, velocities, marks, &mut counts));
-    Answer { refusal, step, counts, list }
-}
-
-/// `sillfeather_shift` itself.
-pub fn shift_in_place(
-    inverse: bool,
-    sheet: &[u8],
-    list: &mut [f64],
-    velocities: &[f64],
-    marks: &[u8],
-    counts: &mut [u32; 16],
-) -> u32 {
-    unsafe {
+    let told = unsafe {
         sillfeather_shift(
             inverse as u32,
             sheet.as_ptr(),
@@ -88,7 +75,9 @@ pub fn shift_in_place(
             marks.len(),
             counts.as_mut_ptr(),
         )
-    }
+    };
+    let (refusal, step) = apart(told);
+    Answer { refusal, step, counts, list }
 }
 
 /// A result is the number plus 65536 times the step.

@@ -59,7 +59,7 @@ loop-again c =
     let o = l .before .before .before in
     let fits : l .loop .i + 4 ≤ length (l .loop .list) = omega (arith, c .before .before .before .before .before .before .before .before .before .before .before .before .before .loop-test .taken) in
     let turn = own-epoch-turn (o .args .shift) false (c .before .before .before .before .before .before .before .before .before .before .before .read4 .result) {w = c .before .before .before .before .forward .result} (c .before .before .before .before .before .before .before .before .before .before .own-time .result) (c .before .before .before .before .before .before .before .before .before .before .own-time .ensures)
-        (rw (c .before .before .before .before .forward .ensures, c .before .before .before .before .before .rotation-matrix .ensures, c .before .before .before .before .before .before .rotation-at .ensures, c .before .before .before .before .before .before .before .scale-at .ensures, c .before .before .before .before .before .before .before .before .grown .ensures, o .pre .0, o .pre .1, o .pre .2)) in
+    (rw (c .before .before .before .before .forward .ensures, c .before .before .before .before .before .rotation-matrix .ensures, c .before .before .before .before .before .before .rotation-at .ensures, c .before .before .before .before .before .before .before .scale-at .ensures, c .before .before .before .before .before .before .before .before .grown .ensures, o .pre .0, o .pre .1, o .pre .2)) in
     (ran-again fits (rw (c .before .before .before .before .before .before .before .before .before .before .before .read4 .ensures) at turn) (c .before .before .write4 .ensures) (l .loop .inv .0), search needs)
 
 same-length : tie.Need-same-length Inv-loop μ-loop

@@ -66,9 +66,9 @@ loop-again c =
     let o = l .before .before .before .before .before .before .before .before .before .before .before in
     let fits : l .loop .i + 4 ≤ length (l .loop .list) = omega (arith, c .before .before .before .before .before .before .before .before .before .before .loop-test .taken) in
     let met = ⊎-elim
-        (λ w. scaled-anew _ _ _ (w .0 .taken) (w .5 ∙ w .3 .ensures) (w .6 ∙ w .4 .ensures))
-        (λ w. scaled-again _ _ _ (w .0 .left) (w .1) (w .2) (l .loop .inv .1))
-        (c .before .before .before .before .before .if1 .came) in
+    (λ w. scaled-anew _ _ _ (w .0 .taken) (w .5 ∙ w .3 .ensures) (w .6 ∙ w .4 .ensures))
+    (λ w. scaled-again _ _ _ (w .0 .left) (w .1) (w .2) (l .loop .inv .1))
+    (c .before .before .before .before .before .if1 .came) in
     let e = rw (c .before .before .before .before .before .before .before .before .read4 .ensures) at (unrotated-turn _ false (l .loop .state) (c .before .before .before .before .before .before .before .before .read4 .result) (o .pre) {w = c .before .before .before .before .forward .result} _ met (c .before .before .before .before .forward .ensures)) in
     (rw (ap (λ (q : Stepped). q .state) e) (ran-again fits (ap (λ (q : Stepped). q .tuple) e) (c .before .before .write4 .ensures) (l .loop .inv .0)), met .held, search needs)
 
