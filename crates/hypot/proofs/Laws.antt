@@ -8,7 +8,7 @@ use mathlib.Core.Bool.{Bool, true, false, not, cond, _&&_, _||_, true≢false, o
 use lib.IntN.{ℤ, pos, negsuc}
 use lib.Dec.{T, ltb}
 use lib.Ieee.{Float, nan, inf, fin, binary64, fits, isNan, ofBits, neg, add, sum, mul, lt, le, eq, round, units, odd, up, down}
-use lib.Ieee.Fits.{neg-fits, cond-fits, down-pos, round-is}
+use lib.Ieee.Fits.{neg-fits, down-pos, round-is}
 use lib.Ieee.Order.{round-mono}
 use lib.Ieee.Scale.{finite}
 use lib.Ieee.Bits.{is-true}
@@ -19,6 +19,7 @@ use Rattle.floats.proofs.Laws.{abs-of-neg, abs-is-not-negative}
 use Rattle.floats.proofs.Zero.{not-below-zero}
 use Rattle.hypot.specs.Hypot.{infinite, larger, smaller, lengthOf, boundedOf, pairOf, hypotOf}
 use Rattle.hypot.proofs.Squares.{sign-of-rounded, rounded-is-no-nan, sum-in-either-order}
+use Rattle.hypot.proofs.Signless.{abs-fits, nan-of-abs}
 use Rattle.floats.proofs.Values.{one-value-one-number, rounds-to-itself}
 
 -- ---- infinite parts
@@ -184,14 +185,6 @@ pair-nan p q sp sq ip iq = go (lt p q)
     go true = bounded-nan q p (lengthOf q p) sq sp iq ip ∙ or-comm (isNan q) (isNan p)
     go false = bounded-nan p q (lengthOf p q) sp sq ip iq
 
-nan-of-abs : (x : Float) → isNan (absOf x) ≡ isNan x
-unfolding isNan neg signOf
-nan-of-abs nan = refl
-nan-of-abs (inf true) = refl
-nan-of-abs (inf false) = refl
-nan-of-abs (fin true m e) = refl
-nan-of-abs (fin false m e) = refl
-
 infinite-of-abs : (x : Float) → infinite (absOf x) ≡ infinite x
 unfolding infinite neg signOf
 infinite-of-abs nan = refl
@@ -233,9 +226,6 @@ level-magnitudes (fin false m e) (fin true n d) fp fq sp sq ip iq np nq l g = ab
 level-magnitudes (fin false m e) (fin false n d) fp fq sp sq ip iq np nq l g =
     one-value-one-number false m n e d fp fq
     (le-antisymm (ltb-false (n * up d * down e) (m * up e * down d) g) (ltb-false (m * up e * down d) (n * up d * down e) l))
-
-abs-fits : (x : Float) → T (fits binary64 x) → T (fits binary64 (absOf x))
-abs-fits x h = cond-fits binary64 (signOf x) (neg x) x (neg-fits binary64 x h) h
 
 is-the-nan : (x : Float) → isNan x ≡ true → x ≡ nan
 unfolding isNan

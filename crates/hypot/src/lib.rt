@@ -6,7 +6,10 @@
 // Measured against MPFR over 1.3 million points, subnormal and huge parts among them: within 0.95 units in the last place (measure/atan2_hypot.c).
 // The distance from the axis in `cart` and `geocart` is taken by it.
 ghost use mathlib.Core.Path.{_≡_};
-ghost use Rattle.hypot.specs.Hypot.{larger, smaller, guessOf, reciprocalRootOf, rootOf, scaledRootOf, rescaledOf, ordinary, boundedOf, hypotOf};
+ghost use mathlib.Core.Bool.{false};
+ghost use lib.Ieee.{isNan};
+ghost use Rattle.floats.specs.Number.{absOf};
+ghost use Rattle.hypot.specs.Hypot.{larger, smaller, guessOf, reciprocalRootOf, rootOf, scaledRootOf, rescaledOf, ordinary, boundedOf, ordinaryOf, hypotOf};
 
 // 2^-900 and 2^1000: a sum of squares between them lost nothing by overflow or underflow
 const LEAST: f64 = 1.1830521861667747e-271;
@@ -92,11 +95,16 @@ fn rescaled(a: f64, b: f64) -> f64
     }
 }
 
-// from the larger part to the sum of both
+// From the larger part to the sum of both. Asked first is what nearly always holds: the answer then waits for no comparison.
 fn bounded(a: f64, b: f64, length: f64) -> f64
     ensures { λ r. ⌜ r ≡ boundedOf a b length ⌝ }
 {
     let sum = a + b;
+    if a < length {
+        if length < sum {
+            return length;
+        }
+    }
     if length < sum {
         if a < length { length } else { a }
     } else {
@@ -104,17 +112,35 @@ fn bounded(a: f64, b: f64, length: f64) -> f64
     }
 }
 
+// |x| of a number that is no NaN, by its bits: one instruction
+fn magnitude(x: f64) -> f64
+    requires { ⌜ isNan x ≡ false ⌝ }
+    ensures { λ r. ⌜ r ≡ absOf x ⌝ }
+{
+    f64::from_bits(f64::to_bits(x) % 0x8000_0000_0000_0000)
+}
+
+// the usual case: parts whose sum of squares is ordinary
+fn ordinary_length(squares: f64, x: f64, y: f64) -> f64
+    requires { ⌜ (isNan x ≡ false) × (isNan y ≡ false) ⌝ }
+    ensures { λ r. ⌜ r ≡ ordinaryOf squares (absOf x) (absOf y) ⌝ }
+{
+    let p = magnitude(x);
+    let q = magnitude(y);
+    let a = larger_of(p, q);
+    let b = smaller_of(p, q);
+    bounded(a, b, root(squares, a, b))
+}
+
 pub fn hypot(x: f64, y: f64) -> f64
     ensures { λ r. ⌜ r ≡ hypotOf x y ⌝ }
 {
     let squares = x * x + y * y;
+    if is_ordinary(squares) {
+        return ordinary_length(squares, x, y);
+    }
     let p = floats::abs(x);
     let q = floats::abs(y);
-    let a = larger_of(p, q);
-    let b = smaller_of(p, q);
-    if is_ordinary(squares) {
-        return bounded(a, b, root(squares, a, b));
-    }
     let infinity = 1.0 / 0.0;
     if p == infinity {
         return infinity;
@@ -122,5 +148,7 @@ pub fn hypot(x: f64, y: f64) -> f64
     if q == infinity {
         return infinity;
     }
+    let a = larger_of(p, q);
+    let b = smaller_of(p, q);
     bounded(a, b, rescaled(a, b))
 }

@@ -8,6 +8,7 @@ fn main() {
     let by_epoch = Body::Deformation { flags: 0, ellipsoid: 1, dt: nan, t_epoch: 2000.0 };
     show("NaN Z on the axis, deformation", false, by_epoch.clone(), &[0.0, 0.0, nan, 2001.0], &[0.0, 0.0, 1000.0]);
     show("an angle beyond 1024, cart forward", false, cart.clone(), &[0.0, 1025.0, 0.0, 0.0], &[]);
+    show("the last bits, cart forward", false, cart.clone(), &[2.5, 0.0, 0.0, 0.0], &[]);
     show("an axis point is not counted, cart inverse", true, cart.clone(), &[0.0, 0.0, 7e6, 0.0], &[]);
     show("p = 1e-11, cart inverse", true, cart.clone(), &[1e-11, 0.0, 7e6, 0.0], &[]);
     show("Z = -0 at the centre, cart inverse", true, cart, &[0.0, 0.0, -0.0, 0.0], &[]);
@@ -25,6 +26,14 @@ fn main() {
     show("S moved three times, fixed", false, Body::Helmert(fixed), &[1e6, 0.0, 0.0, 0.0], &[]);
     show("forward adds, deformation", false, by_epoch.clone(), &[6378137.0, 0.0, 0.0, 2010.0], &[0.0, 0.0, 1000.0]);
     show("a time of -0, deformation", false, by_epoch, &[6378137.0, 0.0, 0.0, -0.0], &[0.0, 0.0, 0.0]);
+    let doubled = Helmert { scale: 1e6, ..Helmert::blank() };
+    show("undone, not negated, Helmert inverse", true, Body::Helmert(doubled), &[1.0, 0.0, 0.0, 0.0], &[]);
+    for (name, flags) in [("a quarter turn, small-angle", 0), ("a quarter turn, exact", 1)] {
+        let turned = Helmert { flags, convention: 1, rxyz: [0.0, 0.0, 324_000.0], ..Helmert::blank() };
+        show(name, false, Body::Helmert(turned), &[1.0, 0.0, 0.0, 0.0], &[]);
+    }
+    let two = Body::Molodensky { flags: 2, first: 1, second: 3, offsets: [0.0; 5] };
+    show("on the first ellipsoid, Molodensky inverse", true, two, &[0.0, std::f64::consts::FRAC_PI_4, 0.0, 0.0], &[]);
 }
 
 /// DT = (1, 0, 0), t_epoch 2000.
