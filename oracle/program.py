@@ -13,6 +13,7 @@ import struct
 import subprocess
 import sys
 
+sys.dont_write_bytecode = True
 from damaged import GOOD, sheet
 from sheet_reader import check
 

@@ -1,18 +1,32 @@
 -- What is true of jobs and answers, for callers to cite. Assumes nothing.
 use mathlib.Core.Path.{_≡_, refl, sym, ap, _∙_}
 use Prim.Native.Nat.{ℕ, _+_, _-_, _*_, _<_, _≤_}
-use mathlib.Core.Bool.{Bool, true, false, not, _||_}
-use mathlib.Core.List.{List}
+use mathlib.Core.Bool.{Bool, true, false, not, cond, _||_}
+use mathlib.Core.List.{List, [], _∷_, _++_}
+use native.Mathlib.Omega.{arith}
+use native.Mathlib.Nat.{zero-add}
+use lib.Dec.{eqb, ltb}
 use lib.ListN.{length, take, drop, length-drop}
 use lib.Seq.{take-all}
 use lib.Ieee.{Float}
-use native.Mathlib.Omega.{arith}
-use lib.Dec.{eqb, ltb}
-use borrow.Author.Tests.{ltb-false, eqb-true, not-false}
-use Rattle.sheet.proofs.Order.{neither}
+use borrow.Author.Tests.{ltb-false, eqb-true, eqb-false, not-false}
+use Rattle.sheet.specs.declared.Entry.{Entry}
+use Rattle.sheet.specs.Layout.{stepCountOf, kindAt, entryAt}
+use Rattle.sheet.specs.Rules.{refusalOf, deformationBefore}
+use Rattle.sheet.proofs.Order.{neither, accepted-count}
+use Rattle.chain.specs.Chain.{forwardOf, inverseOf, chainOf, entriesOf, stepListOf}
+use Rattle.chain.specs.Rules.{Outcome, shiftOf, outcomeOf, shiftRefusalOf}
+use Rattle.chain.proofs.Laws.{step-length}
+use Rattle.chain.proofs.Outcome.{refused-own}
+use Rattle.text.specs.Text.{text, appended}
+use Rattle.text.proofs.Laws.{fits}
 use Rattle.job.specs.Job.{headOf, tuplesAt, velocitiesAt, marksAt, endAt, refusal16, numbersOf, sheetOf, tuplesOf, velocitiesOf, marksOf}
+use Rattle.job.specs.Job.{inverseOf as inverseJob}
 use Rattle.job.specs.declared.Head.{Head}
-use Rattle.answer.specs.Answer.{shiftText, jobText}
+use Rattle.job.proofs.Laws.{length-numbersOf}
+use Rattle.report.specs.Report.{refusedText, ranText}
+use Rattle.report.proofs.Laws.{refused-is-short, ran-is-short}
+use Rattle.answer.specs.Answer.{toldOf, shiftText, jobText, answerOf}
 
 -- ---- a job that is not bad
 
@@ -49,6 +63,10 @@ good-job h bytes e =
 pub left-from : (j : List ℕ) (x : ℕ) → take (length j - x) (drop x j) ≡ drop x j
 left-from j x = take-all (length j - x) (drop x j) (simp length-drop (omega arith))
 
+length-tuples : (j : List ℕ) → length (tuplesOf j) ≡ 4 * headOf j .tuples
+unfolding tuplesOf
+length-tuples j = length-numbersOf (4 * headOf j .tuples) (drop (tuplesAt (headOf j)) j)
+
 -- the parts that a call is lent are the job's
 pub parts : (j : List ℕ) (h : Head) (a b c n m : ℕ) {l v : List Float} → h ≡ headOf j → a ≡ tuplesAt h → b ≡ velocitiesAt h → c ≡ marksAt h
     → n ≡ 4 * h .tuples → m ≡ 3 * h .velocities
@@ -58,3 +76,85 @@ unfolding jobText sheetOf tuplesOf velocitiesOf marksOf
 parts j h a b c n m eh ea eb ec en em el ev =
     let k : a - 16 ≡ h .sheet = omega arith in
     rw (el, ev, left-from j a, left-from j b, left-from j c, k, en, em, ea, eb, ec, eh)
+
+-- ---- how long a text is, and where it stands
+
+pick-length : (b : Bool) (x y : Outcome) (n : ℕ) → length (x .list) ≡ n → length (y .list) ≡ n → length (cond b x y .list) ≡ n
+pick-length true x y n p q = p
+pick-length false x y n p q = q
+
+forward-length : (velocities : List Float) (marks : List ℕ) (es : List Entry) (l : List Float) → length (forwardOf velocities marks es l .list) ≡ length l
+unfolding forwardOf
+forward-length velocities marks [] l = refl
+forward-length velocities marks (e ∷ es) l =
+    forward-length velocities marks es (stepListOf false velocities marks e l) ∙ step-length false velocities marks e l
+
+inverse-length : (velocities : List Float) (marks : List ℕ) (es : List Entry) (l : List Float) → length (inverseOf velocities marks es l .list) ≡ length l
+unfolding inverseOf
+inverse-length velocities marks [] l = refl
+inverse-length velocities marks (e ∷ es) l = step-length true velocities marks e (inverseOf velocities marks es l .list) ∙ inverse-length velocities marks es l
+
+chain-length : (inverse : Bool) (velocities : List Float) (marks : List ℕ) (es : List Entry) (l : List Float)
+    → length (chainOf inverse velocities marks es l .list) ≡ length l
+chain-length true velocities marks es l = inverse-length velocities marks es l
+chain-length false velocities marks es l = forward-length velocities marks es l
+
+shift-length : (inverse : Bool) (s : List ℕ) (l velocities : List Float) (marks : List ℕ) → length (shiftOf inverse s l velocities marks .list) ≡ length l
+unfolding shiftOf outcomeOf
+shift-length inverse s l velocities marks =
+    pick-length (eqb (shiftRefusalOf (refusalOf s) (deformationBefore (kindAt s) (stepCountOf s)) l velocities marks .number) 0) _ _ (length l)
+    (chain-length inverse velocities marks (entriesOf (entryAt s) (stepCountOf s) 0) l) refl
+
+-- a sheet that runs has at most sixteen steps
+few-steps : (inverse : Bool) (s : List ℕ) (l velocities : List Float) (marks : List ℕ) → shiftOf inverse s l velocities marks .answer .refusal .number ≡ 0
+    → stepCountOf s ≤ 16
+unfolding shiftOf
+few-steps inverse s l velocities marks h = by (eqb (refusalOf s .number) 0) refl
+  where
+    by : (b : Bool) → eqb (refusalOf s .number) 0 ≡ b → stepCountOf s ≤ 16
+    by true e = accepted-count s (eqb-true (refusalOf s .number) 0 e)
+    by false e =
+        let broken = eqb-false (refusalOf s .number) 0 e in
+        let own = refused-own (refusalOf s) (deformationBefore (kindAt s) (stepCountOf s)) inverse (entriesOf (entryAt s) (stepCountOf s) 0) l velocities marks broken in
+        absurd (broken (ap (λ (o : Outcome). o .answer .refusal .number) (sym own) ∙ h))
+
+told-is-short : (steps : ℕ) (o : Outcome) → (o .answer .refusal .number ≡ 0 → steps ≤ 16) → length (o .list) ≤ 2048 → length (toldOf steps o) ≤ 35751
+unfolding toldOf
+told-is-short steps o few l = by (eqb (o .answer .refusal .number) 0) refl
+  where
+    by : (b : Bool) → eqb (o .answer .refusal .number) 0 ≡ b
+        → length (cond b (ranText steps (o .answer .counts) (o .list)) (refusedText (o .answer .refusal .number) (o .answer .refusal .step))) ≤ 35751
+    by true e =
+        let s = few (eqb-true (o .answer .refusal .number) 0 e) in
+        let r = ran-is-short steps (o .answer .counts) (o .list) in
+        omega arith
+    by false e = let r = refused-is-short (o .answer .refusal .number) (o .answer .refusal .step) in omega arith
+
+job-is-short : (j : List ℕ) → Good (headOf j) (length j) → length (jobText j) ≤ 35751
+unfolding jobText
+job-is-short j g =
+    let n : length (tuplesOf j) ≡ 4 * headOf j .tuples = length-tuples j in
+    let t = g .tuples in
+    told-is-short (stepCountOf (sheetOf j)) (shiftOf (inverseJob j) (sheetOf j) (tuplesOf j) (velocitiesOf j) (marksOf j))
+    (few-steps (inverseJob j) (sheetOf j) (tuplesOf j) (velocitiesOf j) (marksOf j))
+    (rw (shift-length (inverseJob j) (sheetOf j) (tuplesOf j) (velocitiesOf j) (marksOf j)) (omega arith))
+
+-- No text is longer than 35,751 bytes, so that the program's room of 65,536 holds every one.
+pub text-is-short : (j : List ℕ) → length (answerOf j) ≤ 35751
+unfolding answerOf
+text-is-short j = by (refusal16 (headOf j) (length j)) refl
+  where
+    by : (b : Bool) → refusal16 (headOf j) (length j) ≡ b → length (cond b (refusedText 16 0) (jobText j)) ≤ 35751
+    by true e = let r = refused-is-short 16 0 in omega arith
+    by false e = job-is-short j (good-job (headOf j) (length j) e)
+
+-- In such a room the text stands whole at the start, and after it what stood there.
+pub text-stands-whole : (room j : List ℕ) → length (answerOf j) ≤ length room
+    → appended (text room 0) (answerOf j) ≡ text (answerOf j ++ drop (length (answerOf j)) room) (length (answerOf j))
+text-stands-whole room j h = fits room 0 (answerOf j) (rw zero-add h) ∙ rw zero-add
+
+-- ---- 16 before all others
+
+pub sixteen-first : (j : List ℕ) → refusal16 (headOf j) (length j) ≡ true → answerOf j ≡ refusedText 16 0
+unfolding answerOf
+sixteen-first j h = rw h

@@ -127,38 +127,57 @@ fn run(s: &[u8], list: &mut [f64], velocities: &[f64], marks: &[u8]) {
     }
 }
 
+// A sheet without deformation, over fixes a step apart.
+fn run_spread(s: &[u8], list: &mut [f64]) {
+    spread(list);
+    let none = [0.0f64; 3];
+    let unmarked = [0u8; 1];
+    run(s, list, &none[..0], &unmarked[..0]);
+}
+
+fn sheet_room() -> [u8; 424]
+    ensures { λ r. ⌜ 424 ≡ length r ⌝ }
+{
+    [0; 424]
+}
+
 // n cart steps over some tuples, of which there are at most 2,049.
 fn carts(n: usize, tuples: usize)
     requires { ⌜ (n ≤ 17) × (tuples ≤ 2049) ⌝ }
 {
-    let mut s = [0u8; 424];
+    let mut s = sheet_room();
     put_sheet(&mut s, n);
     let mut list = room();
-    let numbers = 4 * tuples;
     let total = 16 + 24 * n;
-    spread(&mut list[..numbers]);
-    let none = [0.0f64; 3];
-    let unmarked = [0u8; 1];
-    run(&s[..total], &mut list[..numbers], &none[..0], &unmarked[..0]);
+    let numbers = 4 * tuples;
+    run_spread(&s[..total], &mut list[..numbers]);
 }
 
-// (1e-11, 0, 6400000, 0): on the axis for cart's inverse, off it for geographic.
-fn near_the_axis() -> Tuple {
+// (1e-11, 0, z, 0): on the axis for cart's inverse, which then counts nothing; off it for geographic.
+fn near_the_axis(z: f64) -> Tuple {
     Tuple {
         x: 0.00000000001,
         y: 0.0,
-        z: 6400000.0,
+        z: z,
         t: 0.0,
     }
 }
 
-fn inverses() {
+fn print_counted(counted: bool) {
+    if counted {
+        io::write_all(OUT, b"  cart, counted    ");
+    } else {
+        io::write_all(OUT, b"  cart, not counted");
+    }
+}
+
+fn inverses(z: f64) {
     let grs80 = Ellipsoid::named(1);
-    let by_cart = cart::cart_inv(Inverse::new(grs80), near_the_axis());
-    io::write_all(OUT, b"  cart      ");
+    let by_cart = cart::cart_inv(Inverse::new(grs80), near_the_axis(z));
+    print_counted(by_cart.counted);
     print_tuple(by_cart.tuple);
-    io::write_all(OUT, b"  geographic");
-    print_tuple(geocart::geographic(grs80, near_the_axis()));
+    io::write_all(OUT, b"  geographic       ");
+    print_tuple(geocart::geographic(grs80, near_the_axis(z)));
 }
 
 // Up 1000 mm/year from the epoch 2000, at (6378137, 0, 0, 2010).
@@ -184,8 +203,13 @@ fn main() {
     carts(16, 2049);
     io::write_all(OUT, b"1 tuple, 17 steps: 3\n");
     carts(17, 1);
-    io::write_all(OUT, b"p = 1e-11 by both inverses\n");
-    inverses();
-    io::write_all(OUT, b"deformation up 1000 for ten years: X = 6378147, 415854a8c0000000\n");
+    io::write_all(OUT, b"p = 1e-11 by both inverses, Z = 6400000\n");
+    inverses(6400000.0);
+    io::write_all(OUT, b"p = 1e-11 by both inverses, Z = 0\n");
+    inverses(0.0);
+    io::write_all(
+        OUT,
+        b"deformation up 1000 for ten years: X = 6378147, 415854a8c0000000\n",
+    );
     risen();
 }

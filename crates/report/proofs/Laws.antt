@@ -1,13 +1,15 @@
 -- A line for each count and each tuple, one after another. Assumes nothing.
 use mathlib.Core.Path.{_≡_, refl, sym, ap, _∙_}
-use Prim.Native.Nat.{ℕ, zero, suc, _+_, _-_, _<_, _≤_}
+use Prim.Native.Nat.{ℕ, zero, suc, _+_, _-_, _*_, _/_, _<_, _≤_}
 use mathlib.Core.List.{List, [], _∷_, _++_}
 use native.Mathlib.Omega.{arith}
 use native.Mathlib.Numerals.{add-one}
-use lib.ListN.{length, take, drop, getD, length-take, length-drop, drop-of-length-le}
+use lib.ListN.{length, take, drop, getD, length-append, length-take, length-drop, drop-of-length-le}
 use lib.Seq.{drop-cons, getD-take}
 use lib.Ieee.{Float, nan}
-use Rattle.report.specs.Report.{countText, countsText, tupleText, tuplesText}
+use Rattle.text.specs.Ascii.{ascii}
+use Rattle.text.proofs.Laws.{length-hex, decimal-is-short}
+use Rattle.report.specs.Report.{lineOf, refusedText, countText, countsText, wordOf, tupleText, tuplesText, ranText}
 
 -- ---- counts
 
@@ -57,3 +59,52 @@ short (x ∷ y ∷ z ∷ t ∷ l) h = absurd (omega arith)
 
 pub no-tuple : (l : List Float) (i : ℕ) → length l - i < 4 → tuplesText (drop i l) ≡ []
 no-tuple l i h = short (drop i l) (simp length-drop (omega arith))
+
+-- ---- how long the text is
+
+line-is-short : (first : List ℕ) (a : ℕ) (second : List ℕ) (b : ℕ) → length (lineOf first a second b) ≤ length first + length second + 41
+unfolding lineOf
+line-is-short first a second b =
+    let x = decimal-is-short a in
+    let y = decimal-is-short b in
+    simp length-append (omega arith)
+
+pub refused-is-short : (number step : ℕ) → length (refusedText number step) ≤ 55
+refused-is-short number step = line-is-short (ascii "refused ") number (ascii " step ") step
+
+counts-are-short : (i : ℕ) (counts : List ℕ) → length (countsText i counts) ≤ 55 * length counts
+unfolding countsText
+counts-are-short i [] = omega arith
+counts-are-short i (c ∷ counts) =
+    let x = line-is-short (ascii "step ") (i + 1) (ascii " counted ") c in
+    let y = counts-are-short (i + 1) counts in
+    simp length-append (omega arith)
+
+length-word : (x : Float) (end : ℕ) → length (wordOf x end) ≡ 17
+unfolding wordOf
+length-word x end = simp (length-append, length-hex)
+
+length-tuple : (x y z t : Float) → length (tupleText x y z t) ≡ 68
+unfolding tupleText
+length-tuple x y z t = simp (length-append, length-word)
+
+tuples-are-short : (l : List Float) → length (tuplesText l) ≤ 17 * length l
+unfolding tuplesText
+tuples-are-short (x ∷ y ∷ z ∷ t ∷ rest) =
+    let a = tuples-are-short rest in
+    let b = length-tuple x y z t in
+    simp length-append (omega arith)
+tuples-are-short (x ∷ y ∷ z ∷ []) = omega arith
+tuples-are-short (x ∷ y ∷ []) = omega arith
+tuples-are-short (x ∷ []) = omega arith
+tuples-are-short [] = omega arith
+
+-- 55 bytes a line of names, 68 a tuple
+pub ran-is-short : (steps : ℕ) (counts : List ℕ) (l : List Float) → length (ranText steps counts l) ≤ 55 + 55 * steps + 17 * length l
+unfolding ranText
+ran-is-short steps counts l =
+    let a = line-is-short (ascii "steps ") steps (ascii " tuples ") (length l / 4) in
+    let b = counts-are-short 0 (take steps counts) in
+    let c = tuples-are-short l in
+    let d : length (take steps counts) ≤ steps = simp length-take (omega arith) in
+    simp length-append (omega arith)

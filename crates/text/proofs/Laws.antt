@@ -1,15 +1,16 @@
 -- What is true of text in a room, for callers to cite: pieces one after another are one piece. Assumes nothing.
 use mathlib.Core.Path.{_≡_, refl, sym, ap, _∙_}
-use Prim.Native.Nat.{ℕ, zero, suc, _+_, _-_, _<_, _≤_, min}
-use mathlib.Core.Bool.{Bool, true, false}
+use Prim.Native.Nat.{ℕ, zero, suc, _+_, _-_, _^_, _<_, _≤_, min}
+use mathlib.Core.Bool.{Bool, true, false, cond}
 use mathlib.Core.List.{List, [], _∷_, _++_, append-nil, append-assoc}
 use native.Mathlib.Omega.{arith}
 use native.Mathlib.Nat.{add-zero}
-use lib.Dec.{ltb}
+use lib.Dec.{ltb, leb}
 use lib.ListN.{length, take, drop, set, length-append, length-take, length-drop, length-set, take-append-drop, drop-of-length-le}
 use lib.Seq.{take-all, take-nil, take-suc-set, drop-set-lt, append-snoc}
 use borrow.Author.Tests.{ltb-true, ltb-false}
 use Rattle.text.specs.Text.{Text, text, appended}
+use Rattle.text.specs.Digits.{digitsOf, placesOf, decimalOf, hexOf}
 
 -- ---- byte by byte
 
@@ -138,3 +139,27 @@ going-ends {t₀} {t} g e = sym (no-more t (g .in-room)) ∙ ap (appended t) (sy
 -- a start that is within its room already
 pub going-here : (t : Text) (whole : List ℕ) → t .place ≤ length (t .room) → Going t whole t whole
 going-here t whole h = record { goal = refl; in-room = h; as-long = refl }
+
+-- ---- how long numbers are
+
+pub length-digits : (base k n : ℕ) → length (digitsOf base k n) ≡ k
+unfolding digitsOf
+length-digits base zero n = refl
+length-digits base (suc k) n = ap suc (length-digits base k n)
+
+few-places : (k n : ℕ) → placesOf k n ≤ suc k
+unfolding placesOf
+few-places zero n = omega arith
+few-places (suc k) n = by (leb (10 ^ suc k) n) (few-places k n)
+  where
+    by : (b : Bool) → placesOf k n ≤ suc k → cond b (suc (suc k)) (placesOf k n) ≤ suc (suc k)
+    by true h = omega arith
+    by false h = omega arith
+
+pub length-hex : (n : ℕ) → length (hexOf n) ≡ 16
+unfolding hexOf
+length-hex n = length-digits 16 16 n
+
+pub decimal-is-short : (n : ℕ) → length (decimalOf n) ≤ 20
+unfolding decimalOf
+decimal-is-short n = rw (length-digits 10 (placesOf 19 n) n) (few-places 19 n)
