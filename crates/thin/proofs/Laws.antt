@@ -34,7 +34,7 @@ use Rattle.thin.specs.declared.Turned.{Turned}
 use Rattle.thin.specs.declared.Todo.{Todo}
 use Rattle.thin.specs.Tuples.{tuplesOf, tallyOf, flatOf}
 use Rattle.thin.specs.Plans.{planOf, planTurnsOf, startsOf, tallied, turnOf}
-use Rattle.thin.specs.Sheets.{placeOf, todoOf, thinRefusalOf, stepsOf}
+use Rattle.thin.specs.Sheets.{placeOf, todoOf, thinRefusalOf, stepsOf, notedOf}
 
 -- ---- the same numbers as a flat list
 
@@ -272,8 +272,49 @@ module _ (inverse : Bool) (s : List ℕ) (velocities : List Float) (marks : List
   shift-end {refusal} {n} {i} er en ea past now =
       let e : refusal ≡ flat-refusal = er ∙ refusal-is-flat s ys velocities marks in
       let m : n ≡ cond (eqb (flat-refusal .number) 0) (stepCountOf s) 0 = en ∙ rw e in
-      let end = rw m at (ahead-end velocities marks (entryAt s) n (flatOf ys) (few er en) i (flatOf zs) (answer .counts) inverse past now) in
+      let end = rw m at (ahead-end velocities marks (entryAt s) n (flatOf ys) (rw (en, er) (steps-few s (length ys) velocities marks)) i (flatOf zs) (answer .counts) inverse past now) in
       by-refusal (eqb (flat-refusal .number) 0) refl (ea ∙ e) (end .0) (end .1)
-    where
-      few : {refusal : Refusal} {n : ℕ} → refusal ≡ thinRefusalOf s (length ys) velocities marks → n ≡ stepsOf s refusal → n ≤ 16
-      few er en = rw (en, er) (steps-few s (length ys) velocities marks)
+
+-- ---- the loop over the steps as the walk has it
+
+pub place-below : (inverse : Bool) (n i : ℕ) → i < n → placeOf inverse n i < n
+place-below true n i h = omega arith
+place-below false n i h = h
+
+pub todo-place : (inverse : Bool) (s : List ℕ) (n i : ℕ) (todo : Todo) → todo ≡ todoOf inverse s n i → todo .place ≡ placeOf inverse n i
+unfolding todoOf
+todo-place inverse s n i todo et = ap (λ (t : Todo). t .place) et
+
+pub record Going (inverse : Bool) (s : List ℕ) (velocities : List Float) (marks : List ℕ) (ys : List Tuple) (refusal : Refusal) (n i : ℕ) (zs : List Tuple) (answer : Answer) : Type 0 where
+  pub told : answer .refusal ≡ refusal
+  pub long : length zs ≡ length ys
+  pub ahead : Ahead inverse velocities marks (entryAt s) n (flatOf ys) i (flatOf zs) (answer .counts)
+
+pub going-few : (s : List ℕ) (velocities : List Float) (marks : List ℕ) (ys : List Tuple) (refusal : Refusal) (n : ℕ) → refusal ≡ thinRefusalOf s (length ys) velocities marks → n ≡ stepsOf s refusal → n ≤ 16
+going-few s velocities marks ys refusal n er en = rw (en, er) (steps-few s (length ys) velocities marks)
+
+module _ (inverse : Bool) (s : List ℕ) (velocities : List Float) (marks : List ℕ) (ys : List Tuple) (refusal : Refusal) (n : ℕ) (most : n ≤ 16) where
+  pub going-start : (answer : Answer) → answer ≡ refusedAnswer refusal → Going inverse s velocities marks ys refusal n 0 ys answer
+  going-start answer e =
+      record {
+        told = ap (λ (r : Answer). r .refusal) e;
+        long = refl;
+        ahead = rw e (ahead-start velocities marks (entryAt s) n (flatOf ys) most inverse);
+      }
+
+  pub going-again : (i : ℕ) (zs zs′ : List Tuple) (answer answer′ : Answer) (todo : Todo) (count : ℕ) → i < n → todo ≡ todoOf inverse s n i → length zs′ ≡ length zs
+      → (zs′ ≡ tuplesOf (turnsOf (todo .inverse) velocities marks (todo .step)) 0 (stateOf (todo .step)) zs) × (count ≡ tallyOf (turnsOf (todo .inverse) velocities marks (todo .step)) 0 (stateOf (todo .step)) zs)
+      → answer′ ≡ notedOf answer (todo .place) count → Going inverse s velocities marks ys refusal n i zs answer → Going inverse s velocities marks ys refusal n (i + 1) zs′ answer′
+  unfolding notedOf
+  going-again i zs zs′ answer answer′ todo count h et el ran ea now =
+      let el′ = todo-list inverse s velocities marks n i todo zs zs′ count et (ran .0) (ran .1) in
+      let ec = todo-count inverse s velocities marks n i todo zs zs′ count et (ran .0) (ran .1) in
+      record {
+        told = ap (λ (r : Answer). r .refusal) ea ∙ now .told;
+        long = el ∙ now .long;
+        ahead = rw (ea, todo-place inverse s n i todo et) (ahead-again velocities marks (entryAt s) n (flatOf ys) most i (flatOf zs) (answer .counts) inverse h el′ ec (now .ahead));
+      }
+
+pub going-end : (inverse : Bool) (s : List ℕ) (velocities : List Float) (marks : List ℕ) (ys : List Tuple) (refusal : Refusal) (n : ℕ) → refusal ≡ thinRefusalOf s (length ys) velocities marks → n ≡ stepsOf s refusal
+    → (i : ℕ) (zs : List Tuple) (answer : Answer) → n ≤ i → Going inverse s velocities marks ys refusal n i zs answer → outcome answer (flatOf zs) ≡ shiftOf inverse s (flatOf ys) velocities marks
+going-end inverse s velocities marks ys refusal n er en i zs answer past now = shift-end inverse s velocities marks ys zs answer er en (now .told) past (now .ahead)

@@ -1,3 +1,4 @@
--- What is proved of a step over tuple records beside the functions' contracts; and a step of a walk by hand that several walks take.
+-- The laws of a step and of a sheet over tuple records; and what the walks by hand share.
 pub mod Laws
-pub mod Answers
+mod Answers
+mod Again

@@ -69,7 +69,7 @@ use Rattle.thin.specs.declared.Carried.{Carried}
 use Rattle.thin.specs.declared.Turned.{Turned}
 use Rattle.thin.specs.Tuples.{tuplesOf, tallyOf}
 use Rattle.thin.specs.Plans.{planOf, planTurnsOf, startsOf, beginOf, tallied, turnOf}
-use Rattle.thin.proofs.Answers.{answers}
+use Rattle.thin.proofs.Answers.{holds, fails, either, answers}
 use Rattle.thin.proofs.Laws.{plan-turns, plan-starts, turn-is, Walked, walk-start, walk-again, walk-end}
 use Rattle.thin.proofs.Plan as P
 use Rattle.thin.proofs.Plan.Laws as P′
@@ -103,18 +103,6 @@ stayed =
     (stay-none-slice (1 ∷ []) tt (plain (λ _. f64)) yes,
     (stay-none-slice (2 ∷ []) tt (plain (λ _. u8)) yes,
     tt)))))
-
-holds : (t : Bool) → T t → t ≡ true
-holds true _ = refl
-holds false a = absurd a
-
-fails : (t : Bool) → T (not t) → t ≡ false
-fails true a = absurd a
-fails false _ = refl
-
-either : {X : Type 1} (t : Bool) → (T t → X) → (T (not t) → X) → X
-either true a b = a tt
-either false a b = b tt
 
 -- ---- types and machine values, shut but for what the code reads of them: a walk compares them at every step
 
