@@ -1,5 +1,5 @@
 -- `show::put_refused` meets its contract. Assumes nothing.
-use borrow.Author.Tests.{ne-eqb}
+use borrow.Author.Tests.{eq-eqb, ne-eqb}
 use Rattle.text.proofs.Laws.{then}
 use Rattle.show.specs.Show.{refusedText}
 use borrow.Author.Needs.{needs}
@@ -17,7 +17,7 @@ same-length c = search needs
 
 returns : tie.Need-returns
 unfolding refusedText
-returns c = rw (c .before .before .before .before .if1 .taken) (then _ _ _ (c .before .before .before .before .before .before .before .put-answer .ensures) (c .before .before .put-sheet-place .ensures))
+returns c = rw (eq-eqb _ _ (c .before .before .before .before .if1 .taken)) (then _ _ _ (c .before .before .before .before .before .before .before .put-answer .ensures) (c .before .before .put-sheet-place .ensures))
 
 sub-wide : tie.Need-sub-wide
 sub-wide c = search needs
