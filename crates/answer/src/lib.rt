@@ -1,0 +1,78 @@
+// The program's work, from the bytes of a job to the bytes of its text: `job` reads, `chain` shifts, `report` tells.
+//
+// Document 01, "Program". The text is fixed for every job by specs/Answer.antt, in a room of any length; the longest text has 35,156 bytes. A bad job is 16,
+// before all others. No rounding but the steps' own. Used by the program `shift`.
+ghost use mathlib.Core.Path.{_≡_};
+ghost use Prim.Native.Nat.{_*_, _≤_};
+ghost use lib.ListN.{length};
+ghost use Rattle.text.specs.Text.{text, appended};
+ghost use Rattle.job.specs.Job.{headOf, marksAt};
+ghost use Rattle.answer.specs.Answer.{shiftText, jobText, answerOf};
+use job::Head;
+
+// A sheet over a list, told. The list is the caller's to drop.
+fn told(
+    room: &mut [u8],
+    inverse: bool,
+    s: &[u8],
+    list: &mut [f64],
+    velocities: &[f64],
+    marks: &[u8],
+) -> usize
+    ensures { λ r. ⌜ text (now (room .exit)) r ≡ appended (text (now (room .entry)) 0) (shiftText inverse (now (s .entry)) (now (list .entry)) (now (velocities .entry)) (now (marks .entry))) ⌝ }
+{
+    let said = chain::shift(inverse, s, list, velocities, marks);
+    let refusal = said.refusal;
+    if refusal.number != 0 {
+        return report::refused(room, 0, refusal.number, refusal.step);
+    }
+    let counts = said.counts;
+    report::ran(room, 0, sheet::step_count(s), &counts, list)
+}
+
+// A job's sheet over its list, in lists as long as its words say.
+fn shifted(
+    room: &mut [u8],
+    job: &[u8],
+    head: Head,
+    list: &mut [f64],
+    velocities: &mut [f64],
+) -> usize
+    requires { ⌜ (head ≡ headOf (now job)) × (marksAt head ≤ length (now job)) × (length (now list) ≡ 4 * head .tuples) × (length (now velocities) ≡ 3 * head .velocities) ⌝ }
+    ensures { λ r. ⌜ text (now (room .exit)) r ≡ appended (text (now (room .entry)) 0) (jobText (now (job .entry))) ⌝ }
+{
+    let a = job::tuples_at(head);
+    let b = job::velocities_at(head);
+    let c = job::marks_at(head);
+    job::numbers(&job[a..], list);
+    job::numbers(&job[b..], velocities);
+    told(
+        room,
+        head.direction == 1,
+        &job[16..a],
+        list,
+        velocities,
+        &job[c..],
+    )
+}
+
+// Room for the tuples of a job, and for its velocities.
+fn zeros() -> [f64; 2048]
+    ensures { λ r. ⌜ 2048 ≡ length r ⌝ }
+{
+    [0.0; 2048]
+}
+
+pub fn answer(job: &[u8], room: &mut [u8]) -> usize
+    ensures { λ r. ⌜ text (now (room .exit)) r ≡ appended (text (now (room .entry)) 0) (answerOf (now (job .entry))) ⌝ }
+{
+    let head = job::read_head(job);
+    if job::is_bad(head, job.len()) {
+        return report::refused(room, 0, 16, 0);
+    }
+    let mut list = zeros();
+    let mut velocities = zeros();
+    let n = 4 * job::wide(head.tuples);
+    let m = 3 * job::wide(head.velocities);
+    shifted(room, job, head, &mut list[..n], &mut velocities[..m])
+}
