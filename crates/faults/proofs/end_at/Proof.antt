@@ -1,5 +1,6 @@
 -- `faults::end_at` meets its contract. Assumes nothing.
 use borrow.Author.Needs.{needs}
+use Rattle.faults.proofs.Search.{end-next}
 use Rattle.faults.proofs.end_at.Statement.{statement}
 use Rattle.faults.proofs.end_at.Tie as tie
 
@@ -31,7 +32,7 @@ add-result : tie.Need-add-result
 add-result c = search needs
 
 returns : tie.Need-returns
-returns c = ?
+returns c = rw (end-next, c .wide2 .ensures .0, c .before .read322 .ensures, c .before .before .wide .ensures .0, c .before .before .before .read32 .ensures)
 
 pub end-at-spec : {M : Type 1} → statement M
 end-at-spec =

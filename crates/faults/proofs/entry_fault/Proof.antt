@@ -1,5 +1,7 @@
 -- `faults::entry_fault` meets its contract. Assumes nothing.
 use borrow.Author.Needs.{needs}
+use borrow.Author.Tests.{eq-eqb, ne-eqb, lt-ltb, le-ltb}
+use Rattle.faults.specs.Faults.{entryFault}
 use Rattle.faults.proofs.entry_fault.Statement.{statement}
 use Rattle.faults.proofs.entry_fault.Tie as tie
 
@@ -16,7 +18,8 @@ length-of-requires : tie.Need-length-of-requires
 length-of-requires c κs = search needs
 
 returns : tie.Need-returns
-returns c = ?
+unfolding entryFault
+returns c = (rw (← c .before .before .read32 .ensures, ← c .before .length-of .ensures, c .if1 .taken), search needs)
 
 add-read32 : tie.Need-add-read32
 add-read32 c = search needs
@@ -25,7 +28,8 @@ read32-requires-2 : tie.Need-read32-requires-2
 read32-requires-2 c κs = search needs
 
 returns-2 : tie.Need-returns-2
-returns-2 c = ?
+unfolding entryFault
+returns-2 c = (rw (← c .before .before .before .before .read32 .ensures, ← c .before .before .before .length-of .ensures, ne-eqb _ _ (c .before .before .if1 .left), ← c .before .read322 .ensures, lt-ltb _ _ (c .if2 .taken)), search needs)
 
 add-read32-2 : tie.Need-add-read32-2
 add-read32-2 c = search needs
@@ -34,7 +38,8 @@ read32-requires-3 : tie.Need-read32-requires-3
 read32-requires-3 c κs = search needs
 
 returns-3 : tie.Need-returns-3
-returns-3 c = ?
+unfolding entryFault
+returns-3 c = (rw (← c .before .before .before .before .before .before .read32 .ensures, ← c .before .before .before .before .before .length-of .ensures, ne-eqb _ _ (c .before .before .before .before .if1 .left), ← c .before .before .before .read322 .ensures, le-ltb _ _ (c .before .before .if2 .left), ← c .before .read323 .ensures, ne-eqb _ _ (c .if3 .taken)), search needs)
 
 add-read32-3 : tie.Need-add-read32-3
 add-read32-3 c = search needs
@@ -46,10 +51,12 @@ wide-requires : tie.Need-wide-requires
 wide-requires c κs = search needs
 
 returns-4 : tie.Need-returns-4
-returns-4 c = ?
+unfolding entryFault
+returns-4 c = (rw (← c .before .before .before .before .before .before .before .before .before .read32 .ensures, ← c .before .before .before .before .before .before .before .before .length-of .ensures, ne-eqb _ _ (c .before .before .before .before .before .before .before .if1 .left), ← c .before .before .before .before .before .before .read322 .ensures, le-ltb _ _ (c .before .before .before .before .before .if2 .left), ← c .before .before .before .before .read323 .ensures, eq-eqb _ _ (c .before .before .before .if3 .left), ← c .before .before .read324 .ensures, ← c .before .wide .ensures .0, ← c .before .before .before .before .before .before .before .before .before .before .before .pre .1, ne-eqb _ _ (c .if4 .taken)), search needs)
 
 returns-5 : tie.Need-returns-5
-returns-5 c = ?
+unfolding entryFault
+returns-5 c = (rw (← c .before .before .before .before .before .before .before .before .before .read32 .ensures, ← c .before .before .before .before .before .before .before .before .length-of .ensures, ne-eqb _ _ (c .before .before .before .before .before .before .before .if1 .left), ← c .before .before .before .before .before .before .read322 .ensures, le-ltb _ _ (c .before .before .before .before .before .if2 .left), ← c .before .before .before .before .read323 .ensures, eq-eqb _ _ (c .before .before .before .if3 .left), ← c .before .before .read324 .ensures, ← c .before .wide .ensures .0, ← c .before .before .before .before .before .before .before .before .before .before .before .pre .1, eq-eqb _ _ (c .if4 .left)), search needs)
 
 pub entry-fault-spec : {M : Type 1} → statement M
 entry-fault-spec =

@@ -1,13 +1,20 @@
 -- `faults::first_fault` meets its contract. Assumes nothing.
 use borrow.Author.Needs.{needs}
+use native.Mathlib.Omega.{arith}
+use mathlib.Core.Path.{_≡_, refl, sym, _∙_}
+use Prim.Native.Nat.{suc, _+_, _-_, _≤_}
+use native.Mathlib.Nat.{sub-zero}
+use Rattle.sheet.specs.Rules.{endBefore}
+use Rattle.faults.specs.Faults.{firstFault}
+use Rattle.faults.proofs.Search.{fault-here, fault-later, fault-none}
 use Rattle.faults.proofs.first_fault.Statement.{statement}
 use Rattle.faults.proofs.first_fault.Tie as tie
 
 abbrev Inv-loop : tie.InvT-loop
-Inv-loop s n end₀ i₀ end i = ?
+Inv-loop s n end₀ i₀ end i = (i ≤ n) × (end ≡ endBefore s i) × (firstFault s n 0 ≡ firstFault s (n - i) i)
 
 abbrev μ-loop : tie.MeasureT-loop
-μ-loop s n end₀ i₀ end i = ?
+μ-loop s n end₀ i₀ end i = n - i
 
 mul-end : tie.Need-mul-end Inv-loop μ-loop
 mul-end c = search needs
@@ -16,7 +23,8 @@ add-end : tie.Need-add-end Inv-loop μ-loop
 add-end c = search needs
 
 loop-holds : tie.Need-loop-holds Inv-loop μ-loop
-loop-holds c = ?
+unfolding endBefore
+loop-holds c = (omega arith, rw (← c .before .pre .1), rw sub-zero)
 
 entry-fault-requires : tie.Need-entry-fault-requires Inv-loop μ-loop
 entry-fault-requires c κs = search needs
@@ -31,7 +39,12 @@ add-result-2 : tie.Need-add-result-2 Inv-loop μ-loop
 add-result-2 c = search needs
 
 returns : tie.Need-returns Inv-loop μ-loop
-returns c = ?
+returns c =
+    let l = c .before .before .before in
+    let a = l .before .before .args in
+    let e = c .before .entry-fault .ensures in
+    let left : a .n - l .loop .i ≡ suc (a .n - (l .loop .i + 1)) = omega arith in
+    (rw (e .0) (sym (l .loop .inv .2 ∙ fault-here _ _ _ _ left (λ z. c .if1 .taken (e .0 ∙ z)))), omega (arith, e .1))
 
 end-at-requires : tie.Need-end-at-requires Inv-loop μ-loop
 end-at-requires c κs = search needs
@@ -43,10 +56,15 @@ loop-less : tie.Need-loop-less Inv-loop μ-loop
 loop-less c = search needs
 
 loop-again : tie.Need-loop-again Inv-loop μ-loop
-loop-again c = ?
+loop-again c =
+    let l = c .before .before .before .before in
+    let a = l .before .before .args in
+    let e = c .before .before .entry-fault .ensures in
+    let left : a .n - l .loop .i ≡ suc (a .n - (l .loop .i + 1)) = omega arith in
+    (omega arith, c .end-at .ensures, l .loop .inv .2 ∙ fault-later _ _ _ _ left (sym (e .0) ∙ c .before .if1 .left))
 
 returns-2 : tie.Need-returns-2 Inv-loop μ-loop
-returns-2 c = ?
+returns-2 c = (sym (c .before .loop .inv .2 ∙ fault-none _ _ _ (omega arith)), omega arith)
 
 pub first-fault-spec : {M : Type 1} → statement M
 first-fault-spec =

@@ -1,0 +1,60 @@
+-- `sheet_show::main` meets its contract: the place that `put_sheet` answers lies within the room. Assumes nothing.
+use mathlib.Core.Path.{sym}
+use lib.Seq.{length-take-le}
+use Rattle.text.proofs.Laws.{place-within}
+use borrow.Author.Needs.{needs}
+use Rattle.sheet_show.proofs.main.Statement.{statement}
+use Rattle.sheet_show.proofs.main.Tie as tie
+
+large-buffer-requires : tie.Need-large-buffer-requires
+large-buffer-requires c κs = search needs
+
+slice-aggregate-read-full : tie.Need-slice-aggregate-read-full
+slice-aggregate-read-full c = search needs
+
+read-full-requires : tie.Need-read-full-requires
+read-full-requires c κs = search needs
+
+large-buffer-requires-2 : tie.Need-large-buffer-requires-2
+large-buffer-requires-2 c κs = search needs
+
+slice-aggregate-put-sheet : tie.Need-slice-aggregate-put-sheet
+slice-aggregate-put-sheet c = search needs
+
+array-share-prefix-sheet : tie.Need-array-share-prefix-sheet
+array-share-prefix-sheet c = search needs
+
+slice-aggregate-put-sheet-2 : tie.Need-slice-aggregate-put-sheet-2
+slice-aggregate-put-sheet-2 c = search needs
+
+put-sheet-requires : tie.Need-put-sheet-requires
+put-sheet-requires c κs = search needs
+
+array-share-prefix-room : tie.Need-array-share-prefix-room
+array-share-prefix-room c = place-within _ _ (c .before .put-sheet .ensures)
+
+slice-aggregate-write-all : tie.Need-slice-aggregate-write-all
+slice-aggregate-write-all c = sym (length-take-le _ _ (place-within _ _ (c .before .before .put-sheet .ensures)))
+
+write-all-requires : tie.Need-write-all-requires
+write-all-requires c κs = search needs
+
+returns : tie.Need-returns
+returns c = search needs
+
+pub main-spec : {M : Type 1} → statement M
+main-spec =
+    tie.close
+    (tie.spec
+    large-buffer-requires
+    slice-aggregate-read-full
+    read-full-requires
+    large-buffer-requires-2
+    slice-aggregate-put-sheet
+    array-share-prefix-sheet
+    slice-aggregate-put-sheet-2
+    put-sheet-requires
+    array-share-prefix-room
+    slice-aggregate-write-all
+    write-all-requires
+    returns)

@@ -1,0 +1,29 @@
+-- `show::word_place` meets its contract. Assumes nothing.
+use borrow.Author.Tests.{ne-eqb}
+use Rattle.show.specs.Show.{wordPlace}
+use Rattle.show.specs.Show.{sheetPlace}
+use borrow.Author.Needs.{needs}
+use Rattle.show.proofs.word_place.Statement.{statement}
+use Rattle.show.proofs.word_place.Tie as tie
+
+returns : tie.Need-returns
+unfolding wordPlace
+returns c = rw (c .if1 .taken)
+
+returns-2 : tie.Need-returns-2
+unfolding wordPlace
+returns-2 c = rw (c .if2 .taken)
+
+returns-3 : tie.Need-returns-3
+unfolding wordPlace
+returns-3 c = rw (c .if3 .taken)
+
+fault-requires : tie.Need-fault-requires
+fault-requires c κs = search needs
+
+returns-4 : tie.Need-returns-4
+unfolding wordPlace
+returns-4 c = rw (ne-eqb _ _ (c .before .before .before .if1 .left), ne-eqb _ _ (c .before .before .if2 .left), ne-eqb _ _ (c .before .if3 .left), c .fault .ensures .0)
+
+pub word-place-spec : {M : Type 1} → statement M
+word-place-spec = tie.close (tie.spec returns returns-2 returns-3 fault-requires returns-4)
