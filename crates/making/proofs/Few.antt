@@ -1,5 +1,5 @@
 -- What stands in a room has at most sixteen steps. Assumes nothing.
-use mathlib.Core.Path.{_≡_, refl, ap, _∙_}
+use mathlib.Core.Path.{_≡_, refl}
 use Prim.Native.Nat.{ℕ, _≤_}
 use mathlib.Core.Bool.{Bool, true, false, cond}
 use mathlib.Core.List.{List}
@@ -7,7 +7,6 @@ use native.Mathlib.Omega.{arith}
 use borrow.Author.Tests.{eqb-true}
 use lib.Dec.{eqb, ltb}
 use lib.ListN.{length, take}
-use Rattle.sheet.specs.declared.Reading.{Reading}
 use Rattle.sheet.specs.Layout.{blankSheet, recordOf}
 use Rattle.sheet.specs.Rules.{accepted, ofSheet, refusalOf, readingOf}
 use Rattle.sheet.proofs.Order.{accepted-count}

@@ -11,15 +11,11 @@ use lib.Ieee.{binary64, fits}
 use lib.Ieee.Bits.{ofBits-fits}
 use Rattle.words.specs.Words.{Bytes, word32, word64, numberAt}
 use Rattle.words.proofs.Laws.{word32-is-a-word}
-use Rattle.rotation.specs.declared.Vec3.{Vec3}
 use Rattle.bodies.specs.declared.Step.{Step}
-use Rattle.bodies.specs.Kinds.{byKind, lengthOf}
+use Rattle.bodies.specs.Kinds.{lengthOf}
 use Rattle.bodies.specs.Read.{vec3At, helmertOf, cartOf, molodenskyOf, permtideOf, deformationOf, blankStep, stepOf}
 use Rattle.bodies.specs.Held.{Held, Held3, HeldHelmert, HeldCart, HeldMolodensky, HeldPermtide, HeldDeformation}
-use Rattle.sheet.specs.declared.Entry.{Entry}
-use Rattle.sheet.specs.declared.Sheet.{Sheet}
-use Rattle.sheet.specs.Layout.{stepCountOf, kindAt, bodyAt, stepAt, lengthAt, offsetAt, entryAt, entriesFrom, blankEntry, recordOf}
-use Rattle.sheet.specs.Bytes.{entryOf, stepIn}
+use Rattle.sheet.specs.Layout.{stepCountOf, kindAt, bodyAt, lengthAt, offsetAt, entryAt, entriesFrom, recordOf}
 use Rattle.sheet.specs.Rules.{refusalOf}
 use Rattle.sheet.proofs.Accepted.{accepted-keeps}
 use Rattle.sheet.proofs.Back.{bytes-part, entry-same, step-same, record-count}

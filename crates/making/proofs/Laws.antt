@@ -28,7 +28,6 @@ use Rattle.sheet.proofs.Forth.{taken}
 use Rattle.sheet.proofs.Writing.{sheet-bytes-length}
 use Rattle.sheet.proofs.WriterOrder.{accepted-record}
 use Rattle.sheet.proofs.Laws.{HeldSheet, SameSheet, written-then-read, room-starts-with-the-sheet}
-use Rattle.making.specs.declared.Added.{Added}
 use Rattle.making.specs.Adding.{readingAs, standingOf, withStepOf, Outcome, outcome, addedAs, writtenAs, addedOf}
 use Rattle.making.proofs.Longer.{Tidy, tidy-same, blank-is-tidy, blank-is-held, more-is-tidy, more-is-held, Begins, begins-itself, begins-on, begins-more, taken-before, shorter, writer-takes}
 use Rattle.making.proofs.FromBytes.{read-is-held, read-is-tidy}
@@ -122,7 +121,7 @@ standing-sound room len bytes e = sound room len bytes (eqb len 0) (ltb (length 
 
 -- a step added to a record as it is read or begun
 module _ (room : List ℕ) (inverted : ℕ) (step : Step) (sheet : Sheet) (tidy : Tidy sheet) (held : HeldSheet sheet) (new : Held step)
-  (e : writerRefusalOf (withStepOf sheet inverted step) (length room) ≡ accepted) where
+    (e : writerRefusalOf (withStepOf sheet inverted step) (length room) ≡ accepted) where
   few-before : sheet .count < 16
   unfolding withStepOf
   few-before = omega (arith, accepted-record (withStepOf sheet inverted step) (length room) (number-of e) .0)
@@ -242,7 +241,7 @@ first-taken es sheet room tidy some e =
 
 -- one step of several: what its addition leaves, and where the later ones begin
 module _ (e : Entry) (room : List ℕ) (len : ℕ) (sheet : Sheet) (st : standingOf room len ≡ readingAs accepted sheet)
-  (tidy : Tidy sheet) (held : HeldSheet sheet) (new : Held (e .step)) where
+    (tidy : Tidy sheet) (held : HeldSheet sheet) (new : Held (e .step)) where
   abbrev one : Sheet
   one = withStepOf sheet (e .inverted) (e .step)
 

@@ -1,13 +1,12 @@
 -- A record with one step more: its entries, and that the writer takes a record where it takes a longer one that begins with it. Assumes nothing.
 use mathlib.Core.Path.{_≡_, refl, sym, ap, _∙_}
 use Prim.Native.Nat.{ℕ, zero, suc, _+_, _-_, _<_, _≤_}
-use mathlib.Core.List.{List}
-use mathlib.Core.Bool.{Bool, true, false, cond}
+use mathlib.Core.Bool.{Bool, true, false}
 use native.Mathlib.Omega.{arith}
 use native.Mathlib.Nat.{zero-add, add-zero, add-suc}
 use borrow.Author.Tests.{lt-ltb, le-ltb, ltb-true, ltb-false, eqb-true, eqb-false, ne-eqb}
 use lib.Dec.{eqb, ltb}
-use lib.ListN.{length, getD, set, length-set, getD-replicate}
+use lib.ListN.{length, set, length-set, getD-replicate}
 use lib.Seq.{ext-getD, getD-set-same, getD-set-other}
 use Rattle.bodies.specs.declared.Step.{Step}
 use Rattle.bodies.specs.Kinds.{kindOf, lengthOf}
@@ -15,10 +14,10 @@ use Rattle.bodies.specs.Held.{Held}
 use Rattle.sheet.specs.declared.Entry.{Entry}
 use Rattle.sheet.specs.declared.Sheet.{Sheet}
 use Rattle.sheet.specs.Layout.{blankEntry, blankSheet}
-use Rattle.sheet.specs.Bytes.{entryOf, stepIn, kindIn, lengthIn, bodyStart, sheetLength}
-use Rattle.sheet.specs.Rules.{accepted, refusal3, recordRefusal4, recordRefusal5, refusal6, refusal7, refusal8, refusal11, refusal15, invertedBrokenIn, fiveToEight, elevens, writerOrder, writerRefusalOf}
+use Rattle.sheet.specs.Bytes.{entryOf, stepIn, kindIn, bodyStart, sheetLength}
+use Rattle.sheet.specs.Rules.{accepted, refusal3, recordRefusal4, recordRefusal5, refusal15, invertedBrokenIn, fiveToEight, elevens, writerOrder, writerRefusalOf}
 use Rattle.sheet.proofs.Order.{Kept, none-broken, kept-append}
-use Rattle.sheet.proofs.Each.{StepKept, every-step, every-eleven, every-kept, eleven-same}
+use Rattle.sheet.proofs.Each.{every-step, every-eleven, every-kept, eleven-same}
 use Rattle.sheet.proofs.Forth.{Taken}
 use Rattle.sheet.proofs.Laws.{HeldSheet, SameSheet}
 use Rattle.making.specs.Adding.{entryAs, withStepOf}

@@ -1,2 +1,3 @@
--- What the proofs of this crate share.
+-- What the proofs of this crate share, and the laws that callers cite.
 pub mod Fit
+pub mod Whole

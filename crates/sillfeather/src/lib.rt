@@ -1,6 +1,8 @@
 // The library as C and Rust link it: each exported function only hands over to a proved entry, and keeps its contract.
 //
-// A sheet is checked, or run over a list. A result of 0 is done; otherwise it is the refusal's number plus 65536 times the step, and nothing was written.
+// A sheet is checked, run over a list, run and kept to be corrected later, or made step by step in lent room. A result of 0 is done; otherwise it is the
+// refusal's number plus 65536 times the step, and nothing was written but zeros where counts are asked for. include/sillfeather.h says of each function what it
+// reads, writes, refuses and leaves alone.
 // The kernels, on any binary64 numbers: nothing is refused, and what each gives for a NaN, an infinity or a zero is its crate's law.
 ghost use mathlib.Core.Path.{_≡_};
 ghost use Rattle.sheet.specs.Rules.{refusalOf};
@@ -128,7 +130,7 @@ pub extern "C" fn sillfeather_keep(
 ) -> u32
     ensures { λ r. ⌜ (r ≡ codeOf (keepRefusalOf (now (s .entry)) (keptOf (now (list .entry)) (now (results .entry)) (now (track .entry)))))
         × (keptOf (now (list .entry)) (now (results .exit)) (now (track .exit))
-            ≡ keepOf (isInverse inverse) (now (s .entry)) (keptOf (now (list .entry)) (now (results .entry)) (now (track .entry)))) ⌝ }
+        ≡ keepOf (isInverse inverse) (now (s .entry)) (keptOf (now (list .entry)) (now (results .entry)) (now (track .entry)))) ⌝ }
 {
     code(kept::keep(inverse != 0, s, list, results, track))
 }
@@ -224,7 +226,12 @@ pub extern "C" fn sillfeather_add_helmert(
     ensures { λ r. ⌜ made r (now (len .exit)) (now (room .exit))
         ≡ madeOf (addedOf (now (room .entry)) (now (len .entry)) inverted (Step.Helmert (helmertOf flags convention (now (numbers .entry))))) ⌝ }
 {
-    add(room, len, inverted, Step::Helmert(helmert_of(flags, convention, numbers)))
+    add(
+        room,
+        len,
+        inverted,
+        Step::Helmert(helmert_of(flags, convention, numbers)),
+    )
 }
 
 #[no_mangle]
@@ -237,7 +244,14 @@ pub extern "C" fn sillfeather_add_cart(
     ensures { λ r. ⌜ made r (now (len .exit)) (now (room .exit))
         ≡ madeOf (addedOf (now (room .entry)) (now (len .entry)) inverted (Step.Cart (cartWith ellipsoid))) ⌝ }
 {
-    add(room, len, inverted, Step::Cart(Cart { ellipsoid: ellipsoid }))
+    add(
+        room,
+        len,
+        inverted,
+        Step::Cart(Cart {
+            ellipsoid: ellipsoid,
+        }),
+    )
 }
 
 fn molodensky_of(flags: u32, first: u32, second: u32, numbers: &[f64; 5]) -> Molodensky
@@ -269,7 +283,12 @@ pub extern "C" fn sillfeather_add_molodensky(
     ensures { λ r. ⌜ made r (now (len .exit)) (now (room .exit))
         ≡ madeOf (addedOf (now (room .entry)) (now (len .entry)) inverted (Step.Molodensky (molodenskyOf flags first second (now (numbers .entry))))) ⌝ }
 {
-    add(room, len, inverted, Step::Molodensky(molodensky_of(flags, first, second, numbers)))
+    add(
+        room,
+        len,
+        inverted,
+        Step::Molodensky(molodensky_of(flags, first, second, numbers)),
+    )
 }
 
 #[no_mangle]

@@ -1,0 +1,101 @@
+/* How much stack each call takes, measured: a thread runs it on a stack that was filled before, and what is no longer filled was used. A box plans with the limits;
+ * the figures are the machine's and the compiler's. The last line is 'N passed, M failed'. */
+#define _GNU_SOURCE
+#include "sillfeather.h"
+#include <pthread.h>
+#include <stdio.h>
+#include <stdlib.h>
+#include <string.h>
+
+enum { STACK = 1 << 20, FILL = 0xa5, NUMBERS = 4 * SILLFEATHER_TUPLES_MAX };
+
+static uint8_t all_kinds[SILLFEATHER_SHEET_MAX], one_helmert[SILLFEATHER_SHEET_MAX], marks[SILLFEATHER_TUPLES_MAX];
+static uint64_t all_kinds_len, one_helmert_len;
+static double list[NUMBERS], results[NUMBERS], track[NUMBERS], velocities[3 * SILLFEATHER_TUPLES_MAX];
+static struct sillfeather_helmert helmert = SILLFEATHER_HELMERT_BLANK;
+
+static void make(void) {
+    const double molodensky[5] = {1, 2, 3, 4, 5};
+    const size_t room = SILLFEATHER_SHEET_MAX;
+    helmert.t_epoch = 2000.0;
+    helmert.dxyz[0] = helmert.rxyz[0] = helmert.drxyz[0] = 1.0;
+    sillfeather_add_helmert(one_helmert, room, &one_helmert_len, 0, SILLFEATHER_HELMERT_EXACT, SILLFEATHER_POSITION_VECTOR, SILLFEATHER_NUMBERS(&helmert));
+    sillfeather_add_helmert(all_kinds, room, &all_kinds_len, 0, SILLFEATHER_HELMERT_EXACT, SILLFEATHER_POSITION_VECTOR, SILLFEATHER_NUMBERS(&helmert));
+    sillfeather_add_cart(all_kinds, room, &all_kinds_len, 1, SILLFEATHER_GRS80);
+    sillfeather_add_molodensky(all_kinds, room, &all_kinds_len, 0, 0, SILLFEATHER_GRS80, 0, molodensky);
+    sillfeather_add_permtide(all_kinds, room, &all_kinds_len, 0, SILLFEATHER_GRS80, SILLFEATHER_TIDE_MEAN, SILLFEATHER_TIDE_FREE, SILLFEATHER_PERMTIDE_K);
+    sillfeather_add_deformation(all_kinds, room, &all_kinds_len, 0, 0, SILLFEATHER_GRS80, SILLFEATHER_NOT_GIVEN, 2000.0);
+    memset(marks, 1, sizeof marks);
+    for (int i = 0; i < NUMBERS; i++) list[i] = i;
+}
+
+static uint32_t nothing(void) { return 0; }
+
+static uint32_t check(void) { return sillfeather_check(all_kinds, (size_t)all_kinds_len); }
+
+static uint32_t shift(void) {
+    uint32_t counts[16], told = 0;
+    for (uint32_t inverse = 0; inverse < 2; inverse++)
+        told |= sillfeather_shift(inverse, all_kinds, (size_t)all_kinds_len, list, NUMBERS, velocities, 3 * SILLFEATHER_TUPLES_MAX, marks,
+                                  SILLFEATHER_TUPLES_MAX, counts);
+    return told;
+}
+
+static uint32_t keep(void) {
+    return sillfeather_keep(0, one_helmert, (size_t)one_helmert_len, list, NUMBERS, results, NUMBERS, track, NUMBERS);
+}
+
+static uint32_t correct(void) {
+    const double fix[4] = {1, 2, 3, 2001};
+    uint64_t redone;
+    return sillfeather_correct(0, one_helmert, (size_t)one_helmert_len, list, NUMBERS, results, NUMBERS, track, NUMBERS, 3, fix, &redone);
+}
+
+static uint32_t add(void) {
+    return sillfeather_add_helmert(all_kinds, SILLFEATHER_SHEET_MAX, &all_kinds_len, 0, 0, SILLFEATHER_POSITION_VECTOR, SILLFEATHER_NUMBERS(&helmert));
+}
+
+static uint32_t (*call)(void);
+static uint32_t told;
+
+static void *run(void *unused) {
+    told = call();
+    return unused;
+}
+
+static size_t used_by(uint32_t (*what)(void), uint8_t *stack) {
+    pthread_attr_t attributes;
+    pthread_t thread;
+    size_t free_bytes = 0;
+    call = what;
+    memset(stack, FILL, STACK);
+    pthread_attr_init(&attributes);
+    pthread_attr_setstack(&attributes, stack, STACK);
+    if (pthread_create(&thread, &attributes, run, NULL) != 0) exit(1);
+    pthread_join(thread, NULL);
+    while (stack[free_bytes] == FILL) free_bytes++;
+    return STACK - free_bytes;
+}
+
+int main(void) {
+    static const struct {
+        const char *name;
+        uint32_t (*call)(void);
+        size_t limit;
+    } calls[] = {{"check", check, 4096}, {"shift", shift, 4096}, {"keep", keep, 4096}, {"correct", correct, 4096}, {"add", add, 65536}};
+    int passed = 0, failed = 0;
+    void *stack;
+    if (posix_memalign(&stack, 4096, STACK) != 0) return 1;
+    make();
+    used_by(nothing, stack); /* the first thread of a program takes more */
+    size_t none = used_by(nothing, stack);
+    for (size_t i = 0; i < sizeof calls / sizeof *calls; i++) {
+        size_t all = used_by(calls[i].call, stack), used = all > none ? all - none : 0;
+        int so = told == 0 && used <= calls[i].limit;
+        printf("%s %s: %zu bytes of stack, at most %zu\n", so ? "     " : "FAIL ", calls[i].name, used, calls[i].limit);
+        passed += so;
+        failed += !so;
+    }
+    printf("%d passed, %d failed\n", passed, failed);
+    return failed != 0;
+}
