@@ -2,7 +2,7 @@
 -- asks for the next step, lends the list again to `run_step` for a lifetime that is made for the call (`Again.antt`), and notes the count. The invariant is
 -- `Laws.antt`'s `Going`, which is `chain`'s own over the same numbers. All that the proof knows of the functions it calls is that they meet their contracts.
 -- Assumes nothing.
-use mathlib.Core.Path.{_≡_, refl, sym, ap, subst, _∙_}
+use mathlib.Core.Path.{_≡_, refl, sym, ap, subst}
 use Prim.Native.Nat.{ℕ, _<_, _≤_, _^_, _+_, _-_}
 use native.Mathlib.Omega.{arith}
 use mathlib.Core.Bool.{Bool, not}
@@ -19,7 +19,7 @@ use mir.Syntax.{Ty, Fn, Local, local, valueLocal, named, erased, mut, imm, w8, w
 use mir.Table.{spell}
 use mir.Val.{Val, WT, hasTy, vint, vbool, vstruct, vcons, vnil}
 use base.Logic.{SProp, ent, sep, exE, snd∗, id⊢, emp, via, fst∗}
-use base.Fml.{Lft, Share, GName, Fml, ftrue, fsep, fat, froom, fdies, flft}
+use base.Fml.{Lft, Share, GName, Fml, ftrue, fat, froom, fdies, flft}
 use prog.Memory.{Memory, fieldAt}
 use prog.Routine.{Routine}
 use prog.Wp.{Heap, Out, Env, Calls, Loops, Wp, WpFn, Tables, afterSeq, afterBlock, afterTurn, atReturn}
@@ -52,7 +52,6 @@ use denote.Exit.{yes}
 use denote.Signature.{plain}
 use Rattle.tuple.specs.declared.Tuple.{Tuple}
 use Rattle.tuple.proofs.Tuple as T
-use Rattle.tuple.proofs.Tuple.Laws as T′
 use Rattle.bodies.specs.declared.Step.{Step}
 use Rattle.bodies.proofs.Step as S
 use Rattle.bodies.proofs.Step.Laws as S′
@@ -66,7 +65,7 @@ use Rattle.chain.proofs.Answer as An
 use Rattle.chain.proofs.Answer.Laws as An′
 use Rattle.thin.specs.declared.Todo.{Todo}
 use Rattle.thin.specs.Tuples.{tuplesOf, tallyOf, flatOf}
-use Rattle.thin.specs.Sheets.{placeOf, todoOf, thinRefusalOf, stepsOf, notedOf}
+use Rattle.thin.specs.Sheets.{todoOf, thinRefusalOf, stepsOf, notedOf}
 use Rattle.thin.proofs.Answers.{holds, fails, either, answers}
 use Rattle.thin.proofs.Again.{LentAgain, lends-at, comes-at}
 use Rattle.thin.proofs.Laws.{place-below, todo-place, Going, going-few, going-start, going-again, going-end}
