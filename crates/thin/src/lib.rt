@@ -136,8 +136,14 @@ fn carried_on(at: Carried, state: State, tuple: Tuple, counted: bool) -> Turned
     ensures { λ r. ⌜ r ≡ tallied at (record { state = state; tuple = tuple; counted = counted }) ⌝ }
 {
     let n = tally(at.counted, counted);
-    let carried = Carried { state: state, counted: n };
-    Turned { carried: carried, tuple: tuple }
+    let carried = Carried {
+        state: state,
+        counted: n,
+    };
+    Turned {
+        carried: carried,
+        tuple: tuple,
+    }
 }
 
 fn turn(plan: Plan, at: Carried, k: usize, u: Tuple, velocities: &[f64], marks: &[u8]) -> Turned

@@ -95,13 +95,22 @@ use Rattle.thin.proofs.run_step.Code as code
 use Rattle.thin.proofs.run_step.Code.Mir as code-mir
 
 abbrev stayed : Stays (f.ended .signature .params) (f.ended .kept)
-stayed =
-    (stay-slice (0 ∷ []) tt (plain (λ _. T.the-row)),
-    (stay-none (λ _. bool) yes,
-    (stay-none (λ _. S.the-row) yes,
-    (stay-none-slice (1 ∷ []) tt (plain (λ _. f64)) yes,
-    (stay-none-slice (2 ∷ []) tt (plain (λ _. u8)) yes,
-    tt)))))
+stayed = (
+  stay-slice (0 ∷ []) tt (plain (λ _. T.the-row)),
+  (
+    stay-none (λ _. bool) yes,
+    (
+      stay-none (λ _. S.the-row) yes,
+      (
+        stay-none-slice (1 ∷ []) tt (plain (λ _. f64)) yes,
+        (
+          stay-none-slice (2 ∷ []) tt (plain (λ _. u8)) yes,
+          tt,
+        ),
+      ),
+    ),
+  ),
+)
 
 -- ---- types and machine values, shut but for what the code reads of them: a walk compares them at every step
 
@@ -529,9 +538,16 @@ module _ {M : Type 1} (𝓤 : URA M) (H : Heap 𝓤) (A : Atoms 𝓤) (W : Given
   run-step-meets : Meets 𝓤 H A f.signature (WpFn 𝓤 H (𝓣 .C) (𝓣 .Λ) code.function) (f.spec 𝓤 H A mem run)
   run-step-meets =
       subst (λ (g : Fn). Meets 𝓤 H A f.signature (WpFn 𝓤 H (𝓣 .C) (𝓣 .Λ) g) (f.spec 𝓤 H A mem run)) (sym function-is)
-      (walk-meets 𝓤 H A f.ended stayed W
-      (goes-slice 𝓤 H A W 3 0 tt (plain (λ _. T.the-row)), (goes-none 𝓤 H A W 3 (λ _. bool) yes (λ κs x f. refl), (goes-none 𝓤 H A W 3 (λ _. S.the-row) yes (λ κs x f. refl),
-      (goes-none-slice 𝓤 H A W 3 (1 ∷ []) tt (plain (λ _. f64)) yes, (goes-none-slice 𝓤 H A W 3 (2 ∷ []) tt (plain (λ _. u8)) yes, tt)))))
+      (walk-meets 𝓤 H A f.ended stayed W (
+        goes-slice 𝓤 H A W 3 0 tt (plain (λ _. T.the-row)),
+        (
+          goes-none 𝓤 H A W 3 (λ _. bool) yes (λ κs x f. refl),
+          (
+            goes-none 𝓤 H A W 3 (λ _. S.the-row) yes (λ κs x f. refl),
+            (goes-none-slice 𝓤 H A W 3 (1 ∷ []) tt (plain (λ _. f64)) yes, (goes-none-slice 𝓤 H A W 3 (2 ∷ []) tt (plain (λ _. u8)) yes, tt)),
+          ),
+        ),
+      )
       (f.clauses 𝓤 H A mem run) (WpFn 𝓤 H (𝓣 .C) (𝓣 .Λ) function) (WpFn-mono 𝓤 H (W .laws) 𝓣 function) run-step-walks)
 
 pub run-step-spec : {M : Type 1} → stated.statement M
