@@ -1,12 +1,14 @@
 -- A step over a list of tuple records, for any step: tuple after tuple from the front, a state handed on from each to the next. `Turns` is that of the flat
--- lists, so that a step is said once for both; proofs/Laws.antt has the law that both say the same.
+-- lists, so that a step is said once for both; proofs/Flat.antt has the theorem that both say the same.
 use Prim.Native.Nat.{ℕ, suc, _+_}
-use mathlib.Core.Bool.{cond}
+use mathlib.Core.Bool.{Bool, cond}
 use mathlib.Core.List.{List, [], _∷_, _++_}
 use lib.Ieee.{Float}
 use Rattle.tuple.specs.declared.Tuple.{Tuple}
 use Rattle.lists.specs.Flat.{numbersOf}
+use Rattle.bodies.specs.declared.Step.{Step}
 use Rattle.lists.specs.Run.{Turns}
+use Rattle.chain.specs.Chain.{turnsOf, stateOf}
 
 -- the list afterwards, the first fix having index k
 abbrev pub tuplesOf : {S : Type 0} → Turns S → ℕ → S → List Tuple → List Tuple
@@ -18,7 +20,15 @@ abbrev pub tallyOf : {S : Type 0} → Turns S → ℕ → S → List Tuple → �
 tallyOf f k state [] = 0
 tallyOf f k state (u ∷ us) = cond (f k state u .counted) 1 0 + tallyOf f (suc k) (f k state u .state) us
 
--- the same numbers as a flat list, four a tuple
+-- ---- a step of a sheet over a list of tuple records: the list afterwards, and how many tuples counted
+
+abbrev pub stepTuplesOf : Bool → List Float → List ℕ → Step → List Tuple → List Tuple
+stepTuplesOf inverse velocities marks step us = tuplesOf (turnsOf inverse velocities marks step) 0 (stateOf step) us
+
+abbrev pub stepTallyOf : Bool → List Float → List ℕ → Step → List Tuple → ℕ
+stepTallyOf inverse velocities marks step us = tallyOf (turnsOf inverse velocities marks step) 0 (stateOf step) us
+
+-- ---- the same numbers as a flat list, four a tuple
 abbrev pub flatOf : List Tuple → List Float
 flatOf [] = []
 flatOf (u ∷ us) = numbersOf u ++ flatOf us

@@ -1,15 +1,19 @@
-// The thin entry over a lent list of tuple records.
+// The thin entries: a step of any kind, or a whole sheet, over a lent list of tuple records, where the list stands.
 //
-// Document 01, "afterwards also a thin entry over a lent list of tuple records". The flat lists are the core; these few functions walk a `&mut [Tuple]`
-// where it stands and hand each tuple to the covered step.
+// Document 01: "a lent flat list; afterwards also a thin entry over a lent list of tuple records". The flat entries are the core. What is here walks a
+// `&mut [Tuple]` and hands each tuple to the step that the core is made of: `run_step` has the one loop over tuples, for all five kinds, either way, Helmert
+// in every mode with its carried state; `shift` runs a sheet's steps one after another by it, with `chain::shift`'s refusals in their order, 2,048 tuples at
+// most. Proved for every input: the list and the count of `run_step` are the step's own definition from tuple to tuple, and what `shift` answers and leaves
+// are, number for number, what `chain::shift` answers and leaves on the same numbers as a flat list (proofs/Flat.antt). No rounding but the steps' own. The
+// two walks are proved by hand; a further kind of step is a case of Plan, with a line each in `plan_of`, `start_of` and `turn`, and no walk. For callers who
+// hold their fixes as records.
 ghost use mathlib.Core.Path.{_≡_};
 ghost use mathlib.Core.Bool.{true, false, cond};
 ghost use Prim.Native.Nat.{_+_, _<_};
 ghost use Rattle.runs.specs.Turns.{noState};
 ghost use Rattle.sheet.specs.Rules.{ofSheet};
-ghost use Rattle.chain.specs.Chain.{turnsOf, stateOf};
 ghost use Rattle.chain.specs.Rules.{refusedAnswer, outcome, shiftOf};
-ghost use Rattle.thin.specs.Tuples.{tuplesOf, tallyOf, flatOf};
+ghost use Rattle.thin.specs.Tuples.{stepTuplesOf, stepTallyOf, flatOf};
 ghost use Rattle.thin.specs.Plans.{planOf, startsOf, beginOf, tallied, turnOf};
 ghost use Rattle.thin.specs.Sheets.{placeOf, todoOf, thinRefusalOf, stepsOf, notedOf};
 use bodies::Step;
@@ -132,8 +136,14 @@ fn carried_on(at: Carried, state: State, tuple: Tuple, counted: bool) -> Turned
     ensures { λ r. ⌜ r ≡ tallied at (record { state = state; tuple = tuple; counted = counted }) ⌝ }
 {
     let n = tally(at.counted, counted);
-    let carried = Carried { state: state, counted: n };
-    Turned { carried: carried, tuple: tuple }
+    let carried = Carried {
+        state: state,
+        counted: n,
+    };
+    Turned {
+        carried: carried,
+        tuple: tuple,
+    }
 }
 
 fn turn(plan: Plan, at: Carried, k: usize, u: Tuple, velocities: &[f64], marks: &[u8]) -> Turned
@@ -184,8 +194,8 @@ pub fn run_step(
     velocities: &[f64],
     marks: &[u8],
 ) -> usize
-    ensures { λ r. ⌜ (now (list .exit) ≡ tuplesOf (turnsOf inverse (now (velocities .entry)) (now (marks .entry)) step) 0 (stateOf step) (now (list .entry)))
-        × (r ≡ tallyOf (turnsOf inverse (now (velocities .entry)) (now (marks .entry)) step) 0 (stateOf step) (now (list .entry))) ⌝ }
+    ensures { λ r. ⌜ (now (list .exit) ≡ stepTuplesOf inverse (now (velocities .entry)) (now (marks .entry)) step (now (list .entry)))
+        × (r ≡ stepTallyOf inverse (now (velocities .entry)) (now (marks .entry)) step (now (list .entry))) ⌝ }
 {
     let plan = plan_of(inverse, step);
     let mut at = begin(plan);

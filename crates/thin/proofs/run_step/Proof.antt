@@ -3,9 +3,9 @@
 -- the marks are lent on to `turn` at their own lifetimes: what a `&` owns is had twice, and the tokens come back.
 -- All that the proof knows of the functions it calls is that they meet their contracts. Assumes nothing.
 use mathlib.Core.Path.{_≡_, refl, sym, ap, subst, _∙_}
-use Prim.Native.Nat.{ℕ, _<_, _≤_, _^_, _*_, _+_, _-_, zero-le}
+use Prim.Native.Nat.{ℕ, _<_, _≤_, _^_, _*_, _+_, _-_}
 use native.Mathlib.Omega.{arith}
-use mathlib.Core.Bool.{Bool, true, false, not}
+use mathlib.Core.Bool.{Bool, not}
 use mathlib.Core.List.{[], _∷_, List}
 use mathlib.Core.WellFounded.{WellFounded, InvImage·wf}
 use lib.WfN.{Nat·lt-wfRel}
@@ -19,14 +19,14 @@ use mir.Table.{spell}
 use mathlib.Core.Option.{some}
 use mir.Val.{Val, WT, hasTy, vint, vbool, vptr, vstruct, vcons, vnil}
 use base.Logic.{SProp, ent, sep, exE, snd∗, id⊢, emp, via, fst∗}
-use base.Fml.{Lft, Share, GName, Fml, ftrue, fsep, fat, froom, fdies, flft, fobs, fauth, fbor, fobor}
+use base.Fml.{Lft, Share, GName, Fml, ftrue, fat, froom, fdies, flft, fobs, fauth, fbor, fobor}
 use prog.Memory.{Memory, fieldAt}
 use prog.Routine.{Routine}
 use prog.Wp.{Heap, Out, Env, Calls, Loops, Wp, WpFn, Tables, afterSeq, afterBlock, afterTurn, atReturn}
 use ghost.Atoms.{Atoms, sem}
 use contract.Monad.{Fun, fact}
 use contract.Running.{givenOf, tables, tablesOf}
-use types.Kit.{Given, Item, ‵, raw, _⊛_, mean, ⋆, runs, anyQ, atRet, Seq, Sq, _$_, _∵_, !, qed, by, move, keep, drop, use1, use2, use3, split, join, rewrite, fsplit, fjoin, suffices, frame, done}
+use types.Kit.{Given, Item, ‵, raw, _⊛_, mean, ⋆, runs, anyQ, atRet, Sq, _$_, _∵_, !, qed, by, move, keep, drop, use1, use2, use3, split, join, rewrite, fsplit, fjoin, suffices, frame, done}
 use types.Run.{look, look-raw, store-raw, init, store, forget, stop, hop, fld, from, load, lit, of-opd, bin, assigns, assigns-last, and-then, no-more, land, returns, enter, alloc1, alloc0, params1, pass1, pass0, free1, free0, exec, first, blocks, stays, leaves-loop, Below, again, loops}
 use types.Part.{whole, sub, look-in}
 use sound.WpLaws.{FmC, fmOf, WpFn-mono}
@@ -37,7 +37,7 @@ use denote.Memory.{pointee}
 use denote.Plain.{uint-makes, bool-makes, bool-vals, bool-tells}
 use denote.Builtin.{u8, usize, f64, bool}
 use denote.Ref.{RefT}
-use denote.Slice.{sliceTy, sliceVal, MutSlice, ShrSlice, Room, heres, codedHoleys, at-slice, slice-vals, mut-slice-tells, shr-slice-tells, shr-slice-lawful, shr-slice-copy}
+use denote.Slice.{sliceTy, sliceVal, MutSlice, ShrSlice, Room, heres, codedHoleys, at-slice, slice-vals, mut-slice-tells, shr-slice-tells, shr-slice-copy}
 use denote.Lend.{Held}
 use denote.Index.{row, place-is, elem-out, elem-put, opens-slice, closes-slice}
 use denote.Steps.{only, owned, nothing}
@@ -60,7 +60,6 @@ use Rattle.bodies.specs.declared.Step.{Step}
 use Rattle.bodies.proofs.Step as S
 use Rattle.bodies.proofs.Step.Laws as S′
 use Rattle.helmert.specs.declared.State.{State}
-use Rattle.helmert.proofs.State as St
 use Rattle.helmert.proofs.State.Laws as St′
 use Rattle.lists.specs.Run.{Turns}
 use Rattle.chain.specs.Chain.{turnsOf, stateOf}
@@ -96,13 +95,22 @@ use Rattle.thin.proofs.run_step.Code as code
 use Rattle.thin.proofs.run_step.Code.Mir as code-mir
 
 abbrev stayed : Stays (f.ended .signature .params) (f.ended .kept)
-stayed =
-    (stay-slice (0 ∷ []) tt (plain (λ _. T.the-row)),
-    (stay-none (λ _. bool) yes,
-    (stay-none (λ _. S.the-row) yes,
-    (stay-none-slice (1 ∷ []) tt (plain (λ _. f64)) yes,
-    (stay-none-slice (2 ∷ []) tt (plain (λ _. u8)) yes,
-    tt)))))
+stayed = (
+  stay-slice (0 ∷ []) tt (plain (λ _. T.the-row)),
+  (
+    stay-none (λ _. bool) yes,
+    (
+      stay-none (λ _. S.the-row) yes,
+      (
+        stay-none-slice (1 ∷ []) tt (plain (λ _. f64)) yes,
+        (
+          stay-none-slice (2 ∷ []) tt (plain (λ _. u8)) yes,
+          tt,
+        ),
+      ),
+    ),
+  ),
+)
 
 -- ---- types and machine values, shut but for what the code reads of them: a walk compares them at every step
 
@@ -530,9 +538,16 @@ module _ {M : Type 1} (𝓤 : URA M) (H : Heap 𝓤) (A : Atoms 𝓤) (W : Given
   run-step-meets : Meets 𝓤 H A f.signature (WpFn 𝓤 H (𝓣 .C) (𝓣 .Λ) code.function) (f.spec 𝓤 H A mem run)
   run-step-meets =
       subst (λ (g : Fn). Meets 𝓤 H A f.signature (WpFn 𝓤 H (𝓣 .C) (𝓣 .Λ) g) (f.spec 𝓤 H A mem run)) (sym function-is)
-      (walk-meets 𝓤 H A f.ended stayed W
-      (goes-slice 𝓤 H A W 3 0 tt (plain (λ _. T.the-row)), (goes-none 𝓤 H A W 3 (λ _. bool) yes (λ κs x f. refl), (goes-none 𝓤 H A W 3 (λ _. S.the-row) yes (λ κs x f. refl),
-      (goes-none-slice 𝓤 H A W 3 (1 ∷ []) tt (plain (λ _. f64)) yes, (goes-none-slice 𝓤 H A W 3 (2 ∷ []) tt (plain (λ _. u8)) yes, tt)))))
+      (walk-meets 𝓤 H A f.ended stayed W (
+        goes-slice 𝓤 H A W 3 0 tt (plain (λ _. T.the-row)),
+        (
+          goes-none 𝓤 H A W 3 (λ _. bool) yes (λ κs x f. refl),
+          (
+            goes-none 𝓤 H A W 3 (λ _. S.the-row) yes (λ κs x f. refl),
+            (goes-none-slice 𝓤 H A W 3 (1 ∷ []) tt (plain (λ _. f64)) yes, (goes-none-slice 𝓤 H A W 3 (2 ∷ []) tt (plain (λ _. u8)) yes, tt)),
+          ),
+        ),
+      )
       (f.clauses 𝓤 H A mem run) (WpFn 𝓤 H (𝓣 .C) (𝓣 .Λ) function) (WpFn-mono 𝓤 H (W .laws) 𝓣 function) run-step-walks)
 
 pub run-step-spec : {M : Type 1} → stated.statement M

@@ -2,7 +2,7 @@
 -- asks for the next step, lends the list again to `run_step` for a lifetime that is made for the call (`Again.antt`), and notes the count. The invariant is
 -- `Laws.antt`'s `Going`, which is `chain`'s own over the same numbers. All that the proof knows of the functions it calls is that they meet their contracts.
 -- Assumes nothing.
-use mathlib.Core.Path.{_≡_, refl, sym, ap, subst, _∙_}
+use mathlib.Core.Path.{_≡_, refl, sym, ap, subst}
 use Prim.Native.Nat.{ℕ, _<_, _≤_, _^_, _+_, _-_}
 use native.Mathlib.Omega.{arith}
 use mathlib.Core.Bool.{Bool, not}
@@ -19,7 +19,7 @@ use mir.Syntax.{Ty, Fn, Local, local, valueLocal, named, erased, mut, imm, w8, w
 use mir.Table.{spell}
 use mir.Val.{Val, WT, hasTy, vint, vbool, vstruct, vcons, vnil}
 use base.Logic.{SProp, ent, sep, exE, snd∗, id⊢, emp, via, fst∗}
-use base.Fml.{Lft, Share, GName, Fml, ftrue, fsep, fat, froom, fdies, flft}
+use base.Fml.{Lft, Share, GName, Fml, ftrue, fat, froom, fdies, flft}
 use prog.Memory.{Memory, fieldAt}
 use prog.Routine.{Routine}
 use prog.Wp.{Heap, Out, Env, Calls, Loops, Wp, WpFn, Tables, afterSeq, afterBlock, afterTurn, atReturn}
@@ -52,7 +52,6 @@ use denote.Exit.{yes}
 use denote.Signature.{plain}
 use Rattle.tuple.specs.declared.Tuple.{Tuple}
 use Rattle.tuple.proofs.Tuple as T
-use Rattle.tuple.proofs.Tuple.Laws as T′
 use Rattle.bodies.specs.declared.Step.{Step}
 use Rattle.bodies.proofs.Step as S
 use Rattle.bodies.proofs.Step.Laws as S′
@@ -66,7 +65,7 @@ use Rattle.chain.proofs.Answer as An
 use Rattle.chain.proofs.Answer.Laws as An′
 use Rattle.thin.specs.declared.Todo.{Todo}
 use Rattle.thin.specs.Tuples.{tuplesOf, tallyOf, flatOf}
-use Rattle.thin.specs.Sheets.{placeOf, todoOf, thinRefusalOf, stepsOf, notedOf}
+use Rattle.thin.specs.Sheets.{todoOf, thinRefusalOf, stepsOf, notedOf}
 use Rattle.thin.proofs.Answers.{holds, fails, either, answers}
 use Rattle.thin.proofs.Again.{LentAgain, lends-at, comes-at}
 use Rattle.thin.proofs.Laws.{place-below, todo-place, Going, going-few, going-start, going-again, going-end}
@@ -103,13 +102,22 @@ use Rattle.thin.proofs.shift.Code as code
 use Rattle.thin.proofs.shift.Code.Mir as code-mir
 
 abbrev stayed : Stays (f.ended .signature .params) (f.ended .kept)
-stayed =
-    (stay-none (λ _. bool) yes,
-    (stay-none-slice (0 ∷ []) tt (plain (λ _. u8)) yes,
-    (stay-slice (1 ∷ []) tt (plain (λ _. T.the-row)),
-    (stay-none-slice (2 ∷ []) tt (plain (λ _. f64)) yes,
-    (stay-none-slice (3 ∷ []) tt (plain (λ _. u8)) yes,
-    tt)))))
+stayed = (
+  stay-none (λ _. bool) yes,
+  (
+    stay-none-slice (0 ∷ []) tt (plain (λ _. u8)) yes,
+    (
+      stay-slice (1 ∷ []) tt (plain (λ _. T.the-row)),
+      (
+        stay-none-slice (2 ∷ []) tt (plain (λ _. f64)) yes,
+        (
+          stay-none-slice (3 ∷ []) tt (plain (λ _. u8)) yes,
+          tt,
+        ),
+      ),
+    ),
+  ),
+)
 
 -- ---- types and machine values, shut but for what the code reads of them: a walk compares them at every step
 
@@ -478,7 +486,6 @@ module _ {M : Type 1} (𝓤 : URA M) (H : Heap 𝓤) (A : Atoms 𝓤) (W : Given
       -- [marks; nothing; velocities; the list; s; its token; two tokens; s's token]
       move ! (3 ∷ 5 ∷ []) $ join ! $ frame ! $ move ! (5 ∷ 1 ∷ []) $ join ! $ move ! (0 ∷ 3 ∷ []) $ join ! $ frame ! $ move ! (2 ∷ 1 ∷ 0 ∷ []) $ done !
 
-
   module _ (refusal : Refusal) (rv : Val) (er : refusal ≡ thinRefusalOf (s .now) m (velocities .now) (marks .now)) (n : ℕ) (n-fits : n < 2 ^ 64) (en : n ≡ stepsOf (s .now) refusal) where
     most : n ≤ 16
     most = going-few (s .now) (velocities .now) (marks .now) ys refusal n er en
@@ -526,7 +533,6 @@ module _ {M : Type 1} (𝓤 : URA M) (H : Heap 𝓤) (A : Atoms 𝓤) (W : Given
           returns ! (look ! 33 refl) $ forget ! 7 refl $ forget ! 9 refl $ forget ! 15 refl $ forget ! 17 refl $ forget ! 19 refl $ forget ! 21 refl $ forget ! 23 refl $ forget ! 25 refl $ forget ! 27 refl $ forget ! 29 refl $ forget ! 31 refl $ forget ! 33 refl $
           move ! (33 ∷ 34 ∷ []) $ free1 ! $ move ! (31 ∷ 32 ∷ []) $ free1 ! $ move ! (29 ∷ 30 ∷ []) $ free1 ! $ move ! (27 ∷ 28 ∷ []) $ free1 ! $ move ! (25 ∷ 26 ∷ []) $ free1 ! $ move ! (23 ∷ 24 ∷ []) $ free1 ! $ move ! (21 ∷ 22 ∷ []) $ free1 ! $ move ! (19 ∷ 20 ∷ []) $ free1 ! $ move ! (17 ∷ 18 ∷ []) $ free1 ! $ move ! (15 ∷ 16 ∷ []) $ free1 ! $ move ! (13 ∷ 14 ∷ []) $ free1 ! $ move ! (11 ∷ 12 ∷ []) $ free1 ! $ move ! (9 ∷ 10 ∷ []) $ free1 ! $ move ! (7 ∷ 8 ∷ []) $ free1 ! $ move ! (5 ∷ 6 ∷ []) $ free1 ! $ move ! (3 ∷ 4 ∷ []) $ free1 ! $ free0 ! $
           by ! (exits (t .zs) (t .answer) (t .av) (t .is) (t .inv .long) (going-end inverse (s .now) (velocities .now) (marks .now) ys refusal n er en (t .i) (t .zs) (t .answer) (nltb→le (t .i) n past) (t .inv)))
-
 
       -- the test holds: the next step is run over the list, lent again, and its count is noted
       more : (t : Turn) → T (ltb (t .i) n) → Sq W (At t) (runs Cs Λ En code-mir.turn-1 (anyQ (Turned-to t)))
@@ -589,7 +595,6 @@ module _ {M : Type 1} (𝓤 : URA M) (H : Heap 𝓤) (A : Atoms 𝓤) (W : Given
       looped : (t : Turn) → ent 𝓤 (⋆ 𝓤 H A (At t)) (Wp 𝓤 H Cs Λ En code-mir.t-6 (atReturn 𝓤 H En Post))
       looped t = qed W (At t) ∵ exec ! Cs Λ En code-mir.t-6 (atRet En Post) $ first ! $ blocks ! $ loops ! 𝓣 Nearer Nearer-wf At each t
 
-
   walk : length (s .now) < 2 ^ 64 → length (velocities .now) < 2 ^ 64 → length (marks .now) < 2 ^ 64 → (𝓣 : Tables 𝓤 H) → Triple 𝓤 (𝓣 .C #thin·refusal-of) (RefusalOf 𝓤 H A mem run) → Triple 𝓤 (𝓣 .C #thin·steps-of) (StepsOf 𝓤 H A mem run) → Triple 𝓤 (𝓣 .C #thin·answer-of) (AnswerOf 𝓤 H A mem run)
       → Triple 𝓤 (𝓣 .C #thin·next-step) (NextStep 𝓤 H A mem run) → Triple 𝓤 (𝓣 .C #thin·run-step) (RunStep 𝓤 H A mem run) → Triple 𝓤 (𝓣 .C #thin·noted) (Noted 𝓤 H A mem run)
       → ent 𝓤 (onEntry 𝓤 H A f.signature (κ₀, (κ, (κ₂, (κ₃, tt)))) (q₀, (q, (q₂, (q₃, tt)))) a vals) (WpFn 𝓤 H (𝓣 .C) (𝓣 .Λ) function (vbool inverse ∷ av₀ ∷ sl₀ ∷ av₂ ∷ av₃ ∷ []) Post)
@@ -637,9 +642,16 @@ module _ {M : Type 1} (𝓤 : URA M) (H : Heap 𝓤) (A : Atoms 𝓤) (W : Given
   shift-meets : Meets 𝓤 H A f.signature (WpFn 𝓤 H (𝓣 .C) (𝓣 .Λ) code.function) (f.spec 𝓤 H A mem run)
   shift-meets =
       subst (λ (g : Fn). Meets 𝓤 H A f.signature (WpFn 𝓤 H (𝓣 .C) (𝓣 .Λ) g) (f.spec 𝓤 H A mem run)) (sym function-is)
-      (walk-meets 𝓤 H A f.ended stayed W
-      (goes-none 𝓤 H A W 4 (λ _. bool) yes (λ κs x f. refl), (goes-none-slice 𝓤 H A W 4 (0 ∷ []) tt (plain (λ _. u8)) yes, (goes-slice 𝓤 H A W 4 1 tt (plain (λ _. T.the-row)),
-      (goes-none-slice 𝓤 H A W 4 (2 ∷ []) tt (plain (λ _. f64)) yes, (goes-none-slice 𝓤 H A W 4 (3 ∷ []) tt (plain (λ _. u8)) yes, tt)))))
+      (walk-meets 𝓤 H A f.ended stayed W (
+        goes-none 𝓤 H A W 4 (λ _. bool) yes (λ κs x f. refl),
+        (
+          goes-none-slice 𝓤 H A W 4 (0 ∷ []) tt (plain (λ _. u8)) yes,
+          (
+            goes-slice 𝓤 H A W 4 1 tt (plain (λ _. T.the-row)),
+            (goes-none-slice 𝓤 H A W 4 (2 ∷ []) tt (plain (λ _. f64)) yes, (goes-none-slice 𝓤 H A W 4 (3 ∷ []) tt (plain (λ _. u8)) yes, tt)),
+          ),
+        ),
+      )
       (f.clauses 𝓤 H A mem run) (WpFn 𝓤 H (𝓣 .C) (𝓣 .Λ) function) (WpFn-mono 𝓤 H (W .laws) 𝓣 function) shift-walks)
 
 pub shift-spec : {M : Type 1} → stated.statement M
