@@ -172,23 +172,89 @@ fn put_lengths(room: &mut [u8], at: usize, s: &[u8], base: u32, mm: bool) -> usi
     ensures { λ r. ⌜ text (now (room .exit)) r ≡ appended (text (now (room .entry)) at) (lengthsText (now (s .entry)) base mm) ⌝ }
 {
     let unit = length_unit(mm);
-    let p = lines::put_series(room, at, b"  translation: ", b"  xyz: ", s, base, 8, 32, unit, false);
-    lines::put_series(room, p, b"  translation_rate: ", b"  dxyz: ", s, base, 56, 80, unit, true)
+    let p = lines::put_series(
+        room,
+        at,
+        b"  translation: ",
+        b"  xyz: ",
+        s,
+        base,
+        8,
+        32,
+        unit,
+        false,
+    );
+    lines::put_series(
+        room,
+        p,
+        b"  translation_rate: ",
+        b"  dxyz: ",
+        s,
+        base,
+        56,
+        80,
+        unit,
+        true,
+    )
 }
 
 fn put_angles(room: &mut [u8], at: usize, s: &[u8], base: u32, uas: bool) -> usize
     ensures { λ r. ⌜ text (now (room .exit)) r ≡ appended (text (now (room .entry)) at) (anglesText (now (s .entry)) base uas) ⌝ }
 {
     let unit = angle_unit(uas);
-    let p = lines::put_series(room, at, b"  rotation: ", b"  rxyz: ", s, base, 104, 128, unit, false);
-    lines::put_series(room, p, b"  rotation_rate: ", b"  drxyz: ", s, base, 152, 176, unit, true)
+    let p = lines::put_series(
+        room,
+        at,
+        b"  rotation: ",
+        b"  rxyz: ",
+        s,
+        base,
+        104,
+        128,
+        unit,
+        false,
+    );
+    lines::put_series(
+        room,
+        p,
+        b"  rotation_rate: ",
+        b"  drxyz: ",
+        s,
+        base,
+        152,
+        176,
+        unit,
+        true,
+    )
 }
 
 fn put_scales(room: &mut [u8], at: usize, s: &[u8], base: u32) -> usize
     ensures { λ r. ⌜ text (now (room .exit)) r ≡ appended (text (now (room .entry)) at) (scalesText (now (s .entry)) base) ⌝ }
 {
-    let p = lines::put_single(room, at, b"  scale: ", b"  s: ", s, base, 200, 208, Unit::Ppm, false);
-    lines::put_single(room, p, b"  scale_rate: ", b"  ds: ", s, base, 216, 224, Unit::Ppm, true)
+    let p = lines::put_single(
+        room,
+        at,
+        b"  scale: ",
+        b"  s: ",
+        s,
+        base,
+        200,
+        208,
+        Unit::Ppm,
+        false,
+    );
+    lines::put_single(
+        room,
+        p,
+        b"  scale_rate: ",
+        b"  ds: ",
+        s,
+        base,
+        216,
+        224,
+        Unit::Ppm,
+        true,
+    )
 }
 
 fn put_helmert(room: &mut [u8], at: usize, s: &[u8], base: u32) -> usize

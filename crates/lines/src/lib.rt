@@ -255,7 +255,11 @@ fn put_ellipsoid_name(room: &mut [u8], at: usize, number: u32) -> usize
         return text::put_bytes(room, at, b" International 1924, a 6378388 m, 1/f 297\n");
     }
     if number == 4 {
-        return text::put_bytes(room, at, b" Bessel 1841, a 6377397.155 m, 1/f 299.1528128\n");
+        return text::put_bytes(
+            room,
+            at,
+            b" Bessel 1841, a 6377397.155 m, 1/f 299.1528128\n",
+        );
     }
     if number == 5 {
         return text::put_bytes(room, at, b" Krassowsky 1940, a 6378245 m, 1/f 298.3\n");

@@ -1,2 +1,3 @@
 -- What the proofs of this crate share, and known values.
 pub mod Steps
+pub mod Examples

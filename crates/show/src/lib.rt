@@ -65,7 +65,14 @@ fn put_head(room: &mut [u8], at: usize, s: &[u8]) -> usize
 
 // ----- a step -----------------------------------------------------------------------------
 
-fn put_entry(room: &mut [u8], at: usize, kind: u32, inverted: u32, offset: u32, length: u32) -> usize
+fn put_entry(
+    room: &mut [u8],
+    at: usize,
+    kind: u32,
+    inverted: u32,
+    offset: u32,
+    length: u32,
+) -> usize
     ensures { λ r. ⌜ text (now (room .exit)) r ≡ appended (text (now (room .entry)) at) (entryText kind inverted offset length) ⌝ }
 {
     let p = fields::put_kind(room, at, kind);

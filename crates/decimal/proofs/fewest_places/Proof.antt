@@ -55,10 +55,11 @@ loop-again : tie.Need-loop-again Inv-loop μ-loop
 loop-again c =
     let l = c .before .before .before in
     let x = l .before .before .args .x in
-    let left : 23 - l .loop .k ≡ suc (23 - (l .loop .k + 1)) = omega arith in
-    (omega arith,
-    rw (l .loop .inv .1) (next-ten (l .loop .k) (omega arith)),
-    l .loop .inv .2 ∙ goes-on _ _ _ _ (signOf x) _ left (sym (c .before .passes .ensures) ∙ c .if1 .left))
+    let left : 23 - l .loop .k ≡ suc (23 - (l .loop .k + 1)) = omega arith in (
+      omega arith,
+      rw (l .loop .inv .1) (next-ten (l .loop .k) (omega arith)),
+      l .loop .inv .2 ∙ goes-on _ _ _ _ (signOf x) _ left (sym (c .before .passes .ensures) ∙ c .if1 .left),
+    )
 
 returns-2 : tie.Need-returns-2 Inv-loop μ-loop
 unfolding decimalOf
