@@ -15,7 +15,7 @@ use Rattle.sheet.specs.declared.Refusal.{Refusal}
 use Rattle.sheet.specs.Layout.{stepCountOf as steps, kindAt, entryAt}
 use Rattle.sheet.specs.Rules.{ofSheet, deformationBefore, refusalOf}
 use Rattle.sheet.proofs.Order.{neither}
-use Rattle.chain.specs.Chain.{turnsOf, stateOf, turnedOf, stepListOf, stepCountOf, forwardOf, inverseOf, chainOf, entriesOf}
+use Rattle.chain.specs.Chain.{turnsOf, stateOf, turnedOf, stepListOf, stepCountOf, forwardOf, inverseOf, chainOf, placesOf, entriesOf}
 use Rattle.chain.specs.Rules.{refusal9, refusal10, Outcome, outcome, refusedAnswer, outcomeOf, shiftOf}
 use Rattle.chain.proofs.Laws.{step-length}
 use Rattle.chain.proofs.Outcome.{refused-own, refused-9, refused-10, run-through}
