@@ -6,10 +6,12 @@
 // Measured against MPFR over 1.3 million points: within 0.76 units in the last place, absolute within 2^-51.85 (measure/atan2_hypot.c).
 // Longitude and latitude in `cart`, `geocart` and the geocentric latitude are taken by it.
 ghost use mathlib.Core.Path.{_≡_};
-ghost use Prim.Native.Nat.{_-_};
+ghost use Prim.Native.Nat.{ℕ, _-_};
 ghost use mathlib.Core.Bool.{cond};
+ghost use Rattle.blocks.specs.Each.{at, Each};
 ghost use Rattle.arctan.specs.Table.{cellAt, octantAt};
 ghost use Rattle.arctan.specs.Arctan.{tailOf, headOf, smallAngleOf, cutAngleOf, cellIndexOf, small, quotientAngleOf, moderate, scaleOf, extremeAngleOf, withinOf, octantIndexOf, insideOf, alongOf, diagonalOf, angleOf, atan2Of};
+use blocks::WIDTH;
 
 const QUARTER_PI: f64 = 0.7853981633974483;
 
@@ -404,4 +406,16 @@ pub fn atan2(y: f64, x: f64) -> f64
     }
     let r = angle(b, x);
     if floats::negative(y) { -r } else { r }
+}
+
+// The angles of a block of points, each as `atan2` gives it.
+pub fn atan2_block(y: &[f64; WIDTH], x: &[f64; WIDTH], r: &mut [f64; WIDTH])
+    ensures { λ _. ⌜ Each (now (r .exit)) (λ (j : ℕ). atan2Of (at (now (y .entry)) j) (at (now (x .entry)) j)) ⌝ }
+{
+    *r = [0.0; WIDTH];
+    let mut i = 0;
+    while i < WIDTH {
+        r[i] = atan2(y[i], x[i]);
+        i += 1;
+    }
 }

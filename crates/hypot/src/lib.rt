@@ -6,10 +6,13 @@
 // Measured against MPFR over 1.3 million points, subnormal and huge parts among them: within 0.95 units in the last place (measure/atan2_hypot.c).
 // The distance from the axis in `cart` and `geocart` is taken by it.
 ghost use mathlib.Core.Path.{_≡_};
+ghost use Prim.Native.Nat.{ℕ};
 ghost use mathlib.Core.Bool.{false};
 ghost use lib.Ieee.{isNan};
+ghost use Rattle.blocks.specs.Each.{at, Each};
 ghost use Rattle.floats.specs.Number.{absOf};
 ghost use Rattle.hypot.specs.Hypot.{larger, smaller, guessOf, reciprocalRootOf, rootOf, scaledRootOf, rescaledOf, ordinary, boundedOf, ordinaryOf, hypotOf};
+use blocks::WIDTH;
 
 // 2^-900 and 2^1000: a sum of squares between them lost nothing by overflow or underflow
 const LEAST: f64 = 1.1830521861667747e-271;
@@ -151,4 +154,16 @@ pub fn hypot(x: f64, y: f64) -> f64
     let a = larger_of(p, q);
     let b = smaller_of(p, q);
     bounded(a, b, rescaled(a, b))
+}
+
+// The lengths of a block of points, each as `hypot` gives it.
+pub fn hypot_block(x: &[f64; WIDTH], y: &[f64; WIDTH], r: &mut [f64; WIDTH])
+    ensures { λ _. ⌜ Each (now (r .exit)) (λ (j : ℕ). hypotOf (at (now (x .entry)) j) (at (now (y .entry)) j)) ⌝ }
+{
+    *r = [0.0; WIDTH];
+    let mut i = 0;
+    while i < WIDTH {
+        r[i] = hypot(x[i], y[i]);
+        i += 1;
+    }
 }

@@ -10,10 +10,12 @@
 //
 // 0x10_0000_0000_0000 is 2^52, the weight of the exponent's field and of a significand's leading digit; 0x400_0000 is 2^26, half as many digits.
 ghost use mathlib.Core.Path.{_≡_};
-ghost use Prim.Native.Nat.{_+_, _-_, _*_, _^_, _≤_, _<_};
+ghost use Prim.Native.Nat.{ℕ, _+_, _-_, _*_, _^_, _≤_, _<_};
 ghost use lib.Ieee.{binary64, ofBits};
+ghost use Rattle.blocks.specs.Each.{at, Each};
 ghost use Rattle.root.specs.Whole.{WholeRoot, NearestRoot, Significand, doubled};
 ghost use Rattle.root.specs.Sqrt.{RoundedRoot, sqrtOf};
+use blocks::WIDTH;
 
 // A positive number as one from 0.5 to 2, whose bits are t, times a power of four: as `Significand` says.
 struct Scaled {
@@ -174,4 +176,16 @@ pub fn sqrt(x: f64) -> f64
     }
     let c = digits(b);
     positive(c.t, c.k)
+}
+
+// The square roots of a block, each as `sqrt` gives it.
+pub fn sqrt_block(x: &[f64; WIDTH], r: &mut [f64; WIDTH])
+    ensures { λ _. ⌜ Each (now (r .exit)) (λ (j : ℕ). sqrtOf (at (now (x .entry)) j)) ⌝ }
+{
+    *r = [0.0; WIDTH];
+    let mut i = 0;
+    while i < WIDTH {
+        r[i] = sqrt(x[i]);
+        i += 1;
+    }
 }

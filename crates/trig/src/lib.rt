@@ -9,8 +9,11 @@
 // exactly where the angle is NaN or beyond ±1024. Measured: within 0.59·2^-53 for |x| up to 8, and within 1.35 units in the last place for every
 // angle in reach. Every step of a shift that meets a latitude or an exact rotation uses the pair.
 ghost use mathlib.Core.Path.{_≡_};
+ghost use Prim.Native.Nat.{ℕ};
+ghost use Rattle.blocks.specs.Each.{at, Each};
 ghost use Rattle.trig.specs.Table.{rowOf};
 ghost use Rattle.trig.specs.Trig.{reducedOf, bendOf, atMostOne, clampOf, sumOf, pairOf, signedOf, sinOf, cosOf, sinCosOf};
+use blocks::WIDTH;
 use floats::abs;
 use floats::negative;
 use floats::to_bits;
@@ -50,6 +53,20 @@ pub fn cos(x: f64) -> f64
     ensures { λ r. ⌜ r ≡ cosOf x ⌝ }
 {
     sin_cos(x).c
+}
+
+// Sine and cosine of a block of angles, each as `sin_cos` gives them.
+pub fn sin_cos_block(x: &[f64; WIDTH], s: &mut [f64; WIDTH], c: &mut [f64; WIDTH])
+    ensures { λ _. ⌜ Each (now (s .exit)) (λ (j : ℕ). sinOf (at (now (x .entry)) j)) × Each (now (c .exit)) (λ (j : ℕ). cosOf (at (now (x .entry)) j)) ⌝ }
+{
+    *s = [0.0; WIDTH];
+    *c = [0.0; WIDTH];
+    let mut i = 0;
+    while i < WIDTH {
+        s[i] = sin(x[i]);
+        c[i] = cos(x[i]);
+        i += 1;
+    }
 }
 
 // s, turned where x is negative: the sine is odd

@@ -1,0 +1,2 @@
+-- What is true of blocks, for callers.
+pub mod Laws

@@ -1,0 +1,30 @@
+-- Blocks: arrays of 16 numbers, and what it is for their places to hold the values of a function of the place.
+use Prim.Native.Nat.{ℕ, _<_}
+use mathlib.Core.Path.{_≡_}
+use mathlib.Core.List.{List}
+use lib.ListN.{getD, length}
+use lib.Ieee.{Float, nan}
+
+-- the number at a place; NaN past the end
+abbrev pub at : List Float → ℕ → Float
+at l j = getD l j nan
+
+-- the whole number at a place; 0 past the end
+abbrev pub wholeAt : List ℕ → ℕ → ℕ
+wholeAt l j = getD l j 0
+
+-- l is a block, and its first n places hold the values of f
+pub record UpTo (n : ℕ) (l : List Float) (f : ℕ → Float) : Type 0 where
+  pub block : length l ≡ 16
+  pub held : (j : ℕ) → j < n → at l j ≡ f j
+
+pub record WholeUpTo (n : ℕ) (l : List ℕ) (f : ℕ → ℕ) : Type 0 where
+  pub block : length l ≡ 16
+  pub held : (j : ℕ) → j < n → wholeAt l j ≡ f j
+
+-- l is a block of the values of f
+abbrev pub Each : List Float → (ℕ → Float) → Type 0
+Each l f = UpTo 16 l f
+
+abbrev pub EachWhole : List ℕ → (ℕ → ℕ) → Type 0
+EachWhole l f = WholeUpTo 16 l f

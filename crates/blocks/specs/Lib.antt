@@ -1,0 +1,2 @@
+-- What contracts over blocks cite.
+pub mod Each
