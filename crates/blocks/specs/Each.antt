@@ -1,5 +1,6 @@
 -- Blocks: arrays of 16 numbers, and what it is for their places to hold the values of a function of the place.
-use Prim.Native.Nat.{ℕ, _<_}
+use Prim.Native.Nat.{ℕ, zero, suc, _+_, _<_}
+use mathlib.Core.Bool.{Bool, cond}
 use mathlib.Core.Path.{_≡_}
 use mathlib.Core.List.{List}
 use lib.ListN.{getD, length}
@@ -28,3 +29,8 @@ Each l f = UpTo 16 l f
 
 abbrev pub EachWhole : List ℕ → (ℕ → ℕ) → Type 0
 EachWhole l f = WholeUpTo 16 l f
+
+-- how many of the first n places have the property
+abbrev pub countTo : ℕ → (ℕ → Bool) → ℕ
+countTo zero f = 0
+countTo (suc n) f = countTo n f + cond (f n) 1 0

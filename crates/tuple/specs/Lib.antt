@@ -1,2 +1,3 @@
 -- What the contracts of `tuple` cite.
 pub mod Sums
+pub mod Columns
