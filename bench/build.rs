@@ -1,5 +1,5 @@
-//! Whether the archive has the kept run: `cfg(kept)`.
-use std::{env, fs, path::PathBuf};
+//! Whether the archive has the kept run: `cfg(kept)`; and whether PROJ can be linked: `cfg(proj)`.
+use std::{env, fs, path::PathBuf, process::Command};
 
 fn main() {
     println!("cargo:rustc-check-cfg=cfg(kept)");
@@ -10,5 +10,10 @@ fn main() {
     let name = b"sillfeather_correct";
     if fs::read(&archive).expect("the archive").windows(name.len()).any(|part| part == name) {
         println!("cargo:rustc-cfg=kept");
+    }
+    println!("cargo:rustc-check-cfg=cfg(proj)");
+    if Command::new("pkg-config").args(["--exists", "proj"]).status().is_ok_and(|found| found.success()) {
+        println!("cargo:rustc-cfg=proj");
+        println!("cargo:rustc-link-lib=proj");
     }
 }

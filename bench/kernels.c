@@ -1,5 +1,5 @@
 /*
- * How fast the kernels are beside the C library's, in one run, interleaved: nanoseconds a call, and ours over theirs.
+ * How fast the kernels are beside the C library's, in one run, interleaved: nanoseconds a call, and theirs over ours: above 1 ours are ahead.
  *
  * Links with an archive that exports the kernels, and with -lm. The arguments lie in arrays, so that calls may overlap as they do in a loop over
  * tuples; a time is the best of the passes over all arguments. The machine's own square root is reached as the C library's sqrt. No limit is tested:
@@ -84,7 +84,7 @@ static double pass(double (*f)(double, double), const double *x, const double *y
 
 int main(void) {
     static double x[arguments], y[arguments];
-    printf("%-22s %8s %8s %6s\n", "", "ours, ns", "C's, ns", "ratio");
+    printf("%-22s %8s %8s %6s\n", "", "C's, ns", "ours, ns", "ratio");
     for (size_t r = 0; r < sizeof rows / sizeof *rows; r++) {
         double ours = INFINITY, library = INFINITY;
         for (int i = 0; i < arguments; i++) x[i] = random_between(rows[r].low, rows[r].high), y[i] = random_between(rows[r].low, rows[r].high);
@@ -92,7 +92,7 @@ int main(void) {
             ours = fmin(ours, pass(rows[r].ours, x, y));
             library = fmin(library, pass(rows[r].library, x, y));
         }
-        printf("%-22s %8.2f %8.2f %6.2f\n", rows[r].name, ours, library, ours / library);
+        printf("%-22s %8.2f %8.2f %6.2f\n", rows[r].name, library, ours, library / ours);
     }
     return 0;
 }

@@ -35,6 +35,13 @@ pub fn print(name: &str, first: &[f64], second: &[f64], tuples: usize, aim: f64)
     println!("{name:<48} {a:>9.1} {b:>9.1} {:>7.2} {low:>6.2} to {high:<6.2} {aim:>5}", a / b);
 }
 
+/// The same, and how far the answers lie apart.
+pub fn print_beside(name: &str, first: &[f64], second: &[f64], tuples: usize, apart: f64) {
+    let (a, b) = (least(first) / tuples as f64, least(second) / tuples as f64);
+    let (low, high) = spread(first, second);
+    println!("{name:<48} {a:>9.1} {b:>9.1} {:>7.2} {low:>6.2} to {high:<6.2} {apart:>10.1e}", a / b);
+}
+
 pub fn print_alone(name: &str, passes: &[f64], tuples: usize) {
     println!("{name:<48} {:>9} {:>9.1}", "-", least(passes) / tuples as f64);
 }

@@ -5,6 +5,7 @@ use ours as _; // links the archive
 type Counts = [u64; 16];
 
 unsafe extern "C" {
+    fn sillfeather_check(sheet: *const u8, sheet_len: usize) -> u32;
     fn sillfeather_shift(
         inverse: u32,
         sheet: *const u8,
@@ -36,6 +37,10 @@ pub fn shift(inverse: bool, sheet: &[u8], list: &mut [f64], velocities: &[f64], 
         )
     };
     assert_eq!(told, 0);
+}
+
+pub fn check(sheet: &[u8]) {
+    assert_eq!(unsafe { sillfeather_check(sheet.as_ptr(), sheet.len()) }, 0);
 }
 
 /// The kept run, where the archive has it (build.rs looks).
@@ -71,8 +76,9 @@ pub mod kept {
 
     pub fn keep(sheet: &[u8], list: &[f64], results: &mut [f64], track: &mut [f64]) {
         let (r, t) = (results.as_mut_ptr(), track.as_mut_ptr());
-        let told =
-            unsafe { sillfeather_keep(0, sheet.as_ptr(), sheet.len(), list.as_ptr(), list.len(), r, results.len(), t, track.len()) };
+        let told = unsafe {
+            sillfeather_keep(0, sheet.as_ptr(), sheet.len(), list.as_ptr(), list.len(), r, results.len(), t, track.len())
+        };
         assert_eq!(told, 0);
     }
 

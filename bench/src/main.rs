@@ -6,6 +6,8 @@
 //! ns a tuple; a ratio is original / ours; its spread leaves out the lowest and the highest tenth of the passes. The answers are compared too.
 mod clock;
 mod library;
+#[cfg(proj)]
+mod proj;
 mod steps;
 
 use clock::{in_turns, took};
@@ -81,6 +83,11 @@ impl Run<'_> {
         })
     }
 
+    /// The sheet's reading alone, as often as `ours_ones` reads it.
+    fn readings(&self) -> f64 {
+        took(|| (0..TUPLES).for_each(|_| library::check(&self.sheet)))
+    }
+
     fn ours_ones(&self, list: &mut [f64]) -> f64 {
         list.copy_from_slice(&self.list);
         took(|| {
@@ -116,10 +123,11 @@ fn main() {
     for run in runs.iter().filter(|run| run.row.in_the_original()) {
         read_each_time(run, passes / 4 + 1);
     }
-    clock::head("lists of one, the sheet read / operator made");
+    clock::head("lists of one, the step read / operator made");
     for run in runs.iter().filter(|run| run.row.in_the_original()) {
         operator_made(run, passes / 4 + 1);
     }
+    beside_proj(&runs, passes);
     kept_runs(&runs, passes / 4 + 1);
 }
 
@@ -186,10 +194,37 @@ fn read_each_time(run: &Run, passes: usize) {
     clock::print(&run.name(), &original, &ours, TUPLES, 2.0);
 }
 
+/// Over a step that is already read: what a call takes less what `sillfeather_check` takes of it, which is the reading and its rules. Finding the step's record in the
+/// bytes once more is still in it.
 fn operator_made(run: &Run, passes: usize) {
     let (mut a, mut b) = (run.list.clone(), run.list.clone());
     let op = run.operator();
     let (original, ours) = in_turns(passes, || run.original_ones(&op, &mut a), || run.ours_ones(&mut b));
+    let reading = clock::least(&in_turns(passes, || run.readings(), || 0.0).0);
+    let ours: Vec<f64> = ours.iter().map(|took| took - reading).collect();
     agree(&run.name(), run, &a, &b);
     clock::print(&run.name(), &original, &ours, TUPLES, 1.0);
 }
+
+/// PROJ in the original's place. It is told apart from the library by more than roundings in places (its Molodensky, its rates): the largest difference stands beside.
+#[cfg(proj)]
+fn beside_proj(runs: &[Run], passes: usize) {
+    println!(
+        "\n{:<48} {:>9} {:>9} {:>7} {:^16} {:>10}",
+        "lists of 2,048, ns a tuple", "PROJ", "ours", "ratio", "spread", "differ by"
+    );
+    for run in runs.iter().filter(|run| run.row.in_the_original()) {
+        let Some(operation) = proj::Operation::new(&run.row.body) else { continue };
+        let (mut a, mut b) = (run.list.clone(), run.list.clone());
+        let theirs = |list: &mut [f64]| {
+            list.copy_from_slice(&run.list);
+            took(|| operation.apply(list, run.inverse))
+        };
+        let (proj, ours) = in_turns(passes, || theirs(&mut a), || run.ours(&mut b));
+        let apart = a.iter().zip(&b).map(|(p, q)| (p - q).abs()).fold(0.0, f64::max);
+        clock::print_beside(&run.name(), &proj, &ours, TUPLES, apart);
+    }
+}
+
+#[cfg(not(proj))]
+fn beside_proj(_runs: &[Run], _passes: usize) {}
