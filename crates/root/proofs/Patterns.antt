@@ -8,7 +8,7 @@ use mathlib.Core.Bool.{Bool, true, false, not, cond}
 use lib.Dec.{T, leb, ltb, eqb, leb→le, eqb→eq, le→leb, ltb→lt, not-T}
 use lib.IntN.{ℤ, pos}
 use lib.Pow.{pow-pos}
-use lib.Ieee.{Float, nan, inf, fin, binary64, odd, ofFields, ofBits, nanBits, isNan, le, ne, up, down}
+use lib.Ieee.{Float, nan, inf, fin, binary64, odd, ofFields, ofBits, nanBits, isNan, lt, ne, up, down}
 use lib.Ieee.Compare.{nan-differs}
 use lib.Ieee.Bits.{is-false, is-true, cond-no, nanBits-above}
 use lib.Ieee.Exact.{HasValue, odd-sign}
@@ -63,13 +63,13 @@ no-nan b h =
     above : 9218868437227405312 < b % 9223372036854775808 → b % 9223372036854775808 ≡ b → ⊥
     above k e = omega arith
 
-pub le-no-nan : (x y : Float) → T (le x y) → T (not (isNan y))
-unfolding le isNan
-le-no-nan nan nan t = t
-le-no-nan (inf s) nan t = t
-le-no-nan (fin s m e) nan t = t
-le-no-nan x (inf s) t = tt
-le-no-nan x (fin s m e) t = tt
+pub lt-no-nan : (x y : Float) → T (lt x y) → T (not (isNan y))
+unfolding lt isNan
+lt-no-nan nan nan t = t
+lt-no-nan (inf s) nan t = t
+lt-no-nan (fin s m e) nan t = t
+lt-no-nan x (inf s) t = tt
+lt-no-nan x (fin s m e) t = tt
 
 pub no-nan-of : (x : Float) → ne x x ≡ false → T (not (isNan x))
 unfolding isNan

@@ -109,7 +109,7 @@ pow-bit (suc zero) h = refl
 pow-bit (suc (suc o)) h = absurd (omega arith)
 
 -- p is 52, a bit and an even number
-pub spread : (m p : ℕ) → 52 ≤ p → m * 2 ^ p ≡ m * (p % 2 + 1) * 4503599627370496 * (2 ^ ((p - 52) / 2) * 2 ^ ((p - 52) / 2))
+spread : (m p : ℕ) → 52 ≤ p → m * 2 ^ p ≡ m * (p % 2 + 1) * 4503599627370496 * (2 ^ ((p - 52) / 2) * 2 ^ ((p - 52) / 2))
 spread m p h =
     let o : ℕ = p % 2 in
     let k : ℕ = (p - 52) / 2 in
@@ -119,6 +119,13 @@ spread m p h =
   where
     regroup : (m c o s : ℕ) → m * (c * (o * s)) ≡ m * o * c * s
     regroup m c o s = simp (mul-assoc, mul-comm, mul-left-comm) refl
+
+-- so m * 2 ^ p is a * 2 ^ 52 * 4 ^ k, where a is m or its double
+pub split : (m p a k : ℕ) → 52 ≤ p → k ≡ (p - 52) / 2 → a ≡ m * (p % 2 + 1) → a * 4503599627370496 * (2 ^ k * 2 ^ k) ≡ m * 2 ^ p
+split m p a k h e f =
+    ap (λ (z : ℕ). z * 4503599627370496 * (2 ^ k * 2 ^ k)) f
+    ∙ ap (λ (z : ℕ). m * (p % 2 + 1) * 4503599627370496 * (2 ^ z * 2 ^ z)) e
+    ∙ sym (spread m p h)
 
 -- ---- a significand brought up to 53 digits
 pub halve : (m p : ℕ) → 1 ≤ p → m * 2 * 2 ^ (p - 1) ≡ m * 2 ^ p

@@ -16,15 +16,15 @@ pub record NearestRoot (n r : ℕ) : Type 0 where
   pub above : (2 * r - 1) * (2 * r - 1) < 4 * n
   pub below : 4 * n < (2 * r + 1) * (2 * r + 1)
 
--- The significand of the number with the bits t, from 0.5 to below 2: doubled below 1, so that its root times 2 ^ 26 has 53 digits.
-abbrev pub doubled : ℕ → ℕ
-doubled t = (t % 2 ^ 52 + 2 ^ 52) * (2 - t / 2 ^ 52 % 2)
+-- g has 53 digits, as a root and a guess at one has
+abbrev pub Digits : ℕ → Type 0
+Digits g = (2 ^ 52 ≤ g) × (g < 2 ^ 53)
 
--- The number with the bits b is n units of 2 ^ -1074, which are doubled t * 2 ^ 52 * 4 ^ k units of 2 ^ -2148.
-pub record Significand (b t k : ℕ) : Type 0 where
+-- The number with the bits b is n units of 2 ^ -1074, which are a * 2 ^ 52 * 4 ^ k units of 2 ^ -2148, so that the root of a * 2 ^ 52 has 53 digits.
+pub record Significand (b a k : ℕ) : Type 0 where
   pub n : ℕ
   pub value : HasValue (ofBits binary64 b) false n (2 ^ 1074)
-  pub same : doubled t * 2 ^ 52 * (2 ^ k * 2 ^ k) ≡ n * 2 ^ 1074
-  pub low : 1022 * 2 ^ 52 ≤ t
-  pub high : t < 1024 * 2 ^ 52
+  pub same : a * 2 ^ 52 * (2 ^ k * 2 ^ k) ≡ n * 2 ^ 1074
+  pub low : 2 ^ 52 ≤ a
+  pub high : a < 2 ^ 54 - 1
   pub most : k < 2000

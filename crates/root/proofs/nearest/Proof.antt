@@ -38,8 +38,8 @@ near c =
     let d = c .before .before .before .before .before .before .before .wrapping-sub-u64 .result in
     let w = c .before .before .before .before .before .wrapping-sub-u642 .result in
     let v = c .before .before .before .wrapping-sub-u643 .result in
-    let hh = hh-le g (s .pre .3) in
-    let hl = hl-le g (s .pre .3) in
+    let hh = hh-le g (s .pre .2 .1) in
+    let hl = hl-le g (s .pre .2 .1) in
     let ll = ll-le g in
     let e = balance (s .args .a) g d w v (omega arith) (omega arith) (omega arith) in
     let u : ((c .before .if4 .up ≡ 1) × (3 * g < v)) ⊎ ((c .before .if4 .up ≡ 0) × (v ≤ 3 * g)) = ⊎-elim (λ t. inl (omega arith, omega arith)) (λ t. inr (omega arith, omega arith)) (c .before .if4 .came) in
@@ -119,14 +119,14 @@ put-requires : tie.Need-put-requires
 put-requires c κs =
     let s = c .before .before .before .before .before .before .before .before .before .before in
     let r = root-range (s .args .a) (moved (c .before .before)) (s .pre .0) (s .pre .1) (near (c .before .before)) in
-    (r .0, r .1, s .pre .4)
+    (r .0, r .1, s .pre .3)
 
 returns-4 : tie.Need-returns-4
 returns-4 c =
     let s = c .before .before .before .before .before .before .before .before .before .before .before in
     let a = s .args .a in
     let k = s .args .k in
-    subst (RoundedRoot (a * 2 ^ 52 * (2 ^ k * 2 ^ k))) (sym (c .put .ensures)) (put-rounded a k (moved (c .before .before .before)) (s .pre .0) (s .pre .1) (s .pre .4) (near (c .before .before .before)))
+    subst (RoundedRoot (a * 2 ^ 52 * (2 ^ k * 2 ^ k))) (sym (c .put .ensures)) (put-rounded a k (moved (c .before .before .before)) (s .pre .0) (s .pre .1) (s .pre .3) (near (c .before .before .before)))
 
 pub nearest-spec : {M : Type 1} → statement M
 nearest-spec =

@@ -1,48 +1,122 @@
--- `root::sqrt_block` meets its contract. Assumes nothing.
-use Prim.Native.Nat.{ℕ, _-_}
+-- `root::sqrt_block` meets its contract: the first loop fills g with guesses, of which only the number of their digits is known, the second r with roots. Assumes nothing.
+use Prim.Native.Nat.{ℕ, _+_, _-_, _≤_, _<_}
+use native.Mathlib.Nat.{eq-or-lt-of-le, lt-irrefl, not-suc-le-zero}
+use native.Mathlib.Omega.{arith}
+use mathlib.Core.Path.{_≡_, refl, sym, _∙_, subst}
+use mathlib.Core.Logic.{_⊎_, inl, inr}
+use mathlib.Core.List.{List}
+use lib.ListN.{set, length, length-set}
+use lib.Seq.{getD-set-same, getD-set-other}
 use borrow.Author.Needs.{needs}
-use mathlib.Core.Path.{refl}
-use Rattle.blocks.specs.Each.{at, UpTo}
+use Rattle.blocks.specs.Each.{at, wholeAt, UpTo}
 use Rattle.blocks.proofs.Laws.{none-filled, one-more, all-filled}
 use Rattle.root.specs.Sqrt.{sqrtOf}
+use Rattle.root.specs.Whole.{Digits}
 use Rattle.root.proofs.sqrt_block.Statement.{statement}
 use Rattle.root.proofs.sqrt_block.Tie as tie
+use Rattle.root.proofs.sqrt_block.Reads as reads
+use Rattle.root.proofs.sqrt_block.Lts as lts
+use Rattle.root.proofs.bits.Reads as bits-reads
+use Rattle.root.proofs.from_guess.Reads as from-guess-reads
+use Rattle.root.proofs.guess.Reads as guess-reads
+
+-- l is a block, and its first n places hold guesses
+record Guesses (n : ℕ) (l : List ℕ) : Type 0 where
+  pub block : length l ≡ 16
+  pub held : (j : ℕ) → j < n → Digits (wholeAt l j)
+
+one-guess-more : {l : List ℕ} {i v : ℕ} → i < 16 → Digits v → Guesses i l → Guesses (i + 1) (set l i v)
+one-guess-more {l} {i} {v} room d before =
+    record {
+      block = length-set l i v ∙ before .block;
+      held = λ j h. at-or-before j (eq-or-lt-of-le (up-to j h));
+    }
+  where
+    up-to : (j : ℕ) → j < i + 1 → j ≤ i
+    up-to j h = omega arith
+
+    at-or-before : (j : ℕ) → (j ≡ i) ⊎ (j < i) → Digits (wholeAt (set l i v) j)
+    at-or-before j (inl e) = subst (λ (k : ℕ). Digits (wholeAt (set l i v) k)) (sym e) (subst Digits (sym (getD-set-same l i v 0 (subst (λ (n : ℕ). i < n) (sym (before .block)) room))) d)
+    at-or-before j (inr h) = subst Digits (sym (getD-set-other l i j v 0 (λ q. lt-irrefl i (subst (λ (k : ℕ). k < i) q h)))) (before .held j h)
 
 abbrev Inv-loop : tie.InvT-loop
-Inv-loop x r₀ i₀ r i = UpTo i r (λ (j : ℕ). sqrtOf (at x j))
+Inv-loop x r g₀ i₀ g i = Guesses i g
 
 abbrev μ-loop : tie.MeasureT-loop
-μ-loop x r₀ i₀ r i = 16 - i
+μ-loop x r g₀ i₀ g i = 16 - i
 
-loop-holds : tie.Need-loop-holds Inv-loop μ-loop
-loop-holds c = none-filled refl
+abbrev Inv-loop2 : tie.InvT-loop2
+Inv-loop2 x r₀ g i j₀ r j = UpTo j r (λ (k : ℕ). sqrtOf (at x k))
 
-mul-sqrt : tie.Need-mul-sqrt Inv-loop μ-loop
-mul-sqrt c = search needs
+abbrev μ-loop2 : tie.MeasureT-loop2
+μ-loop2 x r₀ g i j₀ r j = 16 - j
 
-element-copy-out-sqrt : tie.Need-element-copy-out-sqrt Inv-loop μ-loop
-element-copy-out-sqrt c = search needs
+loop-holds : tie.Need-loop-holds Inv-loop μ-loop Inv-loop2 μ-loop2
+loop-holds c = record { block = refl; held = λ j h. absurd (not-suc-le-zero h) }
 
-sqrt-requires : tie.Need-sqrt-requires Inv-loop μ-loop
-sqrt-requires c κs = search needs
+mul-bits : tie.Need-mul-bits Inv-loop μ-loop Inv-loop2 μ-loop2
+mul-bits c = search needs
 
-mul-r : tie.Need-mul-r Inv-loop μ-loop
-mul-r c = search needs
+element-copy-out-bits : tie.Need-element-copy-out-bits Inv-loop μ-loop Inv-loop2 μ-loop2
+element-copy-out-bits c = search needs
 
-element-write-r : tie.Need-element-write-r Inv-loop μ-loop
-element-write-r c = search needs
+bits-requires : tie.Need-bits-requires Inv-loop μ-loop Inv-loop2 μ-loop2
+bits-requires c κs = search needs
 
-add-i : tie.Need-add-i Inv-loop μ-loop
+guess-requires : tie.Need-guess-requires Inv-loop μ-loop Inv-loop2 μ-loop2
+guess-requires c κs = search needs
+
+mul-g : tie.Need-mul-g Inv-loop μ-loop Inv-loop2 μ-loop2
+mul-g c = search needs
+
+array-write-g : tie.Need-array-write-g Inv-loop μ-loop Inv-loop2 μ-loop2
+array-write-g c = search needs
+
+add-i : tie.Need-add-i Inv-loop μ-loop Inv-loop2 μ-loop2
 add-i c = search needs
 
-loop-less : tie.Need-loop-less Inv-loop μ-loop
+loop-less : tie.Need-loop-less Inv-loop μ-loop Inv-loop2 μ-loop2
 loop-less c = search needs
 
-loop-again : tie.Need-loop-again Inv-loop μ-loop
-loop-again c = one-more (search needs) (c .sqrt .ensures) (c .before .before .before .loop .inv)
+loop-again : tie.Need-loop-again Inv-loop μ-loop Inv-loop2 μ-loop2
+loop-again c = one-guess-more (search needs) (c .guess .ensures) (c .before .before .before .before .loop .inv)
 
-returns : tie.Need-returns Inv-loop μ-loop
-returns c = all-filled (search needs) (c .before .loop .inv)
+loop2-holds : tie.Need-loop2-holds Inv-loop μ-loop Inv-loop2 μ-loop2
+loop2-holds c = none-filled refl
+
+mul-from-guess : tie.Need-mul-from-guess Inv-loop μ-loop Inv-loop2 μ-loop2
+mul-from-guess c = search needs
+
+element-copy-out-from-guess :
+    tie.Need-element-copy-out-from-guess Inv-loop μ-loop Inv-loop2 μ-loop2
+element-copy-out-from-guess c = search needs
+
+mul-from-guess-2 : tie.Need-mul-from-guess-2 Inv-loop μ-loop Inv-loop2 μ-loop2
+mul-from-guess-2 c = search needs
+
+array-read-from-guess : tie.Need-array-read-from-guess Inv-loop μ-loop Inv-loop2 μ-loop2
+array-read-from-guess c = search needs
+
+from-guess-requires : tie.Need-from-guess-requires Inv-loop μ-loop Inv-loop2 μ-loop2
+from-guess-requires c κs = c .before .before .before .before .loop .inv .held (c .before .before .loop2 .j) (omega arith)
+
+mul-r : tie.Need-mul-r Inv-loop μ-loop Inv-loop2 μ-loop2
+mul-r c = search needs
+
+element-write-r : tie.Need-element-write-r Inv-loop μ-loop Inv-loop2 μ-loop2
+element-write-r c = search needs
+
+add-j : tie.Need-add-j Inv-loop μ-loop Inv-loop2 μ-loop2
+add-j c = search needs
+
+loop2-less : tie.Need-loop2-less Inv-loop μ-loop Inv-loop2 μ-loop2
+loop2-less c = search needs
+
+loop2-again : tie.Need-loop2-again Inv-loop μ-loop Inv-loop2 μ-loop2
+loop2-again c = one-more (search needs) (c .from-guess .ensures) (c .before .before .before .loop2 .inv)
+
+returns : tie.Need-returns Inv-loop μ-loop Inv-loop2 μ-loop2
+returns c = all-filled (search needs) (c .before .loop2 .inv)
 
 pub sqrt-block-spec : {M : Type 1} → statement M
 sqrt-block-spec =
@@ -50,13 +124,27 @@ sqrt-block-spec =
     (tie.spec
     Inv-loop
     μ-loop
+    Inv-loop2
+    μ-loop2
     loop-holds
-    mul-sqrt
-    element-copy-out-sqrt
-    sqrt-requires
-    mul-r
-    element-write-r
+    mul-bits
+    element-copy-out-bits
+    bits-requires
+    guess-requires
+    mul-g
+    array-write-g
     add-i
     loop-less
     loop-again
+    loop2-holds
+    mul-from-guess
+    element-copy-out-from-guess
+    mul-from-guess-2
+    array-read-from-guess
+    from-guess-requires
+    mul-r
+    element-write-r
+    add-j
+    loop2-less
+    loop2-again
     returns)

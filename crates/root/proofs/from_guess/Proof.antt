@@ -1,29 +1,32 @@
--- `root::sqrt` meets its contract. Assumes nothing.
+-- `root::from_guess` meets its contract. Assumes nothing.
 use mathlib.Core.Path.{_≡_, refl, sym, ap, _∙_, subst}
 use mathlib.Core.Bool.{true, false}
 use mathlib.Core.Logic.{inl, inr}
-use Prim.Native.Nat.{ℕ, zero, suc, _+_, _-_, _*_, _/_, _%_, _^_, _≤_, _<_}
-use native.Mathlib.Nat.{mul-pos, mul-assoc, add-comm, zero-mul, lt-irrefl, lt-of-lt-of-le, le-of-eq}
+use Prim.Native.Nat.{ℕ, zero, suc, _*_, _^_, _≤_, _<_}
+use native.Mathlib.Nat.{mul-pos, zero-mul, lt-irrefl, lt-of-lt-of-le, le-of-eq}
 use native.Mathlib.Omega.{arith}
 use lib.Dec.{T}
-use lib.Pow.{pow-pos, pow-add}
-use lib.Ieee.{Float, nan, inf, fin, binary64, fits, ofBits, toBits, div, ne, up, down}
+use lib.Pow.{pow-pos}
+use lib.Ieee.{Float, nan, inf, fin, binary64, fits, ofBits, toBits, div, ne, up}
 use lib.Ieee.Bits.{ofBits-toBits, toBits-lt}
 use lib.Ieee.Compare.{differs-from-itself}
 use lib.Ieee.Exact.{HasValue}
 use lib.Ieee.Fits.{down-pos}
 use lib.Ieee.Positive.{first-pos}
 use Rattle.root.specs.Sqrt.{CorrectRoot, RoundedRoot, sqrtOf}
-use Rattle.root.specs.Whole.{Significand, doubled}
+use Rattle.root.specs.Whole.{Significand}
 use Rattle.root.proofs.Patterns.{no-nan-of, Below, infinite, none, some, negative-patterns, top-patterns}
 use Rattle.root.proofs.Rounded.{definition-is-correct, no-choice}
 use borrow.Author.Needs.{needs}
-use Rattle.root.proofs.sqrt.Statement.{statement}
-use Rattle.root.proofs.sqrt.Tie as tie
-use Rattle.root.proofs.sqrt.Reads as reads
-use Rattle.root.proofs.sqrt.Lts as lts
-use Rattle.root.proofs.digits.Reads as digits-reads
-use Rattle.root.proofs.positive.Reads as positive-reads
+use Rattle.root.proofs.from_guess.Statement.{statement}
+use Rattle.root.proofs.from_guess.Tie as tie
+use Rattle.root.proofs.from_guess.Reads as reads
+use Rattle.root.proofs.from_guess.Lts as lts
+use Rattle.root.proofs.nearest.Reads as nearest-reads
+use Rattle.root.proofs.normal.Reads as normal-reads
+use Rattle.root.proofs.slow.Reads as slow-reads
+use Rattle.root.proofs.subnormal.Reads as subnormal-reads
+use Rattle.std.proofs.num.wrapping_sub_u64.Reads as wrapping-sub-u64-reads
 
 -- zero by zero
 no-number : div binary64 (ofBits binary64 0) (ofBits binary64 0) ≡ nan
@@ -74,9 +77,9 @@ module _ (x : Float) (held : T (fits binary64 x)) where
   is-root : (r : Float) → CorrectRoot x r → r ≡ sqrtOf x
   is-root r w = no-choice x r (sqrtOf x) w (definition-is-correct x held)
 
-  at-number : (r : Float) (t k : ℕ) → Significand (toBits binary64 x) t k → RoundedRoot (doubled t * 2 ^ 52 * (2 ^ k * 2 ^ k)) r → r ≡ sqrtOf x
-  at-number r t k d w =
-      let a-pos : 0 < doubled t = mul-pos {m = t % 2 ^ 52 + 2 ^ 52} (omega arith) (omega arith) in
+  at-number : (r : Float) (a k : ℕ) → Significand (toBits binary64 x) a k → RoundedRoot (a * 2 ^ 52 * (2 ^ k * 2 ^ k)) r → r ≡ sqrtOf x
+  at-number r a k d w =
+      let a-pos : 0 < a = omega (arith, d .low) in
       let n-pos : 0 < d .n = first-pos (d .n) (2 ^ 1074) (lt-of-lt-of-le (mul-pos (mul-pos a-pos (pow-pos 52)) (mul-pos (pow-pos k) (pow-pos k))) (le-of-eq (d .same))) in
       is-root r (of-positive x r (d .n) (subst (λ (y : Float). HasValue y false (d .n) (2 ^ 1074)) back (d .value)) n-pos (subst (λ (z : ℕ). RoundedRoot z r) (d .same) w))
 
@@ -99,33 +102,59 @@ returns c = of-nan (c .before .args .x) (c .if1 .taken)
 float-to-bits-b : tie.Need-float-to-bits-b
 float-to-bits-b c = no-nan-of (c .before .args .x) (c .if1 .left)
 
+wrapping-sub-u64-requires : tie.Need-wrapping-sub-u64-requires
+wrapping-sub-u64-requires c κs = search needs
+
+normal-requires : tie.Need-normal-requires
+normal-requires c κs = search needs
+
+nearest-requires : tie.Need-nearest-requires
+nearest-requires c κs = search needs
+
 returns-2 : tie.Need-returns-2
-returns-2 c = at-top (c .before .before .before .args .x) (held (c .before .before .before)) (omega arith) (omega arith)
+returns-2 c =
+    let s = c .before .before .before .before .before in
+    at-number (s .args .x) (held s) (c .nearest .result) (c .before .normal .result .a) (c .before .normal .result .k) (c .before .normal .ensures) (c .nearest .ensures)
 
 returns-3 : tie.Need-returns-3
-returns-3 c = at-negative (c .before .before .before .args .x) (held (c .before .before .before)) (omega arith)
+returns-3 c =
+    let s = c .before .before .before .before .before in
+    at-top (s .args .x) (held s) (omega arith) (omega arith)
 
 returns-4 : tie.Need-returns-4
-returns-4 c = at-zero (c .before .before .before .args .x) (held (c .before .before .before)) (c .if4 .taken)
-
-digits-requires : tie.Need-digits-requires
-digits-requires c κs = search needs
-
-positive-requires : tie.Need-positive-requires
-positive-requires c κs = search needs
+returns-4 c =
+    let s = c .before .before .before .before .before in
+    at-negative (s .args .x) (held s) (omega arith)
 
 returns-5 : tie.Need-returns-5
-returns-5 c = at-number (c .before .before .before .before .before .args .x) (held (c .before .before .before .before .before)) (c .positive .result) (c .before .digits .result .t) (c .before .digits .result .k) (c .before .digits .ensures) (c .positive .ensures)
+returns-5 c =
+    let s = c .before .before .before .before .before in
+    at-zero (s .args .x) (held s) (c .if5 .taken)
 
-pub sqrt-spec : {M : Type 1} → statement M
-sqrt-spec =
+subnormal-requires : tie.Need-subnormal-requires
+subnormal-requires c κs = search needs
+
+slow-requires : tie.Need-slow-requires
+slow-requires c κs = search needs
+
+returns-6 : tie.Need-returns-6
+returns-6 c =
+    let s = c .before .before .before .before .before .before .before in
+    at-number (s .args .x) (held s) (c .slow .result) (c .before .subnormal .result .a) (c .before .subnormal .result .k) (c .before .subnormal .ensures) (c .slow .ensures)
+
+pub from-guess-spec : {M : Type 1} → statement M
+from-guess-spec =
     tie.close
     (tie.spec
     returns
     float-to-bits-b
+    wrapping-sub-u64-requires
+    normal-requires
+    nearest-requires
     returns-2
     returns-3
     returns-4
-    digits-requires
-    positive-requires
-    returns-5)
+    returns-5
+    subnormal-requires
+    slow-requires
+    returns-6)
