@@ -11,7 +11,7 @@ use borrow.Author.Tests.{leb-false}
 use Rattle.floats.specs.Binary64.{_⊕_, _⊗_}
 use Rattle.floats.specs.Number.{signOf, absOf}
 use Rattle.floats.proofs.Values.{sign-is-the-highest-bit}
-use Rattle.hypot.specs.Hypot.{ordinary}
+use Rattle.hypot.specs.Hypot.{squaresOf, ordinary}
 
 -- ---- the bits of a magnitude are the lower 63
 
@@ -59,14 +59,32 @@ sum-with-nan nan = refl
 sum-with-nan (inf s) = refl
 sum-with-nan (fin s m e) = refl
 
-pub first-is-no-nan : (x y : Float) → ordinary (x ⊗ x ⊕ y ⊗ y) ≡ true → isNan x ≡ false
+sum-is-no-nan : (s : Float) → ordinary s ≡ true → isNan s ≡ false
+unfolding isNan
+sum-is-no-nan nan h = absurd (true≢false (sym h ∙ nan-is-not-ordinary))
+sum-is-no-nan (inf s) h = refl
+sum-is-no-nan (fin s m e) h = refl
+
+first-is-no-nan : (x y : Float) → ordinary (x ⊗ x ⊕ y ⊗ y) ≡ true → isNan x ≡ false
 unfolding mul add isNan
 first-is-no-nan nan y h = absurd (true≢false (sym h ∙ nan-is-not-ordinary))
 first-is-no-nan (inf s) y h = refl
 first-is-no-nan (fin s m e) y h = refl
 
-pub second-is-no-nan : (x y : Float) → ordinary (x ⊗ x ⊕ y ⊗ y) ≡ true → isNan y ≡ false
+second-is-no-nan : (x y : Float) → ordinary (x ⊗ x ⊕ y ⊗ y) ≡ true → isNan y ≡ false
 unfolding mul isNan
 second-is-no-nan x nan h = absurd (true≢false (sym h ∙ ap ordinary (sum-with-nan (x ⊗ x)) ∙ nan-is-not-ordinary))
 second-is-no-nan x (inf s) h = refl
 second-is-no-nan x (fin s m e) h = refl
+
+module _ (s x y : Float) (sum : s ≡ squaresOf x y) (usual : ordinary s ≡ true) where
+  pub no-nan-sum : isNan s ≡ false
+  no-nan-sum = sum-is-no-nan s usual
+
+  pub no-nan-first : isNan x ≡ false
+  unfolding squaresOf
+  no-nan-first = first-is-no-nan x y (sym (ap ordinary sum) ∙ usual)
+
+  pub no-nan-second : isNan y ≡ false
+  unfolding squaresOf
+  no-nan-second = second-is-no-nan x y (sym (ap ordinary sum) ∙ usual)

@@ -135,9 +135,9 @@ module _ (x y : Float) where
   abbrev b : Float
   b = smaller (absOf x) (absOf y)
 
-  pub ordinary-pair : ordinary (x ⊗ x ⊕ y ⊗ y) ≡ true → boundedOf a b (rootOf (x ⊗ x ⊕ y ⊗ y) a b) ≡ hypotOf x y
-  unfolding hypotOf lengthOf
-  ordinary-pair h = rw (ordinary-parts-are-finite x y h, ← squares-of-parts x y, h)
+  pub ordinary-pair : (s : Float) → s ≡ squaresOf x y → ordinary s ≡ true → boundedOf a b (rootOf s a b) ≡ hypotOf x y
+  unfolding hypotOf lengthOf squaresOf
+  ordinary-pair s e h = let o : ordinary (x ⊗ x ⊕ y ⊗ y) ≡ true = sym (ap ordinary e) ∙ h in rw (e, ordinary-parts-are-finite x y o, ← squares-of-parts x y, o)
 
   pub infinite-first : infinite x ≡ true → inf false ≡ hypotOf x y
   unfolding hypotOf

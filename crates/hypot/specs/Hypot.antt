@@ -74,10 +74,6 @@ lengthOf a b = cond (ordinary (squaresOf a b)) (rootOf (squaresOf a b) a b) (res
 unfoldable pub boundedOf : Float → Float → Float → Float
 boundedOf a b length = cond (lt length (a ⊕ b)) (cond (lt a length) length a) (a ⊕ b)
 
--- the length of two magnitudes with an ordinary sum of squares
-abbrev pub ordinaryOf : Float → Float → Float → Float
-ordinaryOf squares p q = boundedOf (larger p q) (smaller p q) (rootOf squares (larger p q) (smaller p q))
-
 -- the length of a pair whose larger magnitude is a
 abbrev pub pairOf : Float → Float → Float
 pairOf a b = boundedOf a b (lengthOf a b)

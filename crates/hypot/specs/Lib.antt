@@ -1,2 +1,3 @@
 -- What the contract of `hypot` cites.
 pub mod Hypot
+pub mod Block

@@ -7,11 +7,12 @@
 // The distance from the axis in `cart` and `geocart` is taken by it.
 ghost use mathlib.Core.Path.{_≡_};
 ghost use Prim.Native.Nat.{ℕ};
-ghost use mathlib.Core.Bool.{false};
+ghost use mathlib.Core.Bool.{true, false};
 ghost use lib.Ieee.{isNan};
 ghost use Rattle.blocks.specs.Each.{at, Each};
 ghost use Rattle.floats.specs.Number.{absOf};
-ghost use Rattle.hypot.specs.Hypot.{larger, smaller, guessOf, reciprocalRootOf, rootOf, scaledRootOf, rescaledOf, ordinary, boundedOf, ordinaryOf, hypotOf};
+ghost use Rattle.hypot.specs.Hypot.{larger, smaller, squaresOf, guessOf, reciprocalRootOf, rootOf, scaledRootOf, rescaledOf, ordinary, boundedOf, hypotOf};
+ghost use Rattle.hypot.specs.Block.{SquaresUpTo};
 use blocks::WIDTH;
 
 // 2^-900 and 2^1000: a sum of squares between them lost nothing by overflow or underflow
@@ -60,6 +61,14 @@ fn guess_of(s: f64) -> f64
     floats::of_bits(0x5fe6_e8f0_0000_0000 - floats::to_bits(s) % 0x8000_0000_0000_0000 / 2)
 }
 
+// the same of a number that is no NaN, without a test for one
+fn guess_of_number(s: f64) -> f64
+    requires { ⌜ isNan s ≡ false ⌝ }
+    ensures { λ r. ⌜ r ≡ guessOf s ⌝ }
+{
+    f64::from_bits(0x5fe6_e8f0_0000_0000 - f64::to_bits(s) % 0x8000_0000_0000_0000 / 2)
+}
+
 // 1/√(1 - e) for small e
 fn reciprocal_root(e: f64) -> f64
     ensures { λ r. ⌜ r ≡ reciprocalRootOf e ⌝ }
@@ -68,11 +77,11 @@ fn reciprocal_root(e: f64) -> f64
     1.0 + 0.5 * e + (C2 + C3 * e) * ee + (C4 + C5 * e) * (ee * ee)
 }
 
-// √s for s = a² + b²
-fn root(s: f64, a: f64, b: f64) -> f64
+// √s for s = a² + b², from the guess at it
+fn root(guess: f64, s: f64, a: f64, b: f64) -> f64
+    requires { ⌜ guess ≡ guessOf s ⌝ }
     ensures { λ r. ⌜ r ≡ rootOf s a b ⌝ }
 {
-    let guess = guess_of(s);
     let near = s * guess;
     let factor = reciprocal_root(1.0 - near * guess);
     let h = near * factor;
@@ -84,7 +93,8 @@ fn scaled_root(scale: f64, back: f64, a: f64, b: f64) -> f64
 {
     let p = a * scale;
     let q = b * scale;
-    root(p * p + q * q, p, q) * back
+    let s = p * p + q * q;
+    root(guess_of(s), s, p, q) * back
 }
 
 // parts whose squares would overflow or underflow
@@ -125,14 +135,14 @@ fn magnitude(x: f64) -> f64
 
 // the usual case: parts whose sum of squares is ordinary
 fn ordinary_length(squares: f64, x: f64, y: f64) -> f64
-    requires { ⌜ (isNan x ≡ false) × (isNan y ≡ false) ⌝ }
-    ensures { λ r. ⌜ r ≡ ordinaryOf squares (absOf x) (absOf y) ⌝ }
+    requires { ⌜ (squares ≡ squaresOf x y) × (ordinary squares ≡ true) ⌝ }
+    ensures { λ r. ⌜ r ≡ hypotOf x y ⌝ }
 {
     let p = magnitude(x);
     let q = magnitude(y);
     let a = larger_of(p, q);
     let b = smaller_of(p, q);
-    bounded(a, b, root(squares, a, b))
+    bounded(a, b, root(guess_of_number(squares), squares, a, b))
 }
 
 pub fn hypot(x: f64, y: f64) -> f64
@@ -156,8 +166,37 @@ pub fn hypot(x: f64, y: f64) -> f64
     bounded(a, b, rescaled(a, b))
 }
 
-// The lengths of a block of points, each as `hypot` gives it.
-pub fn hypot_block(x: &[f64; WIDTH], y: &[f64; WIDTH], r: &mut [f64; WIDTH])
+// The sums of squares of a block of points; the answer is whether all are ordinary.
+fn squares_block(x: &[f64; WIDTH], y: &[f64; WIDTH], squares: &mut [f64; WIDTH]) -> bool
+    ensures { λ usual. ⌜ SquaresUpTo 16 (now (x .entry)) (now (y .entry)) (now (squares .exit)) usual ⌝ }
+{
+    *squares = [0.0; WIDTH];
+    let mut usual = true;
+    let mut i = 0;
+    while i < WIDTH {
+        let s = x[i] * x[i] + y[i] * y[i];
+        squares[i] = s;
+        usual = usual & is_ordinary(s);
+        i += 1;
+    }
+    usual
+}
+
+// The lengths where all sums of squares are ordinary: a loop with neither a branch nor a test for NaN, of which the compiler makes vector instructions.
+fn ordinary_block(squares: &[f64; WIDTH], x: &[f64; WIDTH], y: &[f64; WIDTH], r: &mut [f64; WIDTH])
+    requires { ⌜ SquaresUpTo 16 (now x) (now y) (now squares) true ⌝ }
+    ensures { λ _. ⌜ Each (now (r .exit)) (λ (j : ℕ). hypotOf (at (now (x .entry)) j) (at (now (y .entry)) j)) ⌝ }
+{
+    *r = [0.0; WIDTH];
+    let mut i = 0;
+    while i < WIDTH {
+        r[i] = ordinary_length(squares[i], x[i], y[i]);
+        i += 1;
+    }
+}
+
+// The lengths one after the other, whatever the parts are.
+fn any_block(x: &[f64; WIDTH], y: &[f64; WIDTH], r: &mut [f64; WIDTH])
     ensures { λ _. ⌜ Each (now (r .exit)) (λ (j : ℕ). hypotOf (at (now (x .entry)) j) (at (now (y .entry)) j)) ⌝ }
 {
     *r = [0.0; WIDTH];
@@ -165,5 +204,17 @@ pub fn hypot_block(x: &[f64; WIDTH], y: &[f64; WIDTH], r: &mut [f64; WIDTH])
     while i < WIDTH {
         r[i] = hypot(x[i], y[i]);
         i += 1;
+    }
+}
+
+// The lengths of a block of points, each as `hypot` gives it.
+pub fn hypot_block(x: &[f64; WIDTH], y: &[f64; WIDTH], r: &mut [f64; WIDTH])
+    ensures { λ _. ⌜ Each (now (r .exit)) (λ (j : ℕ). hypotOf (at (now (x .entry)) j) (at (now (y .entry)) j)) ⌝ }
+{
+    let mut squares = [0.0; WIDTH];
+    if squares_block(x, y, &mut squares) {
+        ordinary_block(&squares, x, y, r);
+    } else {
+        any_block(x, y, r);
     }
 }

@@ -1,7 +1,7 @@
--- `hypot::hypot` meets its contract: the code tests first what is usual, and an ordinary sum of squares has neither an infinite part nor a NaN. Assumes nothing.
-use mathlib.Core.Path.{sym, _∙_}
-use Rattle.hypot.proofs.Squares.{one-over-zero, equals-infinity, ordinary-pair, infinite-first, infinite-second, scaled-pair}
-use Rattle.hypot.proofs.Signless.{first-is-no-nan, second-is-no-nan}
+-- `hypot::hypot` meets its contract: the code tests first what is usual. Assumes nothing.
+use mathlib.Core.Path.{refl, sym, _∙_}
+use Rattle.hypot.specs.Hypot.{squaresOf}
+use Rattle.hypot.proofs.Squares.{one-over-zero, equals-infinity, infinite-first, infinite-second, scaled-pair}
 use borrow.Author.Needs.{needs}
 use Rattle.hypot.proofs.hypot.Statement.{statement}
 use Rattle.hypot.proofs.hypot.Tie as tie
@@ -10,15 +10,11 @@ is-ordinary-requires : tie.Need-is-ordinary-requires
 is-ordinary-requires c κs = search needs
 
 ordinary-length-requires : tie.Need-ordinary-length-requires
-ordinary-length-requires c κs =
-    let a = c .before .before .args in
-    let h = sym (c .before .is-ordinary .ensures) ∙ c .if1 .taken in
-    (first-is-no-nan (a .x) (a .y) h, second-is-no-nan (a .x) (a .y) h)
+unfolding squaresOf
+ordinary-length-requires c κs = (refl, sym (c .before .is-ordinary .ensures) ∙ c .if1 .taken)
 
 returns : tie.Need-returns
-returns c =
-    let a = c .before .before .before .args in
-    c .ordinary-length .ensures ∙ ordinary-pair (a .x) (a .y) (sym (c .before .before .is-ordinary .ensures) ∙ c .before .if1 .taken)
+returns c = c .ordinary-length .ensures
 
 abs-requires : tie.Need-abs-requires
 abs-requires c κs = search needs

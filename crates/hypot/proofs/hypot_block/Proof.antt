@@ -1,70 +1,23 @@
--- `hypot::hypot_block` meets its contract. Assumes nothing.
-use Prim.Native.Nat.{ℕ, _-_}
+-- `hypot::hypot_block` meets its contract: by either way each length is `hypot`'s. Assumes nothing.
 use borrow.Author.Needs.{needs}
-use mathlib.Core.Path.{refl}
-use Rattle.blocks.specs.Each.{at, UpTo}
-use Rattle.blocks.proofs.Laws.{none-filled, one-more, all-filled}
-use Rattle.hypot.specs.Hypot.{hypotOf}
+use Rattle.hypot.proofs.Blocks.{if-usual}
 use Rattle.hypot.proofs.hypot_block.Statement.{statement}
 use Rattle.hypot.proofs.hypot_block.Tie as tie
 
-abbrev Inv-loop : tie.InvT-loop
-Inv-loop x y r₀ i₀ r i = UpTo i r (λ (j : ℕ). hypotOf (at x j) (at y j))
+squares-block-requires : tie.Need-squares-block-requires
+squares-block-requires c κs = search needs
 
-abbrev μ-loop : tie.MeasureT-loop
-μ-loop x y r₀ i₀ r i = 16 - i
+ordinary-block-requires : tie.Need-ordinary-block-requires
+ordinary-block-requires c κs = if-usual (c .before .before .if1 .taken) (c .before .before .before .squares-block .ensures)
 
-loop-holds : tie.Need-loop-holds Inv-loop μ-loop
-loop-holds c = none-filled refl
+any-block-requires : tie.Need-any-block-requires
+any-block-requires c κs = search needs
 
-mul-hypot : tie.Need-mul-hypot Inv-loop μ-loop
-mul-hypot c = search needs
+returns : tie.Need-returns
+returns c = search needs
 
-element-copy-out-hypot : tie.Need-element-copy-out-hypot Inv-loop μ-loop
-element-copy-out-hypot c = search needs
-
-mul-hypot-2 : tie.Need-mul-hypot-2 Inv-loop μ-loop
-mul-hypot-2 c = search needs
-
-element-copy-out-hypot-2 : tie.Need-element-copy-out-hypot-2 Inv-loop μ-loop
-element-copy-out-hypot-2 c = search needs
-
-hypot-requires : tie.Need-hypot-requires Inv-loop μ-loop
-hypot-requires c κs = search needs
-
-mul-r : tie.Need-mul-r Inv-loop μ-loop
-mul-r c = search needs
-
-element-write-r : tie.Need-element-write-r Inv-loop μ-loop
-element-write-r c = search needs
-
-add-i : tie.Need-add-i Inv-loop μ-loop
-add-i c = search needs
-
-loop-less : tie.Need-loop-less Inv-loop μ-loop
-loop-less c = search needs
-
-loop-again : tie.Need-loop-again Inv-loop μ-loop
-loop-again c = one-more (search needs) (c .hypot .ensures) (c .before .before .before .before .loop .inv)
-
-returns : tie.Need-returns Inv-loop μ-loop
-returns c = all-filled (search needs) (c .before .loop .inv)
+returns-2 : tie.Need-returns-2
+returns-2 c = search needs
 
 pub hypot-block-spec : {M : Type 1} → statement M
-hypot-block-spec =
-    tie.close
-    (tie.spec
-    Inv-loop
-    μ-loop
-    loop-holds
-    mul-hypot
-    element-copy-out-hypot
-    mul-hypot-2
-    element-copy-out-hypot-2
-    hypot-requires
-    mul-r
-    element-write-r
-    add-i
-    loop-less
-    loop-again
-    returns)
+hypot-block-spec = tie.close (tie.spec squares-block-requires ordinary-block-requires any-block-requires returns returns-2)

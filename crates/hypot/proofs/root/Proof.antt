@@ -4,15 +4,12 @@ use Rattle.hypot.specs.Hypot.{rootOf}
 use Rattle.hypot.proofs.root.Statement.{statement}
 use Rattle.hypot.proofs.root.Tie as tie
 
-guess-of-requires : tie.Need-guess-of-requires
-guess-of-requires c κs = search needs
-
 reciprocal-root-requires : tie.Need-reciprocal-root-requires
 reciprocal-root-requires c κs = search needs
 
 returns : tie.Need-returns
 unfolding rootOf
-returns c = rw (c .reciprocal-root .ensures, c .before .guess-of .ensures)
+returns c = rw (c .reciprocal-root .ensures, c .before .pre)
 
 pub root-spec : {M : Type 1} → statement M
-root-spec = tie.close (tie.spec guess-of-requires reciprocal-root-requires returns)
+root-spec = tie.close (tie.spec reciprocal-root-requires returns)
