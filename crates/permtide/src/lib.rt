@@ -3,8 +3,15 @@
 // The nine coefficients, the constants and the order of the products are the Rust's; a text parameter there is a code here (mean 1, zero 2, free 3).
 // Every tuple counts. Exact as the Rust's sequence over our sine, cosine and atan2.
 ghost use mathlib.Core.Path.{_≡_};
+ghost use Prim.Native.Nat.{ℕ};
+ghost use Rattle.floats.specs.Binary64.{_⊕_, _⊖_, _⊗_};
+ghost use Rattle.trig.specs.Trig.{sinOf, cosOf};
+ghost use Rattle.ellipsoid.specs.Figure.{geocentricOf};
+ghost use Rattle.blocks.specs.Each.{at, Each};
 ghost use Rattle.permtide.specs.Record.{blankOf, fromOf, coefficientOf, inRuleOf};
 ghost use Rattle.permtide.specs.Step.{tideOf, liftOf, fwdOf, invOf};
+ghost use Rattle.permtide.specs.Block.{heightOf};
+use blocks::WIDTH;
 use ellipsoid::Ellipsoid;
 use tuple::Tuple;
 
@@ -91,13 +98,44 @@ impl Tide {
     }
 }
 
+fn height(op: Tide, s: f64) -> f64
+    ensures { λ r. ⌜ r ≡ heightOf op s ⌝ }
+{
+    op.coefficient * (-0.198) * (1.5 * s * s - 0.5)
+}
+
 fn lift(op: Tide, phi: f64) -> f64
     ensures { λ r. ⌜ r ≡ liftOf op phi ⌝ }
 {
     let lat = trig::sin_cos(phi);
     let phibar = op.ellps.latitude_geographic_to_geocentric(lat.s, lat.c);
     let s = trig::sin(phibar);
-    op.coefficient * (-0.198) * (1.5 * s * s - 0.5)
+    height(op, s)
+}
+
+fn scaled(k: f64, x: &[f64; WIDTH], r: &mut [f64; WIDTH])
+    ensures { λ _. ⌜ Each (now (r .exit)) (λ (j : ℕ). k ⊗ at (now (x .entry)) j) ⌝ }
+{
+    *r = [0.0; WIDTH];
+    let mut i = 0;
+    while i < WIDTH {
+        r[i] = k * x[i];
+        i += 1;
+    }
+}
+
+// The sines of a block's geocentric latitudes.
+fn sines(ellps: Ellipsoid, phi: &[f64; WIDTH], r: &mut [f64; WIDTH])
+    ensures { λ _. ⌜ Each (now (r .exit)) (λ (j : ℕ). sinOf (geocentricOf ellps (sinOf (at (now (phi .entry)) j)) (cosOf (at (now (phi .entry)) j)))) ⌝ }
+{
+    let mut s = [0.0; WIDTH];
+    let mut c = [0.0; WIDTH];
+    let mut p = [0.0; WIDTH];
+    let mut phibar = [0.0; WIDTH];
+    trig::sin_cos_block(phi, &mut s, &mut c);
+    scaled(1.0 - ellps.es, &s, &mut p);
+    arctan::atan2_block(&p, &c, &mut phibar);
+    trig::sin_cos_block(&phibar, r, &mut c);
 }
 
 // ----- F O R W A R D -----------------------------------------------------------------
@@ -113,6 +151,26 @@ pub fn fwd(op: Tide, coord: Tuple) -> Tuple
     }
 }
 
+fn raised(op: Tide, s: &[f64; WIDTH], z: &[f64; WIDTH], oz: &mut [f64; WIDTH])
+    ensures { λ _. ⌜ Each (now (oz .exit)) (λ (j : ℕ). at (now (z .entry)) j ⊕ heightOf op (at (now (s .entry)) j)) ⌝ }
+{
+    *oz = [0.0; WIDTH];
+    let mut i = 0;
+    while i < WIDTH {
+        oz[i] = z[i] + height(op, s[i]);
+        i += 1;
+    }
+}
+
+// The heights of a block, each as `fwd` gives it: the other three coordinates stay.
+pub fn fwd_block(op: Tide, y: &[f64; WIDTH], z: &[f64; WIDTH], oz: &mut [f64; WIDTH])
+    ensures { λ _. ⌜ Each (now (oz .exit)) (λ (j : ℕ). at (now (z .entry)) j ⊕ liftOf op (at (now (y .entry)) j)) ⌝ }
+{
+    let mut s = [0.0; WIDTH];
+    sines(op.ellps, y, &mut s);
+    raised(op, &s, z, oz);
+}
+
 // ----- I N V E R S E -----------------------------------------------------------------
 
 pub fn inv(op: Tide, coord: Tuple) -> Tuple
@@ -124,4 +182,24 @@ pub fn inv(op: Tide, coord: Tuple) -> Tuple
         z: coord.z - lift(op, coord.y),
         t: coord.t,
     }
+}
+
+fn lowered(op: Tide, s: &[f64; WIDTH], z: &[f64; WIDTH], oz: &mut [f64; WIDTH])
+    ensures { λ _. ⌜ Each (now (oz .exit)) (λ (j : ℕ). at (now (z .entry)) j ⊖ heightOf op (at (now (s .entry)) j)) ⌝ }
+{
+    *oz = [0.0; WIDTH];
+    let mut i = 0;
+    while i < WIDTH {
+        oz[i] = z[i] - height(op, s[i]);
+        i += 1;
+    }
+}
+
+// The heights of a block, each as `inv` gives it.
+pub fn inv_block(op: Tide, y: &[f64; WIDTH], z: &[f64; WIDTH], oz: &mut [f64; WIDTH])
+    ensures { λ _. ⌜ Each (now (oz .exit)) (λ (j : ℕ). at (now (z .entry)) j ⊖ liftOf op (at (now (y .entry)) j)) ⌝ }
+{
+    let mut s = [0.0; WIDTH];
+    sines(op.ellps, y, &mut s);
+    lowered(op, &s, z, oz);
 }
