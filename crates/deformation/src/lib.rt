@@ -342,11 +342,12 @@ fn square_block(dx: &[f64; WIDTH], dy: &[f64; WIDTH], dz: &[f64; WIDTH], q: &mut
     *q = [0.0; WIDTH];
     let mut i = 0;
     while i < WIDTH {
+        let time = 0.0;
         let d = Tuple {
             x: dx[i],
             y: dy[i],
             z: dz[i],
-            t: 0.0,
+            t: time,
         };
         q[i] = d.dot(d);
         i += 1;

@@ -24,17 +24,17 @@ mul-q c = search needs
 element-copy-out-q : tie.Need-element-copy-out-q Inv-loop μ-loop
 element-copy-out-q c = search needs
 
-mul-t12 : tie.Need-mul-t12 Inv-loop μ-loop
-mul-t12 c = search needs
+mul-t13 : tie.Need-mul-t13 Inv-loop μ-loop
+mul-t13 c = search needs
 
-element-copy-out-t15 : tie.Need-element-copy-out-t15 Inv-loop μ-loop
-element-copy-out-t15 c = search needs
+element-copy-out-t16 : tie.Need-element-copy-out-t16 Inv-loop μ-loop
+element-copy-out-t16 c = search needs
 
-mul-t16 : tie.Need-mul-t16 Inv-loop μ-loop
-mul-t16 c = search needs
+mul-t17 : tie.Need-mul-t17 Inv-loop μ-loop
+mul-t17 c = search needs
 
-element-copy-out-t19 : tie.Need-element-copy-out-t19 Inv-loop μ-loop
-element-copy-out-t19 c = search needs
+element-copy-out-t20 : tie.Need-element-copy-out-t20 Inv-loop μ-loop
+element-copy-out-t20 c = search needs
 
 dot-requires : tie.Need-dot-requires Inv-loop μ-loop
 dot-requires c κs = search needs
@@ -66,10 +66,10 @@ square-block-spec =
     loop-holds
     mul-q
     element-copy-out-q
-    mul-t12
-    element-copy-out-t15
-    mul-t16
-    element-copy-out-t19
+    mul-t13
+    element-copy-out-t16
+    mul-t17
+    element-copy-out-t20
     dot-requires
     mul-q-2
     element-write-q
