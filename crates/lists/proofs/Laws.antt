@@ -128,7 +128,7 @@ ran-start f start l = record { within = omega arith; long = refl; run = refl }
 pub count-start : {S : Type 0} (f : Turns S) (start : S) (l : List Float) → Counted f start l 0 start l 0
 count-start f start l = record { total = zero-add (countOf f 0 start l); few = omega arith }
 
-at-most-one : (b : Bool) → cond b 1 0 ≤ 1
+pub at-most-one : (b : Bool) → cond b 1 0 ≤ 1
 at-most-one true = omega arith
 at-most-one false = omega arith
 
