@@ -4,8 +4,13 @@
 // roundings; it is not `geocart::geographic`, from which it parts in the last bits and near the axis (cutoff a·1e-16 against 1e-12). On the axis the tuple
 // is written and not counted; a NaN Z gives a NaN latitude there, a listed difference. Elsewhere a tuple counts where no number of the result is NaN.
 ghost use mathlib.Core.Path.{_≡_};
+ghost use mathlib.Core.Bool.{cond};
+ghost use Prim.Native.Nat.{ℕ};
+ghost use Rattle.blocks.specs.Each.{Each, countTo};
+ghost use Rattle.tuple.specs.Columns.{rowOf};
 ghost use Rattle.cart.specs.Record.{blankOf, inRuleOf};
 ghost use Rattle.cart.specs.Step.{countedOf, cartFwdOf, inverseOf, meridianOf, heightOf, offAxisOf, onAxisOf, cartInvOf};
+use blocks::WIDTH;
 use ellipsoid::Ellipsoid;
 use tuple::Shifted;
 use tuple::Tuple;
@@ -54,12 +59,56 @@ fn counted(coord: Tuple) -> Shifted
     }
 }
 
+fn one_if(b: bool) -> usize
+    ensures { λ r. ⌜ r ≡ cond b 1 0 ⌝ }
+{
+    if b { 1 } else { 0 }
+}
+
 // ----- F O R W A R D --------------------------------------------------------------
 
 pub fn cart_fwd(ellps: Ellipsoid, coord: Tuple) -> Shifted
     ensures { λ r. ⌜ r ≡ cartFwdOf ellps coord ⌝ }
 {
     counted(geocart::cartesian(ellps, coord))
+}
+
+// A block of tuples, each as `cart_fwd` gives it; the time stays. How many count.
+pub fn cart_fwd_block(
+    ellps: Ellipsoid,
+    x: &[f64; WIDTH],
+    y: &[f64; WIDTH],
+    z: &[f64; WIDTH],
+    t: &[f64; WIDTH],
+    ox: &mut [f64; WIDTH],
+    oy: &mut [f64; WIDTH],
+    oz: &mut [f64; WIDTH],
+) -> usize
+    ensures { λ r. ⌜ Each (now (ox .exit)) (λ (j : ℕ). cartFwdOf ellps (rowOf (now (x .entry)) (now (y .entry)) (now (z .entry)) (now (t .entry)) j) .tuple .x) × Each (now (oy .exit)) (λ (j : ℕ). cartFwdOf ellps (rowOf (now (x .entry)) (now (y .entry)) (now (z .entry)) (now (t .entry)) j) .tuple .y) × Each (now (oz .exit)) (λ (j : ℕ). cartFwdOf ellps (rowOf (now (x .entry)) (now (y .entry)) (now (z .entry)) (now (t .entry)) j) .tuple .z) × (r ≡ countTo 16 (λ (j : ℕ). cartFwdOf ellps (rowOf (now (x .entry)) (now (y .entry)) (now (z .entry)) (now (t .entry)) j) .counted)) ⌝ }
+{
+    *ox = [0.0; WIDTH];
+    *oy = [0.0; WIDTH];
+    *oz = [0.0; WIDTH];
+    let mut n = 0;
+    let mut i = 0;
+    while i < WIDTH {
+        let r = cart_fwd(
+            ellps,
+            Tuple {
+                x: x[i],
+                y: y[i],
+                z: z[i],
+                t: t[i],
+            },
+        );
+        let v = r.tuple;
+        ox[i] = v.x;
+        oy[i] = v.y;
+        oz[i] = v.z;
+        n += one_if(r.counted);
+        i += 1;
+    }
+    n
 }
 
 // ----- I N V E R S E --------------------------------------------------------------
@@ -147,4 +196,42 @@ pub fn cart_inv(k: Inverse, coord: Tuple) -> Shifted
         return on_axis(k, lam, coord);
     }
     counted(off_axis(k, lam, p, coord))
+}
+
+// A block of tuples, each as `cart_inv` gives it; the time stays. How many count.
+pub fn cart_inv_block(
+    k: Inverse,
+    x: &[f64; WIDTH],
+    y: &[f64; WIDTH],
+    z: &[f64; WIDTH],
+    t: &[f64; WIDTH],
+    ox: &mut [f64; WIDTH],
+    oy: &mut [f64; WIDTH],
+    oz: &mut [f64; WIDTH],
+) -> usize
+    ensures { λ r. ⌜ Each (now (ox .exit)) (λ (j : ℕ). cartInvOf k (rowOf (now (x .entry)) (now (y .entry)) (now (z .entry)) (now (t .entry)) j) .tuple .x) × Each (now (oy .exit)) (λ (j : ℕ). cartInvOf k (rowOf (now (x .entry)) (now (y .entry)) (now (z .entry)) (now (t .entry)) j) .tuple .y) × Each (now (oz .exit)) (λ (j : ℕ). cartInvOf k (rowOf (now (x .entry)) (now (y .entry)) (now (z .entry)) (now (t .entry)) j) .tuple .z) × (r ≡ countTo 16 (λ (j : ℕ). cartInvOf k (rowOf (now (x .entry)) (now (y .entry)) (now (z .entry)) (now (t .entry)) j) .counted)) ⌝ }
+{
+    *ox = [0.0; WIDTH];
+    *oy = [0.0; WIDTH];
+    *oz = [0.0; WIDTH];
+    let mut n = 0;
+    let mut i = 0;
+    while i < WIDTH {
+        let r = cart_inv(
+            k,
+            Tuple {
+                x: x[i],
+                y: y[i],
+                z: z[i],
+                t: t[i],
+            },
+        );
+        let v = r.tuple;
+        ox[i] = v.x;
+        oy[i] = v.y;
+        oz[i] = v.z;
+        n += one_if(r.counted);
+        i += 1;
+    }
+    n
 }

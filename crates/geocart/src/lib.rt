@@ -5,7 +5,11 @@
 // `cartesian` is cart's forward step; `place`, `geographic` without the height, is what deformation asks for a place by. cart's own inverse is another
 // method, in the crate cart.
 ghost use mathlib.Core.Path.{_≡_};
+ghost use Prim.Native.Nat.{ℕ};
+ghost use Rattle.blocks.specs.Each.{Each};
+ghost use Rattle.tuple.specs.Columns.{rowOf};
 ghost use Rattle.geocart.specs.Geocart.{cartesianOf, poleOf, poleHeightOf, bowringOf, bowringHeightOf, geographicOf, placeOf};
+use blocks::WIDTH;
 use ellipsoid::Ellipsoid;
 use tuple::Tuple;
 
@@ -124,5 +128,36 @@ pub fn place(ellps: Ellipsoid, cartesian: Tuple) -> Position
     Position {
         lam: lam,
         phi: arctan::atan2(m.num, m.denom),
+    }
+}
+
+// Longitudes and latitudes of a block of tuples, each as `place` gives them.
+pub fn place_block(
+    ellps: Ellipsoid,
+    x: &[f64; WIDTH],
+    y: &[f64; WIDTH],
+    z: &[f64; WIDTH],
+    t: &[f64; WIDTH],
+    lam: &mut [f64; WIDTH],
+    phi: &mut [f64; WIDTH],
+)
+    ensures { λ _. ⌜ Each (now (lam .exit)) (λ (j : ℕ). placeOf ellps (rowOf (now (x .entry)) (now (y .entry)) (now (z .entry)) (now (t .entry)) j) .lam) × Each (now (phi .exit)) (λ (j : ℕ). placeOf ellps (rowOf (now (x .entry)) (now (y .entry)) (now (z .entry)) (now (t .entry)) j) .phi) ⌝ }
+{
+    *lam = [0.0; WIDTH];
+    *phi = [0.0; WIDTH];
+    let mut i = 0;
+    while i < WIDTH {
+        let g = place(
+            ellps,
+            Tuple {
+                x: x[i],
+                y: y[i],
+                z: z[i],
+                t: t[i],
+            },
+        );
+        lam[i] = g.lam;
+        phi[i] = g.phi;
+        i += 1;
     }
 }
