@@ -4,8 +4,12 @@
 // are worked out once where the Rust does so twice, with equal bits. Where a divisor is zero there are no offsets, and the first three coordinates become
 // NaN, as the Rust's sums with a NaN do. The time stays, and every tuple counts.
 ghost use mathlib.Core.Path.{_≡_};
+ghost use Prim.Native.Nat.{ℕ};
+ghost use Rattle.blocks.specs.Each.{at, Each};
+ghost use Rattle.tuple.specs.Columns.{rowOf};
 ghost use Rattle.molodensky.specs.Record.{blankOf, abridgedOf, twoEllipsoidsOf, secondInRuleOf, figureInRuleOf, finiteOf, inRuleOf};
 ghost use Rattle.molodensky.specs.Step.{figureOf, mopedOf, placeOf, abridgedOffsetsOf, fullOffsetsOf, offsetsOf, commonOf};
+use blocks::WIDTH;
 use ellipsoid::Ellipsoid;
 use tuple::Tuple;
 
@@ -272,5 +276,45 @@ pub fn common(op: Moped, inverse: bool, coord: Tuple) -> Tuple
         y: coord.y + dphi,
         z: coord.z + dh,
         t: coord.t,
+    }
+}
+
+// The first three coordinates of a block, each as `common` gives it: the time stays.
+pub fn common_block(
+    op: Moped,
+    inverse: bool,
+    x: &[f64; WIDTH],
+    y: &[f64; WIDTH],
+    z: &[f64; WIDTH],
+    t: &[f64; WIDTH],
+    ox: &mut [f64; WIDTH],
+    oy: &mut [f64; WIDTH],
+    oz: &mut [f64; WIDTH],
+)
+    ensures { λ _. ⌜
+        Each (now (ox .exit)) (λ (j : ℕ). commonOf op inverse (rowOf (now (x .entry)) (now (y .entry)) (now (z .entry)) (now (t .entry)) j) .x)
+        × Each (now (oy .exit)) (λ (j : ℕ). commonOf op inverse (rowOf (now (x .entry)) (now (y .entry)) (now (z .entry)) (now (t .entry)) j) .y)
+        × Each (now (oz .exit)) (λ (j : ℕ). commonOf op inverse (rowOf (now (x .entry)) (now (y .entry)) (now (z .entry)) (now (t .entry)) j) .z)
+        ⌝ }
+{
+    *ox = [0.0; WIDTH];
+    *oy = [0.0; WIDTH];
+    *oz = [0.0; WIDTH];
+    let mut i = 0;
+    while i < WIDTH {
+        let moved = common(
+            op,
+            inverse,
+            Tuple {
+                x: x[i],
+                y: y[i],
+                z: z[i],
+                t: t[i],
+            },
+        );
+        ox[i] = moved.x;
+        oy[i] = moved.y;
+        oz[i] = moved.z;
+        i += 1;
     }
 }

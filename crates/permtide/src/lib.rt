@@ -3,8 +3,12 @@
 // The nine coefficients, the constants and the order of the products are the Rust's; a text parameter there is a code here (mean 1, zero 2, free 3).
 // Every tuple counts. Exact as the Rust's sequence over our sine, cosine and atan2.
 ghost use mathlib.Core.Path.{_≡_};
+ghost use Prim.Native.Nat.{ℕ};
+ghost use Rattle.floats.specs.Binary64.{_⊕_, _⊖_};
+ghost use Rattle.blocks.specs.Each.{at, Each};
 ghost use Rattle.permtide.specs.Record.{blankOf, fromOf, coefficientOf, inRuleOf};
 ghost use Rattle.permtide.specs.Step.{tideOf, liftOf, fwdOf, invOf};
+use blocks::WIDTH;
 use ellipsoid::Ellipsoid;
 use tuple::Tuple;
 
@@ -113,6 +117,18 @@ pub fn fwd(op: Tide, coord: Tuple) -> Tuple
     }
 }
 
+// The heights of a block, each as `fwd` gives it: the other three coordinates stay.
+pub fn fwd_block(op: Tide, y: &[f64; WIDTH], z: &[f64; WIDTH], oz: &mut [f64; WIDTH])
+    ensures { λ _. ⌜ Each (now (oz .exit)) (λ (j : ℕ). at (now (z .entry)) j ⊕ liftOf op (at (now (y .entry)) j)) ⌝ }
+{
+    *oz = [0.0; WIDTH];
+    let mut i = 0;
+    while i < WIDTH {
+        oz[i] = z[i] + lift(op, y[i]);
+        i += 1;
+    }
+}
+
 // ----- I N V E R S E -----------------------------------------------------------------
 
 pub fn inv(op: Tide, coord: Tuple) -> Tuple
@@ -123,5 +139,17 @@ pub fn inv(op: Tide, coord: Tuple) -> Tuple
         y: coord.y,
         z: coord.z - lift(op, coord.y),
         t: coord.t,
+    }
+}
+
+// The heights of a block, each as `inv` gives it.
+pub fn inv_block(op: Tide, y: &[f64; WIDTH], z: &[f64; WIDTH], oz: &mut [f64; WIDTH])
+    ensures { λ _. ⌜ Each (now (oz .exit)) (λ (j : ℕ). at (now (z .entry)) j ⊖ liftOf op (at (now (y .entry)) j)) ⌝ }
+{
+    *oz = [0.0; WIDTH];
+    let mut i = 0;
+    while i < WIDTH {
+        oz[i] = z[i] - lift(op, y[i]);
+        i += 1;
     }
 }
