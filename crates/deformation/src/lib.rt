@@ -4,8 +4,13 @@
 // Letters and sequence of roundings are the Rust's, over our kernels. Forward adds (t - t_epoch) times the velocity, while comment (3) of the Rust's file
 // subtracts it: the code decides, and the difference is listed. The sum works on all four coordinates, the fourth addend 0.0, so a time of -0 becomes +0.
 ghost use mathlib.Core.Path.{_≡_};
+ghost use Prim.Native.Nat.{ℕ, _+_, _<_};
+ghost use mathlib.Core.Bool.{cond};
+ghost use Rattle.blocks.specs.Each.{Each, countTo};
 ghost use Rattle.deformation.specs.Record.{blankOf, rawOf, finiteOrNot, inRuleOf, neitherOf};
 ghost use Rattle.deformation.specs.Step.{motionOf, durationOf, scaleOf, metresOf, integratedOf, withLengthOf, deformedOf, commonOf};
+ghost use Rattle.deformation.specs.Places.{shiftedOf};
+use blocks::WIDTH;
 use ellipsoid::Ellipsoid;
 use tuple::Shifted;
 use tuple::Tuple;
@@ -199,4 +204,65 @@ pub fn common(op: Motion, inverse: bool, v: Velocity, mark: u8, cart: Tuple) -> 
         tuple: Tuple::nan(),
         counted: false,
     }
+}
+
+// ----- A   B L O C K -----------------------------------------------------------------
+
+fn tally(n: usize, counted: bool) -> usize
+    requires { ⌜ n < 18446744073709551615 ⌝ }
+    ensures { λ r. ⌜ r ≡ n + cond counted 1 0 ⌝ }
+{
+    if counted { n + 1 } else { n }
+}
+
+// Sixteen tuples as columns, each shifted as `common` shifts it, and how many of them count.
+pub fn common_block(
+    op: Motion,
+    inverse: bool,
+    east: &[f64; WIDTH],
+    north: &[f64; WIDTH],
+    up: &[f64; WIDTH],
+    marks: &[u8; WIDTH],
+    x: &[f64; WIDTH],
+    y: &[f64; WIDTH],
+    z: &[f64; WIDTH],
+    t: &[f64; WIDTH],
+    ox: &mut [f64; WIDTH],
+    oy: &mut [f64; WIDTH],
+    oz: &mut [f64; WIDTH],
+    ot: &mut [f64; WIDTH],
+) -> usize
+    ensures { λ r. ⌜ Each (now (ox .exit)) (λ (j : ℕ). shiftedOf op inverse (now (east .entry)) (now (north .entry)) (now (up .entry)) (now (marks .entry)) (now (x .entry)) (now (y .entry)) (now (z .entry)) (now (t .entry)) j .tuple .x)
+        × Each (now (oy .exit)) (λ (j : ℕ). shiftedOf op inverse (now (east .entry)) (now (north .entry)) (now (up .entry)) (now (marks .entry)) (now (x .entry)) (now (y .entry)) (now (z .entry)) (now (t .entry)) j .tuple .y)
+        × Each (now (oz .exit)) (λ (j : ℕ). shiftedOf op inverse (now (east .entry)) (now (north .entry)) (now (up .entry)) (now (marks .entry)) (now (x .entry)) (now (y .entry)) (now (z .entry)) (now (t .entry)) j .tuple .z)
+        × Each (now (ot .exit)) (λ (j : ℕ). shiftedOf op inverse (now (east .entry)) (now (north .entry)) (now (up .entry)) (now (marks .entry)) (now (x .entry)) (now (y .entry)) (now (z .entry)) (now (t .entry)) j .tuple .t)
+        × (r ≡ countTo 16 (λ (j : ℕ). shiftedOf op inverse (now (east .entry)) (now (north .entry)) (now (up .entry)) (now (marks .entry)) (now (x .entry)) (now (y .entry)) (now (z .entry)) (now (t .entry)) j .counted)) ⌝ }
+{
+    *ox = [0.0; WIDTH];
+    *oy = [0.0; WIDTH];
+    *oz = [0.0; WIDTH];
+    *ot = [0.0; WIDTH];
+    let mut n = 0;
+    let mut i = 0;
+    while i < WIDTH {
+        let v = Velocity {
+            east: east[i],
+            north: north[i],
+            up: up[i],
+        };
+        let cart = Tuple {
+            x: x[i],
+            y: y[i],
+            z: z[i],
+            t: t[i],
+        };
+        let r = common(op, inverse, v, marks[i], cart);
+        ox[i] = r.tuple.x;
+        oy[i] = r.tuple.y;
+        oz[i] = r.tuple.z;
+        ot[i] = r.tuple.t;
+        n = tally(n, r.counted);
+        i += 1;
+    }
+    n
 }
