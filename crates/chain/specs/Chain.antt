@@ -11,7 +11,8 @@ use Rattle.bodies.specs.declared.Step.{Step}
 use Rattle.bodies.specs.declared.Step.the-variants.{Cart, Permtide, Deformation, Molodensky, Helmert}
 use Rattle.sheet.specs.declared.Entry.{Entry}
 use Rattle.lists.specs.Run.{Turns, ranOf, countOf}
-use Rattle.runs.specs.Turns.{noState, cartTurns, permtideTurns, molodenskyTurns, deformationTurns, helmertTurns}
+use Rattle.helmert_runs.specs.Turns.{noState, helmertTurns}
+use Rattle.runs.specs.Turns.{cartTurns, permtideTurns, molodenskyTurns, deformationTurns}
 
 -- ---- one step over a list
 

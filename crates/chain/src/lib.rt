@@ -64,7 +64,7 @@ fn run_step(
             return runs::run_molodensky(list, inv, r);
         }
         Step::Helmert(h) => {
-            return runs::run_helmert(list, inv, h);
+            return helmert_runs::run_helmert(list, inv, h);
         }
     }
 }

@@ -48,6 +48,11 @@ count-all f all k state (x ∷ y ∷ []) = refl
 count-all f all k state (x ∷ []) = refl
 count-all f all k state [] = refl
 
+-- which is a quarter of the numbers before the step, and after it
+pub counted-all : {S : Type 0} (f : Turns S) → ((k : ℕ) (state : S) (v : Tuple) → f k state v .counted ≡ true)
+    → (start : S) (l : List Float) {l′ : List Float} → l′ ≡ ranOf f 0 start l → length l′ / 4 ≡ countOf f 0 start l
+counted-all f all start l e = ap (λ (n : ℕ). n / 4) (ap length e ∙ ran-length f 0 start l) ∙ sym (count-all f all 0 start l)
+
 -- steps that make the same turn of every tuple make the same list and the same count
 pub ran-alike : {S : Type 0} (f g : Turns S) → ((k : ℕ) (state : S) (v : Tuple) → f k state v ≡ g k state v)
     → (k : ℕ) (state : S) (l : List Float) → ranOf f k state l ≡ ranOf g k state l
@@ -123,7 +128,7 @@ ran-start f start l = record { within = omega arith; long = refl; run = refl }
 pub count-start : {S : Type 0} (f : Turns S) (start : S) (l : List Float) → Counted f start l 0 start l 0
 count-start f start l = record { total = zero-add (countOf f 0 start l); few = omega arith }
 
-at-most-one : (b : Bool) → cond b 1 0 ≤ 1
+pub at-most-one : (b : Bool) → cond b 1 0 ≤ 1
 at-most-one true = omega arith
 at-most-one false = omega arith
 

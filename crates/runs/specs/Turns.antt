@@ -1,11 +1,10 @@
--- What each kind of step makes of one tuple of a list, forward or inverse. Each is made of the step's own definition; nothing is computed here.
+-- What each kind of step but Helmert makes of one tuple of a list, forward or inverse. Each is made of the step's own definition; nothing is computed here.
 use Prim.Native.Nat.{ℕ, _+_, _*_, _/_}
-use mathlib.Core.Bool.{Bool, true, cond}
+use mathlib.Core.Bool.{Bool, cond}
 use mathlib.Core.List.{List}
 use lib.Dec.{ltb}
 use lib.ListN.{getD, length}
 use lib.Ieee.{Float, nan}
-use Rattle.floats.specs.Binary64.{bits}
 use Rattle.tuple.specs.declared.Tuple.{Tuple}
 use Rattle.tuple.specs.declared.Shifted.{Shifted}
 use Rattle.ellipsoid.specs.Figure.{namedOf}
@@ -19,32 +18,15 @@ use Rattle.deformation.specs.declared.Deformation.{Deformation}
 use Rattle.deformation.specs.declared.Motion.{Motion}
 use Rattle.deformation.specs.declared.Velocity.{Velocity}
 use Rattle.deformation.specs.Step.{motionOf, commonOf as deformationOf}
-use Rattle.helmert.specs.declared.Helmert.{Helmert}
-use Rattle.helmert.specs.declared.Shift.{Shift}
 use Rattle.helmert.specs.declared.State.{State}
-use Rattle.helmert.specs.declared.Stepped.{Stepped}
-use Rattle.helmert.specs.Record.{zero3}
-use Rattle.helmert.specs.Modes.{prepareOf, stepOf}
 use Rattle.lists.specs.Run.{Turn, Turns}
-
--- ---- the state: Helmert's. A step that has no T carries (NaN, +0, +0, +0) and leaves it.
-
-abbrev pub noState : State
-noState = record { last = nan; t = zero3 }
+use Rattle.helmert_runs.specs.Turns.{allTurns}
 
 -- a step that sees the tuple alone, and says whether it counts
 abbrev pub plainTurns : (Tuple → Shifted) → Turns State
 plainTurns f k state v = record { state = state; tuple = f v .tuple; counted = f v .counted }
 
--- a step that sees the tuple alone, and counts every one
-abbrev pub allTurns : (Tuple → Tuple) → Turns State
-allTurns f k state v = record { state = state; tuple = f v; counted = true }
-
--- a step that hands its state on, and counts every tuple
-abbrev pub steppedTurns : (State → Tuple → Stepped) → Turns State
-steppedTurns f k state v = record { state = f state v .state; tuple = f state v .tuple; counted = true }
-
--- ---- the five kinds
+-- ---- the kinds but Helmert
 
 abbrev pub cartTurns : Bool → Cart → Turns State
 cartTurns inverse r =
@@ -75,6 +57,3 @@ movedTurns op inverse velocities marks k state v =
 
 abbrev pub deformationTurns : Bool → Deformation → List Float → List ℕ → Turns State
 deformationTurns inverse r velocities marks = movedTurns (motionOf r) inverse velocities marks
-
-abbrev pub helmertTurns : Bool → Shift → Turns State
-helmertTurns inverse shift = steppedTurns (stepOf shift inverse)

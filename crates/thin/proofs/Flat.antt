@@ -11,7 +11,8 @@ use Rattle.helmert.specs.Modes.{prepareOf, startOf}
 use Rattle.bodies.specs.declared.Step.the-variants.{Cart as cartStep, Helmert as helmertStep}
 use Rattle.sheet.specs.declared.Entry.{Entry}
 use Rattle.lists.specs.Run.{ranOf, countOf}
-use Rattle.runs.specs.Turns.{noState, cartTurns, helmertTurns}
+use Rattle.helmert_runs.specs.Turns.{noState, helmertTurns}
+use Rattle.runs.specs.Turns.{cartTurns}
 use Rattle.chain.specs.declared.Answer.{Answer}
 use Rattle.chain.specs.Chain.{turnedOf, turnsOf, stateOf, stepListOf, stepCountOf}
 use Rattle.chain.specs.Rules.{Outcome, outcome}
@@ -29,7 +30,7 @@ module _ (inverse : Bool) (velocities : List Float) (marks : List ℕ) (us : Lis
       let turns = turnsOf (turnedOf inverse e) velocities marks (e .step) in
       (flat-tuples turns 0 (stateOf (e .step)) us, flat-tally turns 0 (stateOf (e .step)) us)
 
-  -- ---- Helmert in every mode, with its carried state: `runs::run_helmert`'s list and count
+  -- ---- Helmert in every mode, with its carried state: `helmert_runs::run_helmert`'s list and count
 
   pub helmert-is-flat : (h : Helmert)
       → (flatOf (stepTuplesOf inverse velocities marks (helmertStep h) us) ≡ ranOf (helmertTurns inverse (prepareOf h)) 0 (startOf (prepareOf h)) (flatOf us))

@@ -14,7 +14,8 @@ use Rattle.helmert.specs.Modes.{prepareOf, startOf}
 use Rattle.bodies.specs.declared.Step.{Step}
 use Rattle.bodies.specs.declared.Step.the-variants.{Cart, Permtide, Deformation, Molodensky, Helmert}
 use Rattle.lists.specs.Run.{Turn, Turns}
-use Rattle.runs.specs.Turns.{noState, plainTurns, allTurns, movedTurns, helmertTurns}
+use Rattle.helmert_runs.specs.Turns.{noState, allTurns, helmertTurns}
+use Rattle.runs.specs.Turns.{plainTurns, movedTurns}
 use Rattle.thin.specs.declared.Plan.{Plan}
 use Rattle.thin.specs.declared.Plan.the-variants.{CartForward, CartInverse, PermtideForward, PermtideInverse, MolodenskyEither, DeformationEither, HelmertEither}
 use Rattle.thin.specs.declared.Carried.{Carried}

@@ -5,7 +5,8 @@ use lib.ListN.{length}
 use mathlib.Core.Path.{_≡_, ap}
 use Rattle.tuple.specs.declared.Shifted.{Shifted}
 use Rattle.cart.specs.Step.{cartFwdOf}
-use Rattle.runs.specs.Turns.{noState, plainTurns}
+use Rattle.helmert_runs.specs.Turns.{noState}
+use Rattle.runs.specs.Turns.{plainTurns}
 use Rattle.lists.proofs.Laws.{Ran, Counted, ran-start, ran-again, ran-end, count-start, count-again, count-end}
 use Rattle.runs.proofs.cart_forward.Statement.{statement}
 use Rattle.runs.proofs.cart_forward.Tie as tie

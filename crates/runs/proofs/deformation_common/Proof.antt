@@ -4,7 +4,8 @@ use borrow.Author.Needs.{needs}
 use lib.ListN.{length}
 use mathlib.Core.Path.{_≡_, ap}
 use Rattle.tuple.specs.declared.Shifted.{Shifted}
-use Rattle.runs.specs.Turns.{noState, movedTurns}
+use Rattle.helmert_runs.specs.Turns.{noState}
+use Rattle.runs.specs.Turns.{movedTurns}
 use Rattle.lists.proofs.Laws.{Ran, Counted, ran-start, ran-again, ran-end, count-start, count-again, count-end}
 use Rattle.runs.proofs.deformation_common.Statement.{statement}
 use Rattle.runs.proofs.deformation_common.Tie as tie

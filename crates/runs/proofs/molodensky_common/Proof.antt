@@ -4,7 +4,7 @@ use borrow.Author.Needs.{needs}
 use lib.ListN.{length}
 use Rattle.molodensky.specs.Step.{commonOf}
 use Rattle.lists.proofs.Laws.{Ran, ran-start, ran-again, ran-end}
-use Rattle.runs.specs.Turns.{noState, allTurns}
+use Rattle.helmert_runs.specs.Turns.{noState, allTurns}
 use Rattle.runs.proofs.molodensky_common.Statement.{statement}
 use Rattle.runs.proofs.molodensky_common.Tie as tie
 

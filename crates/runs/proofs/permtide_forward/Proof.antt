@@ -4,7 +4,7 @@ use borrow.Author.Needs.{needs}
 use lib.ListN.{length}
 use Rattle.permtide.specs.Step.{fwdOf}
 use Rattle.lists.proofs.Laws.{Ran, ran-start, ran-again, ran-end}
-use Rattle.runs.specs.Turns.{noState, allTurns}
+use Rattle.helmert_runs.specs.Turns.{noState, allTurns}
 use Rattle.runs.proofs.permtide_forward.Statement.{statement}
 use Rattle.runs.proofs.permtide_forward.Tie as tie
 

@@ -1,8 +1,8 @@
 -- `runs::run_permtide` meets its contract. Assumes nothing.
 use mathlib.Core.Path.{_≡_, refl, sym, _∙_}
 use Rattle.permtide.specs.Step.{tideOf, fwdOf, invOf}
-use Rattle.runs.specs.Turns.{noState, allTurns}
-use Rattle.runs.proofs.Laws.{counted-all}
+use Rattle.helmert_runs.specs.Turns.{noState, allTurns}
+use Rattle.lists.proofs.Laws.{counted-all}
 use borrow.Author.Needs.{needs}
 use Rattle.runs.proofs.run_permtide.Statement.{statement}
 use Rattle.runs.proofs.run_permtide.Tie as tie

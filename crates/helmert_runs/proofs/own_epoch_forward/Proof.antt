@@ -1,0 +1,64 @@
+-- `helmert_runs::own_epoch_forward` meets its contract. Assumes nothing.
+use Prim.Native.Nat.{_-_}
+use borrow.Author.Needs.{needs}
+use lib.ListN.{length}
+use mathlib.Core.Bool.{true, false}
+use Rattle.helmert.specs.Modes.{ownEpochStepOf}
+use Rattle.lists.proofs.Laws.{Ran, ran-start, ran-again, ran-end}
+use Rattle.helmert_runs.specs.Turns.{noState, allTurns}
+use Rattle.helmert_runs.proofs.own_epoch_forward.Statement.{statement}
+use Rattle.helmert_runs.proofs.own_epoch_forward.Tie as tie
+
+abbrev Inv-loop : tie.InvT-loop
+Inv-loop list₀ shift i₀ list i = Ran (allTurns (ownEpochStepOf shift false)) noState list₀ i noState list
+
+abbrev μ-loop : tie.MeasureT-loop
+μ-loop list₀ shift i₀ list i = length list₀ - i
+
+loop-holds : tie.Need-loop-holds Inv-loop μ-loop
+loop-holds c = ran-start _ _ _
+
+sub-loop : tie.Need-sub-loop Inv-loop μ-loop
+sub-loop c = search needs
+
+read4-requires : tie.Need-read4-requires Inv-loop μ-loop
+read4-requires c κs = search needs
+
+own-epoch-step-requires : tie.Need-own-epoch-step-requires Inv-loop μ-loop
+own-epoch-step-requires c κs = search needs
+
+write4-requires : tie.Need-write4-requires Inv-loop μ-loop
+write4-requires c κs = search needs
+
+add-i : tie.Need-add-i Inv-loop μ-loop
+add-i c = search needs
+
+loop-less : tie.Need-loop-less Inv-loop μ-loop
+loop-less c = search needs
+
+loop-again : tie.Need-loop-again Inv-loop μ-loop
+loop-again c =
+    ran-again (search needs) (rw (c .before .before .before .before .before .read4 .ensures) at (c .before .before .before .before .own-epoch-step .ensures)) (c .before .before .write4 .ensures) (c .before .before .before .before .before .before .before .before .loop .inv)
+
+same-length : tie.Need-same-length Inv-loop μ-loop
+same-length c = search needs
+
+returns : tie.Need-returns Inv-loop μ-loop
+returns c = ran-end (search needs) (c .before .loop .inv)
+
+pub own-epoch-forward-spec : {M : Type 1} → statement M
+own-epoch-forward-spec =
+    tie.close
+    (tie.spec
+    Inv-loop
+    μ-loop
+    loop-holds
+    sub-loop
+    read4-requires
+    own-epoch-step-requires
+    write4-requires
+    add-i
+    loop-less
+    loop-again
+    same-length
+    returns)

@@ -1,0 +1,19 @@
+-- `helmert_runs::own_time` meets its contract. Assumes nothing.
+use Rattle.helmert.specs.Modes.{ownTimeOf}
+use borrow.Author.Needs.{needs}
+use Rattle.helmert_runs.proofs.own_time.Statement.{statement}
+use Rattle.helmert_runs.proofs.own_time.Tie as tie
+
+is-nan-requires : tie.Need-is-nan-requires
+is-nan-requires c κs = search needs
+
+returns : tie.Need-returns
+unfolding ownTimeOf
+returns c = rw (← c .before .is-nan .ensures, c .if1 .taken)
+
+returns-2 : tie.Need-returns-2
+unfolding ownTimeOf
+returns-2 c = rw (← c .before .is-nan .ensures, c .if1 .left)
+
+pub own-time-spec : {M : Type 1} → statement M
+own-time-spec = tie.close (tie.spec is-nan-requires returns returns-2)

@@ -1,0 +1,33 @@
+-- `helmert_runs::run_own_epoch_other` meets its contract. Assumes nothing.
+use borrow.Author.Needs.{needs}
+use Rattle.helmert_runs.proofs.run_own_epoch_other.Statement.{statement}
+use Rattle.helmert_runs.proofs.run_own_epoch_other.Tie as tie
+
+own-epoch-inverse-requires : tie.Need-own-epoch-inverse-requires
+own-epoch-inverse-requires c κs = search needs
+
+own-epoch-forward-requires : tie.Need-own-epoch-forward-requires
+own-epoch-forward-requires c κs = search needs
+
+same-length : tie.Need-same-length
+same-length c = search needs
+
+returns : tie.Need-returns
+returns c = rw (c .before .before .before .before .if1 .taken) (c .before .before .own-epoch-inverse .ensures)
+
+same-length-2 : tie.Need-same-length-2
+same-length-2 c = search needs
+
+returns-2 : tie.Need-returns-2
+returns-2 c = rw (c .before .before .before .before .if1 .left) (c .before .before .own-epoch-forward .ensures)
+
+pub run-own-epoch-other-spec : {M : Type 1} → statement M
+run-own-epoch-other-spec =
+    tie.close
+    (tie.spec
+    own-epoch-inverse-requires
+    own-epoch-forward-requires
+    same-length
+    returns
+    same-length-2
+    returns-2)
