@@ -2,7 +2,7 @@
 use Prim.Native.Nat.{ℕ, _+_, _-_, _%_}
 use mathlib.Core.Bool.{cond}
 use mathlib.Core.List.{List, [], _∷_}
-use lib.Dec.{leb}
+use lib.Dec.{leb, ltb}
 use lib.ListN.{getD}
 use lib.Ieee.{Float, neg}
 use Rattle.floats.specs.Binary64.{bits}
@@ -64,3 +64,13 @@ rowAt i = record { 0 = sineAt i .high; 1 = sineAt i .low; 2 = cosineAt i .high; 
 -- The row of any step k: steps k and k + 64 are the same.
 unfoldable pub rowOf : ℕ → Row
 rowOf k = rowAt (k % 64)
+
+-- ---- the same row from the first half of the circle
+
+-- how far step i, below 64, is from 0, either way round
+unfoldable pub asideOf : ℕ → ℕ
+asideOf i = cond (ltb i 32) i (64 - i)
+
+-- the rows 0 to 32, and the last of them past it
+unfoldable pub halfOf : ℕ → Row
+halfOf d = rowAt (cond (ltb d 32) d 32)

@@ -9,13 +9,14 @@
 // exactly where the angle is NaN or beyond ±1024. Measured: within 0.59·2^-53 for |x| up to 8, and within 1.35 units in the last place for every
 // angle in reach. Every step of a shift that meets a latitude or an exact rotation uses the pair.
 ghost use mathlib.Core.Path.{_≡_};
-ghost use Prim.Native.Nat.{ℕ};
-ghost use Rattle.blocks.specs.Each.{at, Each};
-ghost use Rattle.trig.specs.Table.{rowOf};
-ghost use Rattle.trig.specs.Trig.{reducedOf, bendOf, atMostOne, clampOf, sumOf, pairOf, signedOf, sinOf, cosOf, sinCosOf};
+ghost use Prim.Native.Nat.{ℕ, _%_};
+ghost use Rattle.blocks.specs.Each.{at, wholeAt, Each, EachWhole};
+ghost use Rattle.trig.specs.Table.{rowOf, asideOf, halfOf};
+ghost use Rattle.trig.specs.Trig.{reducedOf, bendOf, atMostOne, clampOf, sumOf, pairOf, sinOf, cosOf, sinCosOf};
+ghost use Rattle.trig.specs.Block.{stepOf, restOf, bendsOf, turnedOf, sinFrom, cosFrom, bothFrom};
 use blocks::WIDTH;
 use floats::abs;
-use floats::negative;
+use floats::of_bits;
 use floats::to_bits;
 
 pub struct SinCos {
@@ -59,21 +60,141 @@ pub fn cos(x: f64) -> f64
 pub fn sin_cos_block(x: &[f64; WIDTH], s: &mut [f64; WIDTH], c: &mut [f64; WIDTH])
     ensures { λ _. ⌜ Each (now (s .exit)) (λ (j : ℕ). sinOf (at (now (x .entry)) j)) × Each (now (c .exit)) (λ (j : ℕ). cosOf (at (now (x .entry)) j)) ⌝ }
 {
-    *s = [0.0; WIDTH];
-    *c = [0.0; WIDTH];
+    let mut step: [u64; WIDTH] = [0; WIDTH];
+    let mut rest: [f64; WIDTH] = [0.0; WIDTH];
+    let mut bs: [f64; WIDTH] = [0.0; WIDTH];
+    let mut bc: [f64; WIDTH] = [0.0; WIDTH];
+    let mut sh: [f64; WIDTH] = [0.0; WIDTH];
+    let mut sl: [f64; WIDTH] = [0.0; WIDTH];
+    let mut ch: [f64; WIDTH] = [0.0; WIDTH];
+    let mut cl: [f64; WIDTH] = [0.0; WIDTH];
+    smalls(x, &mut step, &mut rest, &mut bs, &mut bc);
+    rows(&step, &mut sh, &mut sl, &mut ch, &mut cl);
+    sums(x, &rest, &bs, &bc, &sh, &sl, &ch, &cl, s, c);
+}
+
+// What is arithmetic alone in the magnitudes of a block: step, rest and the two bends of each.
+fn smalls(
+    x: &[f64; WIDTH],
+    step: &mut [u64; WIDTH],
+    rest: &mut [f64; WIDTH],
+    bs: &mut [f64; WIDTH],
+    bc: &mut [f64; WIDTH],
+)
+    ensures { λ _. ⌜ EachWhole (now (step .exit)) (λ (j : ℕ). stepOf (at (now (x .entry)) j)) × Each (now (rest .exit)) (λ (j : ℕ). restOf (at (now (x .entry)) j)) × Each (now (bs .exit)) (λ (j : ℕ). bendsOf (at (now (x .entry)) j) .sine) × Each (now (bc .exit)) (λ (j : ℕ). bendsOf (at (now (x .entry)) j) .cosine) ⌝ }
+{
+    *step = [0; WIDTH];
+    *rest = [0.0; WIDTH];
+    *bs = [0.0; WIDTH];
+    *bc = [0.0; WIDTH];
     let mut i = 0;
     while i < WIDTH {
-        s[i] = sin(x[i]);
-        c[i] = cos(x[i]);
+        let g = reduce(abs(x[i]));
+        let b = bend(g.rest, g.tail);
+        step[i] = g.step;
+        rest[i] = g.rest;
+        bs[i] = b.sine;
+        bc[i] = b.cosine;
         i += 1;
     }
 }
 
-// s, turned where x is negative: the sine is odd
-fn signed(s: f64, x: f64) -> f64
-    ensures { λ r. ⌜ r ≡ signedOf s x ⌝ }
+// The table's rows for a block of steps: the loop that is not turned into vector instructions has nothing else to do.
+fn rows(
+    step: &[u64; WIDTH],
+    sh: &mut [f64; WIDTH],
+    sl: &mut [f64; WIDTH],
+    ch: &mut [f64; WIDTH],
+    cl: &mut [f64; WIDTH],
+)
+    ensures { λ _. ⌜ Each (now (sh .exit)) (λ (j : ℕ). rowOf (wholeAt (now (step .entry)) j) .0) × Each (now (sl .exit)) (λ (j : ℕ). rowOf (wholeAt (now (step .entry)) j) .1) × Each (now (ch .exit)) (λ (j : ℕ). rowOf (wholeAt (now (step .entry)) j) .2) × Each (now (cl .exit)) (λ (j : ℕ). rowOf (wholeAt (now (step .entry)) j) .3) ⌝ }
 {
-    if negative(x) { -s } else { s }
+    *sh = [0.0; WIDTH];
+    *sl = [0.0; WIDTH];
+    *ch = [0.0; WIDTH];
+    *cl = [0.0; WIDTH];
+    let mut i = 0;
+    while i < WIDTH {
+        let w = look_up(step[i]);
+        sh[i] = w.0;
+        sl[i] = w.1;
+        ch[i] = w.2;
+        cl[i] = w.3;
+        i += 1;
+    }
+}
+
+// The sums of a block, from what the two loops before have laid down.
+fn sums(
+    x: &[f64; WIDTH],
+    rest: &[f64; WIDTH],
+    bs: &[f64; WIDTH],
+    bc: &[f64; WIDTH],
+    sh: &[f64; WIDTH],
+    sl: &[f64; WIDTH],
+    ch: &[f64; WIDTH],
+    cl: &[f64; WIDTH],
+    s: &mut [f64; WIDTH],
+    c: &mut [f64; WIDTH],
+)
+    ensures { λ _. ⌜ Each (now (s .exit)) (λ (j : ℕ). bothFrom (at (now (x .entry)) j) (at (now (rest .entry)) j) (record { sine = at (now (bs .entry)) j; cosine = at (now (bc .entry)) j }) (record { 0 = at (now (sh .entry)) j; 1 = at (now (sl .entry)) j; 2 = at (now (ch .entry)) j; 3 = at (now (cl .entry)) j }) .s) × Each (now (c .exit)) (λ (j : ℕ). bothFrom (at (now (x .entry)) j) (at (now (rest .entry)) j) (record { sine = at (now (bs .entry)) j; cosine = at (now (bc .entry)) j }) (record { 0 = at (now (sh .entry)) j; 1 = at (now (sl .entry)) j; 2 = at (now (ch .entry)) j; 3 = at (now (cl .entry)) j }) .c) ⌝ }
+{
+    *s = [0.0; WIDTH];
+    *c = [0.0; WIDTH];
+    let mut i = 0;
+    while i < WIDTH {
+        let q = both(x[i], rest[i], bs[i], bc[i], sh[i], sl[i], ch[i], cl[i]);
+        s[i] = q.s;
+        c[i] = q.c;
+        i += 1;
+    }
+}
+
+// One sine and cosine of a block. Each `if` chooses between two numbers that are there already, which is no branch.
+fn both(x: f64, r: f64, bs: f64, bc: f64, sh: f64, sl: f64, ch: f64, cl: f64) -> SinCos
+    ensures { λ q. ⌜ q ≡ bothFrom x r (record { sine = bs; cosine = bc }) (record { 0 = sh; 1 = sl; 2 = ch; 3 = cl }) ⌝ }
+{
+    let b = Bends {
+        sine: bs,
+        cosine: bc,
+    };
+    let s = sum(sh, sl, ch, r, b);
+    let c = sum(ch, cl, -sh, r, b);
+    SinCos {
+        s: sine_from(x, s),
+        c: cosine_from(x, c),
+    }
+}
+
+// the sine of x, where s is that of a magnitude in reach
+fn sine_from(x: f64, s: f64) -> f64
+    ensures { λ r. ⌜ r ≡ sinFrom x s ⌝ }
+{
+    if x == 0.0 {
+        return x;
+    }
+    if abs(x) <= 1024.0 {
+        signed(s, x)
+    } else {
+        0.0 / 0.0
+    }
+}
+
+// the cosine of x, where c is that of a magnitude in reach
+fn cosine_from(x: f64, c: f64) -> f64
+    ensures { λ r. ⌜ r ≡ cosFrom x c ⌝ }
+{
+    if x == 0.0 {
+        return 1.0;
+    }
+    if abs(x) <= 1024.0 { c } else { 0.0 / 0.0 }
+}
+
+// s, turned where x is below zero: the sine is odd. Of a number that is not zero this is its sign, and costs no branch.
+fn signed(s: f64, x: f64) -> f64
+    ensures { λ r. ⌜ r ≡ turnedOf s x ⌝ }
+{
+    if x < 0.0 { -s } else { s }
 }
 
 // Sine and cosine of a magnitude in reach. The slope of the sine is the cosine, that of the cosine the sine turned.
@@ -177,11 +298,30 @@ fn sum(high: f64, low: f64, slope: f64, r: f64, b: Bends) -> f64
 // Sine and cosine of a step of the circle, each as the number nearest to it and what that leaves: sine, its rest, cosine, its rest.
 struct Row(f64, f64, f64, f64);
 
-// The row of a step. One `match` with constants becomes a table in read-only memory, where an array would be built anew at each call.
+// The row of a step: that of the step as far from 0 on the first half of the circle, the sine turned on the second half.
 fn look_up(k: u64) -> Row
     ensures { λ r. ⌜ r ≡ rowOf k ⌝ }
 {
-    match k % 64 {
+    let w = half(aside(k));
+    // 1, and -1 past the half
+    let turn = of_bits(0x3ff0_0000_0000_0000 + (k % 64 + 31) / 64 * 0x8000_0000_0000_0000);
+    Row(turn * w.0, turn * w.1, w.2, w.3)
+}
+
+// How far a step is from 0, either way round.
+fn aside(k: u64) -> u64
+    ensures { λ r. ⌜ r ≡ asideOf (k % 64) ⌝ }
+{
+    let i = k % 64;
+    if i < 32 { i } else { 64 - i }
+}
+
+// The rows of the first half, 0 to 32. One `match` with constants becomes a table in read-only memory, where an array would be built anew at each call; with an arm for each of the 64 steps
+// it would count as too large to be put in the place of more than one call.
+fn half(d: u64) -> Row
+    ensures { λ r. ⌜ r ≡ halfOf d ⌝ }
+{
+    match d {
         0 => Row(0.0, 0.0, 1.0, 0.0),
         1 => Row(H1, L1, H15, L15),
         2 => Row(H2, L2, H14, L14),
@@ -214,38 +354,7 @@ fn look_up(k: u64) -> Row
         29 => Row(H3, L3, -H13, -L13),
         30 => Row(H2, L2, -H14, -L14),
         31 => Row(H1, L1, -H15, -L15),
-        32 => Row(0.0, 0.0, -1.0, -0.0),
-        33 => Row(-H1, -L1, -H15, -L15),
-        34 => Row(-H2, -L2, -H14, -L14),
-        35 => Row(-H3, -L3, -H13, -L13),
-        36 => Row(-H4, -L4, -H12, -L12),
-        37 => Row(-H5, -L5, -H11, -L11),
-        38 => Row(-H6, -L6, -H10, -L10),
-        39 => Row(-H7, -L7, -H9, -L9),
-        40 => Row(-H8, -L8, -H8, -L8),
-        41 => Row(-H9, -L9, -H7, -L7),
-        42 => Row(-H10, -L10, -H6, -L6),
-        43 => Row(-H11, -L11, -H5, -L5),
-        44 => Row(-H12, -L12, -H4, -L4),
-        45 => Row(-H13, -L13, -H3, -L3),
-        46 => Row(-H14, -L14, -H2, -L2),
-        47 => Row(-H15, -L15, -H1, -L1),
-        48 => Row(-1.0, -0.0, 0.0, 0.0),
-        49 => Row(-H15, -L15, H1, L1),
-        50 => Row(-H14, -L14, H2, L2),
-        51 => Row(-H13, -L13, H3, L3),
-        52 => Row(-H12, -L12, H4, L4),
-        53 => Row(-H11, -L11, H5, L5),
-        54 => Row(-H10, -L10, H6, L6),
-        55 => Row(-H9, -L9, H7, L7),
-        56 => Row(-H8, -L8, H8, L8),
-        57 => Row(-H7, -L7, H9, L9),
-        58 => Row(-H6, -L6, H10, L10),
-        59 => Row(-H5, -L5, H11, L11),
-        60 => Row(-H4, -L4, H12, L12),
-        61 => Row(-H3, -L3, H13, L13),
-        62 => Row(-H2, -L2, H14, L14),
-        _ => Row(-H1, -L1, H15, L15),
+        _ => Row(0.0, 0.0, -1.0, -0.0),
     }
 }
 

@@ -1,7 +1,9 @@
--- `trig::sin_cos` meets its contract. Assumes nothing.
+-- `trig::sin_cos` meets its contract: of a number that is not zero, being below zero tells the sign. Assumes nothing.
 use borrow.Author.Needs.{needs}
-use Rattle.trig.specs.Trig.{sinOf, cosOf}
+use Rattle.trig.specs.Trig.{signedOf, sinOf, cosOf}
+use Rattle.trig.specs.Block.{turnedOf}
 use Rattle.floats.proofs.Nan.{zero-over-zero}
+use Rattle.floats.proofs.Zero.{sign-of-other}
 use Rattle.trig.proofs.sin_cos.Statement.{statement}
 use Rattle.trig.proofs.sin_cos.Tie as tie
 
@@ -19,8 +21,10 @@ signed-requires : tie.Need-signed-requires
 signed-requires c κs = search needs
 
 returns-2 : tie.Need-returns-2
-unfolding sinOf cosOf
-returns-2 c = rw (c .signed .ensures, c .before .pair .ensures, c .before .before .before .before .if1 .left, ← c .before .before .before .abs .ensures, c .before .before .if2 .taken)
+unfolding sinOf cosOf signedOf turnedOf
+returns-2 c =
+    let nonzero = c .before .before .before .before .if1 .left in
+    rw (c .signed .ensures, c .before .pair .ensures, sign-of-other _ nonzero, nonzero, ← c .before .before .before .abs .ensures, c .before .before .if2 .taken)
 
 returns-3 : tie.Need-returns-3
 unfolding sinOf cosOf

@@ -1,0 +1,131 @@
+-- `trig::sums` meets its contract. Assumes nothing.
+use Prim.Native.Nat.{ℕ, _-_}
+use borrow.Author.Needs.{needs}
+use mathlib.Core.Path.{refl, ap}
+use Rattle.blocks.specs.Each.{at, UpTo}
+use Rattle.blocks.proofs.Laws.{none-filled, one-more, all-filled}
+use Rattle.trig.specs.declared.SinCos.{SinCos}
+use Rattle.trig.specs.Block.{bothFrom}
+use Rattle.trig.proofs.sums.Statement.{statement}
+use Rattle.trig.proofs.sums.Tie as tie
+
+abbrev Inv-loop : tie.InvT-loop
+Inv-loop x rest bs bc sh sl ch cl s₀ c₀ i₀ s c i =
+    UpTo i s (λ (j : ℕ). bothFrom (at x j) (at rest j) (record { sine = at bs j; cosine = at bc j }) (record { 0 = at sh j; 1 = at sl j; 2 = at ch j; 3 = at cl j }) .s)
+    × UpTo i c (λ (j : ℕ). bothFrom (at x j) (at rest j) (record { sine = at bs j; cosine = at bc j }) (record { 0 = at sh j; 1 = at sl j; 2 = at ch j; 3 = at cl j }) .c)
+
+abbrev μ-loop : tie.MeasureT-loop
+μ-loop x rest bs bc sh sl ch cl s₀ c₀ i₀ s c i = 16 - i
+
+loop-holds : tie.Need-loop-holds Inv-loop μ-loop
+loop-holds c = (none-filled refl, none-filled refl)
+
+mul-both : tie.Need-mul-both Inv-loop μ-loop
+mul-both c = search needs
+
+element-copy-out-both : tie.Need-element-copy-out-both Inv-loop μ-loop
+element-copy-out-both c = search needs
+
+mul-both-2 : tie.Need-mul-both-2 Inv-loop μ-loop
+mul-both-2 c = search needs
+
+element-copy-out-both-2 : tie.Need-element-copy-out-both-2 Inv-loop μ-loop
+element-copy-out-both-2 c = search needs
+
+mul-both-3 : tie.Need-mul-both-3 Inv-loop μ-loop
+mul-both-3 c = search needs
+
+element-copy-out-both-3 : tie.Need-element-copy-out-both-3 Inv-loop μ-loop
+element-copy-out-both-3 c = search needs
+
+mul-both-4 : tie.Need-mul-both-4 Inv-loop μ-loop
+mul-both-4 c = search needs
+
+element-copy-out-both-4 : tie.Need-element-copy-out-both-4 Inv-loop μ-loop
+element-copy-out-both-4 c = search needs
+
+mul-both-5 : tie.Need-mul-both-5 Inv-loop μ-loop
+mul-both-5 c = search needs
+
+element-copy-out-both-5 : tie.Need-element-copy-out-both-5 Inv-loop μ-loop
+element-copy-out-both-5 c = search needs
+
+mul-both-6 : tie.Need-mul-both-6 Inv-loop μ-loop
+mul-both-6 c = search needs
+
+element-copy-out-both-6 : tie.Need-element-copy-out-both-6 Inv-loop μ-loop
+element-copy-out-both-6 c = search needs
+
+mul-both-7 : tie.Need-mul-both-7 Inv-loop μ-loop
+mul-both-7 c = search needs
+
+element-copy-out-both-7 : tie.Need-element-copy-out-both-7 Inv-loop μ-loop
+element-copy-out-both-7 c = search needs
+
+mul-both-8 : tie.Need-mul-both-8 Inv-loop μ-loop
+mul-both-8 c = search needs
+
+element-copy-out-both-8 : tie.Need-element-copy-out-both-8 Inv-loop μ-loop
+element-copy-out-both-8 c = search needs
+
+both-requires : tie.Need-both-requires Inv-loop μ-loop
+both-requires c κs = search needs
+
+mul-s : tie.Need-mul-s Inv-loop μ-loop
+mul-s c = search needs
+
+element-write-s : tie.Need-element-write-s Inv-loop μ-loop
+element-write-s c = search needs
+
+mul-c : tie.Need-mul-c Inv-loop μ-loop
+mul-c c = search needs
+
+element-write-c : tie.Need-element-write-c Inv-loop μ-loop
+element-write-c c = search needs
+
+add-i : tie.Need-add-i Inv-loop μ-loop
+add-i c = search needs
+
+loop-less : tie.Need-loop-less Inv-loop μ-loop
+loop-less c = search needs
+
+loop-again : tie.Need-loop-again Inv-loop μ-loop
+loop-again c =
+    let l = c .before .before .before .before .before .before .before .before .before .before .loop in
+    (one-more (search needs) (ap (λ (q : SinCos). q .s) (c .both .ensures)) (l .inv .0), one-more (search needs) (ap (λ (q : SinCos). q .c) (c .both .ensures)) (l .inv .1))
+
+returns : tie.Need-returns Inv-loop μ-loop
+returns c = (all-filled (search needs) (c .before .loop .inv .0), all-filled (search needs) (c .before .loop .inv .1))
+
+pub sums-spec : {M : Type 1} → statement M
+sums-spec =
+    tie.close
+    (tie.spec
+    Inv-loop
+    μ-loop
+    loop-holds
+    mul-both
+    element-copy-out-both
+    mul-both-2
+    element-copy-out-both-2
+    mul-both-3
+    element-copy-out-both-3
+    mul-both-4
+    element-copy-out-both-4
+    mul-both-5
+    element-copy-out-both-5
+    mul-both-6
+    element-copy-out-both-6
+    mul-both-7
+    element-copy-out-both-7
+    mul-both-8
+    element-copy-out-both-8
+    both-requires
+    mul-s
+    element-write-s
+    mul-c
+    element-write-c
+    add-i
+    loop-less
+    loop-again
+    returns)
