@@ -30,17 +30,17 @@ abbrev pub placed : Tuple → Point
 placed v = record { x = v .x; y = v .y; z = v .z }
 
 module _ (e : Ellipsoid) (v : Tuple) where
-  pub points : {rootw w sinphi cosphi sinlam coslam : Float} → rootw ≡ sqrtOf w → w ≡ wOf e sinphi → sinphi ≡ sinOf (v .y) → cosphi ≡ cosOf (v .y) → sinlam ≡ sinOf (v .x) → coslam ≡ cosOf (v .x) → pointOf e rootw (v .z) sinphi cosphi sinlam coslam ≡ placed (cartesianOf e v)
+  pub point-is : {rootw w sinphi cosphi sinlam coslam : Float} → rootw ≡ sqrtOf w → w ≡ wOf e sinphi → sinphi ≡ sinOf (v .y) → cosphi ≡ cosOf (v .y) → sinlam ≡ sinOf (v .x) → coslam ≡ cosOf (v .x) → pointOf e rootw (v .z) sinphi cosphi sinlam coslam ≡ placed (cartesianOf e v)
   unfolding pointOf cartesianOf primeVerticalOf
-  points root radicand sine cosine sine′ cosine′ = rw (root, radicand, sine, cosine, sine′, cosine′)
+  point-is root radicand sine cosine sine′ cosine′ = rw (root, radicand, sine, cosine, sine′, cosine′)
 
-  pub longitudes : {lam : Float} → lam ≡ atan2Of (v .y) (v .x) → lam ≡ geographicOf e v .x
+  pub longitude-is : {lam : Float} → lam ≡ atan2Of (v .y) (v .x) → lam ≡ geographicOf e v .x
   unfolding geographicOf
-  longitudes h = h ∙ sym (either-way (lt (hypotOf (v .x) (v .y)) cutoff) _) ∙ sym (through (λ (r : Tuple). r .x) (lt (hypotOf (v .x) (v .y)) cutoff) _ _)
+  longitude-is h = h ∙ sym (either-way (lt (hypotOf (v .x) (v .y)) cutoff) _) ∙ sym (through (λ (r : Tuple). r .x) (lt (hypotOf (v .x) (v .y)) cutoff) _ _)
 
-  pub latitudes : {p num denom phi : Float} → p ≡ hypotOf (v .x) (v .y) → num ≡ bowringOf e p (v .z) .num → denom ≡ bowringOf e p (v .z) .denom → phi ≡ atan2Of num denom → latitudeOf cutoff p (v .z) phi ≡ geographicOf e v .y
+  pub latitude-is : {p num denom phi : Float} → p ≡ hypotOf (v .x) (v .y) → num ≡ bowringOf e p (v .z) .num → denom ≡ bowringOf e p (v .z) .denom → phi ≡ atan2Of num denom → latitudeOf cutoff p (v .z) phi ≡ geographicOf e v .y
   unfolding geographicOf
-  latitudes length above from angle = rw (angle, above, from, length) (sym (through (λ (r : Tuple). r .y) (lt (hypotOf (v .x) (v .y)) cutoff) _ _))
+  latitude-is length above from angle = rw (angle, above, from, length) (sym (through (λ (r : Tuple). r .y) (lt (hypotOf (v .x) (v .y)) cutoff) _ _))
 
 pub legs-are : (e : Ellipsoid) (p Z : Float) {T u root : Float} → T ≡ tangentOf e p Z → u ≡ one ⊕ tangentOf e p Z ⊗ tangentOf e p Z → root ≡ sqrtOf u → legsOf e p Z T root ≡ bowringOf e p Z
 unfolding legsOf bowringOf tangentOf

@@ -2,7 +2,7 @@
 use mathlib.Core.Path.{ap}
 use Rattle.blocks.proofs.Laws.{told}
 use Rattle.geocart.specs.declared.Point.{Point}
-use Rattle.geocart.proofs.Parts.{points}
+use Rattle.geocart.proofs.Parts.{point-is}
 use borrow.Author.Needs.{needs}
 use borrow.Author.Needs.{needs}
 use Rattle.geocart.proofs.cartesian_block.Statement.{statement}
@@ -30,9 +30,9 @@ returns c =
     let w = c .before .before .before .before .before .before .before .before .before .before .before .before .w-block .ensures in
     let root = c .before .before .before .before .before .before .before .before .before .sqrt-block .ensures in
     let point = c .point-block .ensures in (
-      told (λ j k. ap (λ (q : Point). q .x) (points _ _ (root .held j k) (w .held j k) (phi .0 .held j k) (phi .1 .held j k) (lam .0 .held j k) (lam .1 .held j k))) (point .0),
-      told (λ j k. ap (λ (q : Point). q .y) (points _ _ (root .held j k) (w .held j k) (phi .0 .held j k) (phi .1 .held j k) (lam .0 .held j k) (lam .1 .held j k))) (point .1),
-      told (λ j k. ap (λ (q : Point). q .z) (points _ _ (root .held j k) (w .held j k) (phi .0 .held j k) (phi .1 .held j k) (lam .0 .held j k) (lam .1 .held j k))) (point .2),
+      told (λ j k. ap (λ (q : Point). q .x) (point-is _ _ (root .held j k) (w .held j k) (phi .0 .held j k) (phi .1 .held j k) (lam .0 .held j k) (lam .1 .held j k))) (point .0),
+      told (λ j k. ap (λ (q : Point). q .y) (point-is _ _ (root .held j k) (w .held j k) (phi .0 .held j k) (phi .1 .held j k) (lam .0 .held j k) (lam .1 .held j k))) (point .1),
+      told (λ j k. ap (λ (q : Point). q .z) (point-is _ _ (root .held j k) (w .held j k) (phi .0 .held j k) (phi .1 .held j k) (lam .0 .held j k) (lam .1 .held j k))) (point .2),
     )
 
 pub cartesian-block-spec : {M : Type 1} → statement M

@@ -1,6 +1,6 @@
 -- `geocart::place_block` meets its contract. Assumes nothing.
 use Rattle.blocks.proofs.Laws.{told}
-use Rattle.geocart.proofs.Parts.{longitudes, latitudes}
+use Rattle.geocart.proofs.Parts.{longitude-is, latitude-is}
 use borrow.Author.Needs.{needs}
 use borrow.Author.Needs.{needs}
 use Rattle.geocart.proofs.place_block.Statement.{statement}
@@ -27,8 +27,8 @@ returns c =
     let length = c .before .before .before .before .before .before .before .before .before .before .before .before .hypot-block .ensures in
     let legs = c .before .before .before .before .before .before .before .before .bowring-block .ensures in
     let angle = c .before .before .before .before .atan2-block2 .ensures in (
-      record { block = lam .block; held = λ j k. longitudes _ _ (lam .held j k) },
-      told (λ j k. latitudes _ _ (length .held j k) (legs .0 .held j k) (legs .1 .held j k) (angle .held j k)) (c .latitude-block .ensures),
+      record { block = lam .block; held = λ j k. longitude-is _ _ (lam .held j k) },
+      told (λ j k. latitude-is _ _ (length .held j k) (legs .0 .held j k) (legs .1 .held j k) (angle .held j k)) (c .latitude-block .ensures),
     )
 
 pub place-block-spec : {M : Type 1} → statement M
