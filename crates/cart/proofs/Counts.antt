@@ -1,5 +1,5 @@
 -- A loop that counts the places of a block: the start, a turn, the end. Assumes nothing.
-use Prim.Native.Nat.{ℕ, _+_, _<_, _≤_}
+use Prim.Native.Nat.{ℕ, zero, suc, _+_, _<_, _≤_}
 use native.Mathlib.Nat.{le-refl, le-antisymm}
 use native.Mathlib.Numerals.{add-one}
 use native.Mathlib.Omega.{arith}
@@ -35,3 +35,10 @@ one-counted {i} {n} {v} {f} room value before =
 -- at the end every place is
 pub all-counted : {i n : ℕ} {f : ℕ → Bool} → 16 ≤ i → Counted i f n → n ≡ countTo 16 f
 all-counted {i} {n} {f} h u = u .count ∙ ap (λ (m : ℕ). countTo m f) (le-antisymm (u .block) h)
+
+-- properties that agree at each place are counted alike
+pub count-told : (n : ℕ) {f g : ℕ → Bool} → ((j : ℕ) → j < n → f j ≡ g j) → countTo n f ≡ countTo n g
+count-told zero h = refl
+count-told (suc n) {f} {g} h =
+    ap (λ (m : ℕ). m + cond (f n) 1 0) (count-told n (λ j k. h j (omega arith)))
+    ∙ ap (λ (b : Bool). countTo n g + cond b 1 0) (h n (le-refl (suc n)))
