@@ -3,7 +3,7 @@
 use Prim.Native.Nat.{ℕ, suc, _+_, _-_, _/_, _≤_, _<_}
 use native.Mathlib.Omega.{arith}
 use native.Mathlib.Nat.{add-assoc, add-zero, zero-add}
-use mathlib.Core.Path.{_≡_, refl, sym, ap, _∙_}
+use mathlib.Core.Path.{_≡_, refl, sym, ap, _∙_, subst}
 use mathlib.Core.Bool.{Bool, true, false, cond}
 use mathlib.Core.List.{List, [], _∷_, _++_, append-assoc}
 use lib.ListN.{length, take, drop, length-drop, take-append-drop}
@@ -162,3 +162,41 @@ module _ {S : Type 0} {f : Turns S} {start state : S} {l₀ l : List Float} {i :
   count-end {n} now =
       let short : length (drop i l) < 4 = simp length-drop h in
       rw (count-short f (i / 4) state (drop i l) short, add-zero n) at (now .total)
+
+-- ---- a loop that goes on where another ended, by a step that leaves the state alone
+
+-- from a place of a list to a later one: the invariant goes along
+pub record Onward {S : Type 0} (f : Turns S) (state : S) (l₁ : List Float) (i₁ : ℕ) (l : List Float) (i : ℕ) : Type 0 where
+  pub within : i ≤ length l
+  pub long : length l ≡ length l₁
+  pub ran : (l₀ : List Float) → Ran f state l₀ i₁ state l₁ → Ran f state l₀ i state l
+
+-- and the same of the count
+pub record CountedOnward {S : Type 0} (f : Turns S) (state : S) (l₁ : List Float) (i₁ n₁ : ℕ) (l : List Float) (i n : ℕ) : Type 0 where
+  pub few : n ≤ i
+  pub counted : (l₀ : List Float) → Counted f state l₀ i₁ state l₁ n₁ → Counted f state l₀ i state l n
+
+pub onward-start : {S : Type 0} {f : Turns S} {state : S} {l : List Float} {i : ℕ} → i ≤ length l → Onward f state l i l i
+onward-start h = record { within = h; long = refl; ran = λ l₀ now. now }
+
+pub count-onward-start : {S : Type 0} {f : Turns S} {state : S} {l : List Float} {i n : ℕ} → n ≤ i → CountedOnward f state l i n l i n
+count-onward-start h = record { few = h; counted = λ l₀ now. now }
+
+module _ {S : Type 0} {f : Turns S} {state : S} {l₁ l : List Float} {i₁ i : ℕ} (steady : (k : ℕ) (v : Tuple) → f k state v .state ≡ state) (h : i + 4 ≤ length l) where
+  pub onward-again : {v : Tuple} {l′ : List Float} → v ≡ turnAt f state l i .tuple → l′ ≡ putAt l i v → Onward f state l₁ i₁ l i → Onward f state l₁ i₁ l′ (i + 4)
+  onward-again {v} {l′} ev el now =
+      let n : length l′ ≡ length l = ap length el ∙ put-length l i v h in
+      record {
+        within = rw n h;
+        long = n ∙ now .long;
+        ran = λ l₀ before. subst (λ (s : S). Ran f state l₀ (i + 4) s l′) (steady (i / 4) (tupleAt l i)) (ran-again h ev el (now .ran l₀ before));
+      }
+
+  pub count-onward-again : {v : Tuple} {l′ : List Float} {counted : Bool} {n₁ n : ℕ} → counted ≡ turnAt f state l i .counted → v ≡ turnAt f state l i .tuple → l′ ≡ putAt l i v
+      → CountedOnward f state l₁ i₁ n₁ l i n → CountedOnward f state l₁ i₁ n₁ l′ (i + 4) (n + cond counted 1 0)
+  count-onward-again {v} {l′} {counted} {n₁} {n} ec ev el now =
+      record {
+        few = omega (arith, at-most-one counted);
+        counted = λ l₀ before.
+            subst (λ (s : S). Counted f state l₀ (i + 4) s l′ (n + cond counted 1 0)) (steady (i / 4) (tupleAt l i)) (count-again h ec ev el (now .counted l₀ before));
+      }

@@ -16,7 +16,7 @@ use Rattle.tuple.specs.declared.Tuple.{Tuple}
 use Rattle.tuple.specs.Sums.{nanTuple}
 use Rattle.tuple.specs.Columns.{rowOf}
 use Rattle.lists.specs.Flat.{fourOf, numbersOf, tupleAt, putAt}
-use Rattle.lists.specs.Sixteen.{rowAt, putRows, putBlock}
+use Rattle.lists.specs.Sixteen.{rowAt, putRows, putBlock, turnedOf, takenOf}
 use Rattle.lists.specs.Run.{Turn, Turns, ranOf, countOf}
 use Rattle.lists.proofs.Places.{tuple-there, from-place, put-drop, put-length}
 use Rattle.lists.proofs.Laws.{Ran, Counted, ran-again, count-again, at-most-one}
@@ -60,6 +60,21 @@ pub columns : {x y z t : List Float} (rows : ℕ → Tuple) → Each x (λ (j : 
     → Columns rows x y z t
 columns rows ex ey ez et = record { row = λ j k. rw (ex .held j k, ey .held j k, ez .held j k, et .held j k) }
 
+-- the tuples may be told in another way
+pub retold : {rows others : ℕ → Tuple} {x y z t : List Float} → ((j : ℕ) → j < 16 → rows j ≡ others j) → Columns rows x y z t → Columns others x y z t
+retold same held = record { row = λ j k. held .row j k ∙ same j k }
+
+-- where the time stays, its column serves on
+pub timed-columns : {rows : ℕ → Tuple} {x y z t ox oy oz : List Float} → Columns rows x y z t → (f : Tuple → Tuple) → ((v : Tuple) → f v .t ≡ v .t)
+    → Each ox (λ (j : ℕ). f (rowOf x y z t j) .x) → Each oy (λ (j : ℕ). f (rowOf x y z t j) .y) → Each oz (λ (j : ℕ). f (rowOf x y z t j) .z)
+    → Columns (λ (j : ℕ). f (rowOf x y z t j)) ox oy oz t
+timed-columns {rows} {x} {y} {z} {t} read f stays ex ey ez =
+    record {
+      row = λ j k.
+          let v = f (rowOf x y z t j) in
+          rw (ex .held j k, ey .held j k, ez .held j k) (ap (fourOf (v .x) (v .y) (v .z)) (sym (stays (rowOf x y z t j))));
+    }
+
 -- ---- putting
 
 -- the first tuple of a list; NaNs where it is shorter
@@ -84,6 +99,11 @@ module _ (l : List Float) (i : ℕ) (rows : ℕ → Tuple) where
   rows-length (suc n) h =
       let e = rows-length n (omega arith) in
       put-length (putRows l i rows n) (i + 4 * n) (rows n) (rw e (omega arith)) ∙ e
+
+  -- the same tuples make the same list
+  rows-alike : (others : ℕ → Tuple) (n : ℕ) → ((j : ℕ) → j < n → rows j ≡ others j) → putRows l i rows n ≡ putRows l i others n
+  rows-alike others zero e = refl
+  rows-alike others (suc n) e = rw (rows-alike others n (λ j k. e j (omega arith)), e n (omega arith))
 
   -- the rest is as it was
   rows-drop : (n : ℕ) → i + 4 * n ≤ length l → drop (i + 4 * n) (putRows l i rows n) ≡ drop (i + 4 * n) l
@@ -115,9 +135,17 @@ module _ (l : List Float) (i : ℕ) (x y z t : List Float) where
 
 -- ---- how many count
 
-pub count-few : (n : ℕ) (f : ℕ → Bool) → countTo n f ≤ n
+count-few : (n : ℕ) (f : ℕ → Bool) → countTo n f ≤ n
 count-few zero f = omega arith
 count-few (suc n) f = omega (arith, count-few n f, at-most-one (f n))
+
+pub count-same : (n : ℕ) (f g : ℕ → Bool) → ((j : ℕ) → j < n → f j ≡ g j) → countTo n f ≡ countTo n g
+count-same zero f g e = refl
+count-same (suc n) f g e = rw (count-same n f g (λ j k. e j (omega arith)), e n (omega arith))
+
+pub taken-few : {S : Type 0} (f : Turns S) (state : S) (l : List Float) (i : ℕ) {m : ℕ} → m ≡ takenOf f state l i → m ≤ 16
+unfolding takenOf
+taken-few f state l i em = rw em (count-few 16 (λ (j : ℕ). f (i / 4 + j) state (rowAt l i j) .counted))
 
 -- ---- a loop that writes where it reads, by a step that leaves the state alone
 
@@ -158,24 +186,37 @@ module _ {S : Type 0} (f : Turns S) (start state : S) (l₀ l : List Float) (i :
       (steady ((i + 4 * n) / 4) (tupleAt put (i + 4 * n)))
       (count-again (room n h) c e refl before))
 
-row-turn : {S : Type 0} (f : Turns S) (state : S) (l : List Float) (i : ℕ) → i + 64 ≤ length l → {x y z t : List Float} → Columns (rowAt l i) x y z t
-    → (j : ℕ) → j < 16 → f (i / 4 + j) state (rowOf x y z t j) ≡ f (i / 4 + j) state (tupleAt l (i + 4 * j))
-row-turn f state l i h read j k = ap (f (i / 4 + j) state) (read .row j k ∙ row-there l i h j)
-
 -- The step sees the sixteen tuples as columns x, y, z, t, and makes the columns ox, oy, oz, ot.
-module _ {S : Type 0} {f : Turns S} {start state : S} {l₀ l : List Float} {i : ℕ} (steady : (k : ℕ) (v : Tuple) → f k state v .state ≡ state) (h : i + 64 ≤ length l) where
-  pub ran-again-block : {x y z t ox oy oz ot l′ : List Float} → Columns (rowAt l i) x y z t → Columns (λ (j : ℕ). f (i / 4 + j) state (rowOf x y z t j) .tuple) ox oy oz ot
-      → l′ ≡ putBlock l i ox oy oz ot → Ran f start l₀ i state l → Ran f start l₀ (i + 64) state l′
-  ran-again-block {x} {y} {z} {t} {ox} {oy} {oz} {ot} read made el now =
-      rw (el, put-rows l i ox oy oz ot h)
-      (rows-ran f start state l₀ l i steady (rowOf ox oy oz ot) 16 h (λ j k. made .row j k ∙ ap (λ (turn : Turn S). turn .tuple) (row-turn f state l i h read j k)) now)
+module _ {S : Type 0} (f : Turns S) (state : S) (l : List Float) (i : ℕ) {x y z t : List Float} (read : Columns (rowAt l i) x y z t) where
+  row-turn : (j : ℕ) → j < 16 → f (i / 4 + j) state (rowOf x y z t j) ≡ f (i / 4 + j) state (rowAt l i j)
+  row-turn j k = ap (f (i / 4 + j) state) (read .row j k)
 
-  pub count-again-block : {x y z t ox oy oz ot l′ : List Float} {m n : ℕ} → Columns (rowAt l i) x y z t → Columns (λ (j : ℕ). f (i / 4 + j) state (rowOf x y z t j) .tuple) ox oy oz ot
-      → m ≡ countTo 16 (λ (j : ℕ). f (i / 4 + j) state (rowOf x y z t j) .counted)
-      → l′ ≡ putBlock l i ox oy oz ot → Counted f start l₀ i state l n → Counted f start l₀ (i + 64) state l′ (n + m)
-  count-again-block {x} {y} {z} {t} {ox} {oy} {oz} {ot} {l′} {m} {n} read made em el now =
-      rw (el, put-rows l i ox oy oz ot h, em)
-      (rows-counted f start state l₀ l i steady (rowOf ox oy oz ot) (λ (j : ℕ). f (i / 4 + j) state (rowOf x y z t j) .counted) n 16 h
-      (λ j k. made .row j k ∙ ap (λ (turn : Turn S). turn .tuple) (row-turn f state l i h read j k))
-      (λ j k. ap (λ (turn : Turn S). turn .counted) (row-turn f state l i h read j k))
+  pub turned : {ox oy oz ot l′ : List Float} → Columns (λ (j : ℕ). f (i / 4 + j) state (rowOf x y z t j) .tuple) ox oy oz ot
+      → l′ ≡ putBlock l i ox oy oz ot → l′ ≡ turnedOf f state l i
+  unfolding putBlock turnedOf
+  turned {ox} {oy} {oz} {ot} made el =
+      el
+      ∙ ap (λ (put : List Float). cond (leb (i + 64) (length l)) put l)
+      (rows-alike l i (rowOf ox oy oz ot) (λ (j : ℕ). f (i / 4 + j) state (rowAt l i j) .tuple) 16 (λ j k. made .row j k ∙ ap (λ (turn : Turn S). turn .tuple) (row-turn j k)))
+
+  pub taken : {m : ℕ} → m ≡ countTo 16 (λ (j : ℕ). f (i / 4 + j) state (rowOf x y z t j) .counted) → m ≡ takenOf f state l i
+  unfolding takenOf
+  taken em = em ∙ count-same 16 _ _ (λ j k. ap (λ (turn : Turn S). turn .counted) (row-turn j k))
+
+-- a turn of sixteen carries the invariants over sixteen places
+module _ {S : Type 0} {f : Turns S} {start state : S} {l₀ l : List Float} {i : ℕ} (steady : (k : ℕ) (v : Tuple) → f k state v .state ≡ state) (h : i + 64 ≤ length l) where
+  pub ran-again-sixteen : {l′ : List Float} → l′ ≡ turnedOf f state l i → Ran f start l₀ i state l → Ran f start l₀ (i + 64) state l′
+  unfolding turnedOf
+  ran-again-sixteen el now =
+      rw (el, le-leb (i + 64) (length l) h)
+      (rows-ran f start state l₀ l i steady (λ (j : ℕ). f (i / 4 + j) state (rowAt l i j) .tuple) 16 h (λ j k. ap (λ (v : Tuple). f (i / 4 + j) state v .tuple) (row-there l i h j)) now)
+
+  pub count-again-sixteen : {l′ : List Float} {m n : ℕ} → l′ ≡ turnedOf f state l i → m ≡ takenOf f state l i
+      → Counted f start l₀ i state l n → Counted f start l₀ (i + 64) state l′ (n + m)
+  unfolding turnedOf takenOf
+  count-again-sixteen {l′} {m} {n} el em now =
+      rw (el, em, le-leb (i + 64) (length l) h)
+      (rows-counted f start state l₀ l i steady (λ (j : ℕ). f (i / 4 + j) state (rowAt l i j) .tuple) (λ (j : ℕ). f (i / 4 + j) state (rowAt l i j) .counted) n 16 h
+      (λ j k. ap (λ (v : Tuple). f (i / 4 + j) state v .tuple) (row-there l i h j))
+      (λ j k. ap (λ (v : Tuple). f (i / 4 + j) state v .counted) (row-there l i h j))
       now)

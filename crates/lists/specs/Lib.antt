@@ -1,4 +1,4 @@
 -- What the contracts of `lists` cite.
 pub mod Flat
-pub mod Sixteen
 pub mod Run
+pub mod Sixteen

@@ -1,18 +1,22 @@
-// The kinds of step but Helmert over a lent flat list, a loop each, written where the list stands. Helmert's loops: `helmert_runs`.
+// The kinds of step but Helmert over a lent flat list, written where the list stands: sixteen tuples a turn by the step's block form, and a loop for the fewer
+// than sixteen that are left. Helmert's loops: `helmert_runs`.
 //
 // What depends on the record alone is worked out once a list: the ellipsoid, the inverse's constants, the coefficient. Kind and direction are decided before a
 // loop starts. Every function is proved equal, list and count, to the step's own definition from tuple to tuple (specs/Turns.antt over `lists`).
 // Exact: no rounding but the steps' own. Used by the chain.
 ghost use mathlib.Core.Path.{_≡_};
 ghost use mathlib.Core.Bool.{cond};
-ghost use Prim.Native.Nat.{_+_, _<_};
+ghost use Prim.Native.Nat.{ℕ, _+_, _^_, _<_};
+ghost use Rattle.blocks.specs.Each.{Each, EachWhole};
 ghost use lib.ListN.{getD, length};
 ghost use Rattle.cart.specs.Step.{cartFwdOf, cartInvOf};
 ghost use Rattle.permtide.specs.Step.{fwdOf, invOf};
 ghost use Rattle.molodensky.specs.Step.{commonOf};
 ghost use Rattle.lists.specs.Run.{ranOf, countOf};
+ghost use Rattle.lists.specs.Sixteen.{turnedOf, takenOf};
 ghost use Rattle.helmert_runs.specs.Turns.{noState, allTurns};
 ghost use Rattle.runs.specs.Turns.{plainTurns, velocityAt, markAt, movedTurns, cartTurns, permtideTurns, molodenskyTurns, deformationTurns};
+use blocks::WIDTH;
 use cart::Cart;
 use cart::Inverse;
 use deformation::Deformation;
@@ -34,12 +38,34 @@ fn tally(n: usize, counted: bool) -> usize
 
 // ----- cart ------------------------------------------------------------------------------
 
+// Sixteen tuples from a place on.
+fn cart_forward_sixteen(list: &mut [f64], i: usize, ellps: Ellipsoid) -> usize
+    ensures { λ r. ⌜ (now (list .exit) ≡ turnedOf (plainTurns (cartFwdOf ellps)) noState (now (list .entry)) i) × (r ≡ takenOf (plainTurns (cartFwdOf ellps)) noState (now (list .entry)) i) ⌝ }
+{
+    let mut x = [0.0; WIDTH];
+    let mut y = [0.0; WIDTH];
+    let mut z = [0.0; WIDTH];
+    let mut t = [0.0; WIDTH];
+    let mut ox = [0.0; WIDTH];
+    let mut oy = [0.0; WIDTH];
+    let mut oz = [0.0; WIDTH];
+    lists::read_block(list, i, &mut x, &mut y, &mut z, &mut t);
+    let n = cart::cart_fwd_block(ellps, &x, &y, &z, &t, &mut ox, &mut oy, &mut oz);
+    lists::write_block(list, i, &ox, &oy, &oz, &t);
+    n
+}
+
 fn cart_forward(list: &mut [f64], ellps: Ellipsoid) -> usize
     ensures { λ r. ⌜ (now (list .exit) ≡ ranOf (plainTurns (cartFwdOf ellps)) 0 noState (now (list .entry))) × (r ≡ countOf (plainTurns (cartFwdOf ellps)) 0 noState (now (list .entry))) ⌝ }
 {
     let mut n = 0;
     let mut i = 0;
-    while 4 <= list.len() - i {
+    while 64 <= list.len() - i {
+        let m = cart_forward_sixteen(list, i, ellps);
+        n += m;
+        i += 64; // on to the next sixteen
+    }
+    while 4 <= list.len() - i { // the rest
         let r = cart::cart_fwd(ellps, lists::read4(list, i));
         lists::write4(list, i, r.tuple);
         n = tally(n, r.counted);
@@ -48,11 +74,32 @@ fn cart_forward(list: &mut [f64], ellps: Ellipsoid) -> usize
     n
 }
 
+fn cart_inverse_sixteen(list: &mut [f64], i: usize, k: Inverse) -> usize
+    ensures { λ r. ⌜ (now (list .exit) ≡ turnedOf (plainTurns (cartInvOf k)) noState (now (list .entry)) i) × (r ≡ takenOf (plainTurns (cartInvOf k)) noState (now (list .entry)) i) ⌝ }
+{
+    let mut x = [0.0; WIDTH];
+    let mut y = [0.0; WIDTH];
+    let mut z = [0.0; WIDTH];
+    let mut t = [0.0; WIDTH];
+    let mut ox = [0.0; WIDTH];
+    let mut oy = [0.0; WIDTH];
+    let mut oz = [0.0; WIDTH];
+    lists::read_block(list, i, &mut x, &mut y, &mut z, &mut t);
+    let n = cart::cart_inv_block(k, &x, &y, &z, &t, &mut ox, &mut oy, &mut oz);
+    lists::write_block(list, i, &ox, &oy, &oz, &t);
+    n
+}
+
 fn cart_inverse(list: &mut [f64], k: Inverse) -> usize
     ensures { λ r. ⌜ (now (list .exit) ≡ ranOf (plainTurns (cartInvOf k)) 0 noState (now (list .entry))) × (r ≡ countOf (plainTurns (cartInvOf k)) 0 noState (now (list .entry))) ⌝ }
 {
     let mut n = 0;
     let mut i = 0;
+    while 64 <= list.len() - i {
+        let m = cart_inverse_sixteen(list, i, k);
+        n += m;
+        i += 64;
+    }
     while 4 <= list.len() - i {
         let r = cart::cart_inv(k, lists::read4(list, i));
         lists::write4(list, i, r.tuple);
@@ -74,10 +121,27 @@ pub fn run_cart(list: &mut [f64], inverse: bool, step: Cart) -> usize
 
 // ----- permtide --------------------------------------------------------------------------
 
+fn permtide_forward_sixteen(list: &mut [f64], i: usize, op: Tide)
+    ensures { λ _. ⌜ now (list .exit) ≡ turnedOf (allTurns (fwdOf op)) noState (now (list .entry)) i ⌝ }
+{
+    let mut x = [0.0; WIDTH];
+    let mut y = [0.0; WIDTH];
+    let mut z = [0.0; WIDTH];
+    let mut t = [0.0; WIDTH];
+    let mut oz = [0.0; WIDTH];
+    lists::read_block(list, i, &mut x, &mut y, &mut z, &mut t);
+    permtide::fwd_block(op, &y, &z, &mut oz);
+    lists::write_block(list, i, &x, &y, &oz, &t);
+}
+
 fn permtide_forward(list: &mut [f64], op: Tide)
     ensures { λ _. ⌜ now (list .exit) ≡ ranOf (allTurns (fwdOf op)) 0 noState (now (list .entry)) ⌝ }
 {
     let mut i = 0;
+    while 64 <= list.len() - i {
+        permtide_forward_sixteen(list, i, op);
+        i += 64;
+    }
     while 4 <= list.len() - i {
         let v = permtide::fwd(op, lists::read4(list, i));
         lists::write4(list, i, v);
@@ -85,10 +149,27 @@ fn permtide_forward(list: &mut [f64], op: Tide)
     }
 }
 
+fn permtide_inverse_sixteen(list: &mut [f64], i: usize, op: Tide)
+    ensures { λ _. ⌜ now (list .exit) ≡ turnedOf (allTurns (invOf op)) noState (now (list .entry)) i ⌝ }
+{
+    let mut x = [0.0; WIDTH];
+    let mut y = [0.0; WIDTH];
+    let mut z = [0.0; WIDTH];
+    let mut t = [0.0; WIDTH];
+    let mut oz = [0.0; WIDTH];
+    lists::read_block(list, i, &mut x, &mut y, &mut z, &mut t);
+    permtide::inv_block(op, &y, &z, &mut oz);
+    lists::write_block(list, i, &x, &y, &oz, &t);
+}
+
 fn permtide_inverse(list: &mut [f64], op: Tide)
     ensures { λ _. ⌜ now (list .exit) ≡ ranOf (allTurns (invOf op)) 0 noState (now (list .entry)) ⌝ }
 {
     let mut i = 0;
+    while 64 <= list.len() - i {
+        permtide_inverse_sixteen(list, i, op);
+        i += 64;
+    }
     while 4 <= list.len() - i {
         let v = permtide::inv(op, lists::read4(list, i));
         lists::write4(list, i, v);
@@ -110,10 +191,29 @@ pub fn run_permtide(list: &mut [f64], inverse: bool, step: Permtide) -> usize
 
 // ----- molodensky ------------------------------------------------------------------------
 
+fn molodensky_sixteen(list: &mut [f64], i: usize, op: Moped, inverse: bool)
+    ensures { λ _. ⌜ now (list .exit) ≡ turnedOf (allTurns (commonOf op inverse)) noState (now (list .entry)) i ⌝ }
+{
+    let mut x = [0.0; WIDTH];
+    let mut y = [0.0; WIDTH];
+    let mut z = [0.0; WIDTH];
+    let mut t = [0.0; WIDTH];
+    let mut ox = [0.0; WIDTH];
+    let mut oy = [0.0; WIDTH];
+    let mut oz = [0.0; WIDTH];
+    lists::read_block(list, i, &mut x, &mut y, &mut z, &mut t);
+    molodensky::common_block(op, inverse, &x, &y, &z, &t, &mut ox, &mut oy, &mut oz);
+    lists::write_block(list, i, &ox, &oy, &oz, &t);
+}
+
 fn molodensky_common(list: &mut [f64], op: Moped, inverse: bool)
     ensures { λ _. ⌜ now (list .exit) ≡ ranOf (allTurns (commonOf op inverse)) 0 noState (now (list .entry)) ⌝ }
 {
     let mut i = 0;
+    while 64 <= list.len() - i {
+        molodensky_sixteen(list, i, op, inverse);
+        i += 64;
+    }
     while 4 <= list.len() - i {
         let v = molodensky::common(op, inverse, lists::read4(list, i));
         lists::write4(list, i, v);
@@ -160,6 +260,91 @@ pub fn mark_at(marks: &[u8], k: usize) -> u8
     0
 }
 
+// The velocities of sixteen fixes from k on, as columns.
+fn velocity_block(
+    velocities: &[f64],
+    k: usize,
+    east: &mut [f64; WIDTH],
+    north: &mut [f64; WIDTH],
+    up: &mut [f64; WIDTH],
+)
+    requires { ⌜ k < 2 ^ 62 ⌝ }
+    ensures { λ _. ⌜ Each (now (east .exit)) (λ (j : ℕ). velocityAt (now (velocities .entry)) (k + j) .east)
+        × Each (now (north .exit)) (λ (j : ℕ). velocityAt (now (velocities .entry)) (k + j) .north)
+        × Each (now (up .exit)) (λ (j : ℕ). velocityAt (now (velocities .entry)) (k + j) .up) ⌝ }
+{
+    *east = [0.0; WIDTH];
+    *north = [0.0; WIDTH];
+    *up = [0.0; WIDTH];
+    let mut j = 0;
+    while j < WIDTH {
+        let v = velocity_at(velocities, k + j);
+        east[j] = v.east;
+        north[j] = v.north;
+        up[j] = v.up;
+        j += 1;
+    }
+}
+
+// The marks of sixteen fixes from k on.
+fn mark_block(marks: &[u8], k: usize, m: &mut [u8; WIDTH])
+    requires { ⌜ k < 2 ^ 62 ⌝ }
+    ensures { λ _. ⌜ EachWhole (now (m .exit)) (λ (j : ℕ). markAt (now (marks .entry)) (k + j)) ⌝ }
+{
+    *m = [0; WIDTH];
+    let mut j = 0;
+    while j < WIDTH {
+        m[j] = mark_at(marks, k + j);
+        j += 1;
+    }
+}
+
+fn deformation_sixteen(
+    list: &mut [f64],
+    i: usize,
+    op: Motion,
+    inverse: bool,
+    velocities: &[f64],
+    marks: &[u8],
+) -> usize
+    ensures { λ r. ⌜ (now (list .exit) ≡ turnedOf (movedTurns op inverse (now (velocities .entry)) (now (marks .entry))) noState (now (list .entry)) i)
+        × (r ≡ takenOf (movedTurns op inverse (now (velocities .entry)) (now (marks .entry))) noState (now (list .entry)) i) ⌝ }
+{
+    let mut east = [0.0; WIDTH];
+    let mut north = [0.0; WIDTH];
+    let mut up = [0.0; WIDTH];
+    let mut m = [0u8; WIDTH];
+    velocity_block(velocities, i / 4, &mut east, &mut north, &mut up);
+    mark_block(marks, i / 4, &mut m);
+    let mut x = [0.0; WIDTH];
+    let mut y = [0.0; WIDTH];
+    let mut z = [0.0; WIDTH];
+    let mut t = [0.0; WIDTH];
+    let mut ox = [0.0; WIDTH];
+    let mut oy = [0.0; WIDTH];
+    let mut oz = [0.0; WIDTH];
+    let mut ot = [0.0; WIDTH];
+    lists::read_block(list, i, &mut x, &mut y, &mut z, &mut t);
+    let n = deformation::common_block(
+        op,
+        inverse,
+        &east,
+        &north,
+        &up,
+        &m,
+        &x,
+        &y,
+        &z,
+        &t,
+        &mut ox,
+        &mut oy,
+        &mut oz,
+        &mut ot,
+    );
+    lists::write_block(list, i, &ox, &oy, &oz, &ot);
+    n
+}
+
 fn deformation_common(
     list: &mut [f64],
     op: Motion,
@@ -172,6 +357,11 @@ fn deformation_common(
 {
     let mut n = 0;
     let mut i = 0;
+    while 64 <= list.len() - i {
+        let m = deformation_sixteen(list, i, op, inverse, velocities, marks);
+        n += m;
+        i += 64;
+    }
     while 4 <= list.len() - i {
         let k = i / 4;
         let r = deformation::common(

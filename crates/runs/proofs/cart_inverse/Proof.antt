@@ -2,12 +2,13 @@
 use Prim.Native.Nat.{_-_}
 use borrow.Author.Needs.{needs}
 use lib.ListN.{length}
-use mathlib.Core.Path.{_≡_, ap}
+use mathlib.Core.Path.{_≡_, refl, ap}
 use Rattle.tuple.specs.declared.Shifted.{Shifted}
 use Rattle.cart.specs.Step.{cartInvOf}
+use Rattle.lists.proofs.Laws.{Ran, Counted, Onward, CountedOnward, ran-start, ran-end, onward-start, onward-again, count-start, count-end, count-onward-start, count-onward-again}
+use Rattle.lists.proofs.Sixteen.{taken-few, ran-again-sixteen, count-again-sixteen}
 use Rattle.helmert_runs.specs.Turns.{noState}
 use Rattle.runs.specs.Turns.{plainTurns}
-use Rattle.lists.proofs.Laws.{Ran, Counted, ran-start, ran-again, ran-end, count-start, count-again, count-end}
 use Rattle.runs.proofs.cart_inverse.Statement.{statement}
 use Rattle.runs.proofs.cart_inverse.Tie as tie
 
@@ -17,43 +18,77 @@ Inv-loop list₀ k n₀ i₀ list n i = Ran (plainTurns (cartInvOf k)) noState l
 abbrev μ-loop : tie.MeasureT-loop
 μ-loop list₀ k n₀ i₀ list n i = length list₀ - i
 
-loop-holds : tie.Need-loop-holds Inv-loop μ-loop
+abbrev Inv-loop2 : tie.InvT-loop2
+Inv-loop2 list₀ k n₀ i₀ list n i = Onward (plainTurns (cartInvOf k)) noState list₀ i₀ list i × CountedOnward (plainTurns (cartInvOf k)) noState list₀ i₀ n₀ list i n
+
+abbrev μ-loop2 : tie.MeasureT-loop2
+μ-loop2 list₀ k n₀ i₀ list n i = length list₀ - i
+
+loop-holds : tie.Need-loop-holds Inv-loop μ-loop Inv-loop2 μ-loop2
 loop-holds c = (ran-start _ _ _, count-start _ _ _)
 
-sub-loop : tie.Need-sub-loop Inv-loop μ-loop
+sub-loop : tie.Need-sub-loop Inv-loop μ-loop Inv-loop2 μ-loop2
 sub-loop c = search needs
 
-read4-requires : tie.Need-read4-requires Inv-loop μ-loop
-read4-requires c κs = search needs
+cart-inverse-sixteen-requires :
+    tie.Need-cart-inverse-sixteen-requires Inv-loop μ-loop Inv-loop2 μ-loop2
+cart-inverse-sixteen-requires c κs = search needs
 
-cart-inv-requires : tie.Need-cart-inv-requires Inv-loop μ-loop
-cart-inv-requires c κs = search needs
+add-n : tie.Need-add-n Inv-loop μ-loop Inv-loop2 μ-loop2
+add-n c = search (needs, taken-few _ _ _ _ (c .before .before .cart-inverse-sixteen .ensures .1))
 
-write4-requires : tie.Need-write4-requires Inv-loop μ-loop
-write4-requires c κs = search needs
-
-tally-requires : tie.Need-tally-requires Inv-loop μ-loop
-tally-requires c κs = search needs
-
-add-i : tie.Need-add-i Inv-loop μ-loop
+add-i : tie.Need-add-i Inv-loop μ-loop Inv-loop2 μ-loop2
 add-i c = search needs
 
-loop-less : tie.Need-loop-less Inv-loop μ-loop
+loop-less : tie.Need-loop-less Inv-loop μ-loop Inv-loop2 μ-loop2
 loop-less c = search needs
 
-loop-again : tie.Need-loop-again Inv-loop μ-loop
+loop-again : tie.Need-loop-again Inv-loop μ-loop Inv-loop2 μ-loop2
 loop-again c =
-    let l = c .before .before .before .before .before .before .before .before .before .loop in
+    let e = c .before .before .cart-inverse-sixteen .ensures in
+    let l = c .before .before .before .before .before .loop .inv in
+    (ran-again-sixteen (λ k v. refl) (search needs) (e .0) (l .0), count-again-sixteen (λ k v. refl) (search needs) (e .0) (e .1) (l .1))
+
+loop2-holds : tie.Need-loop2-holds Inv-loop μ-loop Inv-loop2 μ-loop2
+loop2-holds c = (onward-start (search needs), count-onward-start (search needs))
+
+sub-loop2 : tie.Need-sub-loop2 Inv-loop μ-loop Inv-loop2 μ-loop2
+sub-loop2 c = search needs
+
+read4-requires : tie.Need-read4-requires Inv-loop μ-loop Inv-loop2 μ-loop2
+read4-requires c κs = search needs
+
+cart-inv-requires : tie.Need-cart-inv-requires Inv-loop μ-loop Inv-loop2 μ-loop2
+cart-inv-requires c κs = search needs
+
+write4-requires : tie.Need-write4-requires Inv-loop μ-loop Inv-loop2 μ-loop2
+write4-requires c κs = search needs
+
+tally-requires : tie.Need-tally-requires Inv-loop μ-loop Inv-loop2 μ-loop2
+tally-requires c κs = search needs
+
+add-i-2 : tie.Need-add-i-2 Inv-loop μ-loop Inv-loop2 μ-loop2
+add-i-2 c = search needs
+
+loop2-less : tie.Need-loop2-less Inv-loop μ-loop Inv-loop2 μ-loop2
+loop2-less c = search needs
+
+loop2-again : tie.Need-loop2-again Inv-loop μ-loop Inv-loop2 μ-loop2
+loop2-again c =
+    let l = c .before .before .before .before .before .before .before .before .before .loop2 .inv in
     let w = c .before .before .before .write4 .ensures in
     let e = rw (c .before .before .before .before .before .before .read4 .ensures) at (c .before .before .before .before .before .cart-inv .ensures) in
     let tuple = ap (λ (s : Shifted). s .tuple) e in
-    (ran-again (search needs) tuple w (l .inv .0), rw (c .tally .ensures) (count-again (search needs) (ap (λ (s : Shifted). s .counted) e) tuple w (l .inv .1)))
+    (onward-again (λ k v. refl) (search needs) tuple w (l .0), rw (c .tally .ensures) (count-onward-again (λ k v. refl) (search needs) (ap (λ (s : Shifted). s .counted) e) tuple w (l .1)))
 
-same-length : tie.Need-same-length Inv-loop μ-loop
+same-length : tie.Need-same-length Inv-loop μ-loop Inv-loop2 μ-loop2
 same-length c = search needs
 
-returns : tie.Need-returns Inv-loop μ-loop
-returns c = (ran-end (search needs) (c .before .loop .inv .0), count-end (search needs) (c .before .loop .inv .1))
+returns : tie.Need-returns Inv-loop μ-loop Inv-loop2 μ-loop2
+returns c =
+    let one = c .before .before .before .loop .inv in
+    let two = c .before .loop2 .inv in
+    (ran-end (search needs) (two .0 .ran _ (one .0)), count-end (search needs) (two .1 .counted _ (one .1)))
 
 pub cart-inverse-spec : {M : Type 1} → statement M
 cart-inverse-spec =
@@ -61,14 +96,23 @@ cart-inverse-spec =
     (tie.spec
     Inv-loop
     μ-loop
+    Inv-loop2
+    μ-loop2
     loop-holds
     sub-loop
+    cart-inverse-sixteen-requires
+    add-n
+    add-i
+    loop-less
+    loop-again
+    loop2-holds
+    sub-loop2
     read4-requires
     cart-inv-requires
     write4-requires
     tally-requires
-    add-i
-    loop-less
-    loop-again
+    add-i-2
+    loop2-less
+    loop2-again
     same-length
     returns)

@@ -2,8 +2,10 @@
 use Prim.Native.Nat.{_-_}
 use borrow.Author.Needs.{needs}
 use lib.ListN.{length}
+use mathlib.Core.Path.{refl}
 use Rattle.permtide.specs.Step.{invOf}
-use Rattle.lists.proofs.Laws.{Ran, ran-start, ran-again, ran-end}
+use Rattle.lists.proofs.Laws.{Ran, Onward, ran-start, ran-end, onward-start, onward-again}
+use Rattle.lists.proofs.Sixteen.{ran-again-sixteen}
 use Rattle.helmert_runs.specs.Turns.{noState, allTurns}
 use Rattle.runs.proofs.permtide_inverse.Statement.{statement}
 use Rattle.runs.proofs.permtide_inverse.Tie as tie
@@ -14,36 +16,61 @@ Inv-loop list₀ op i₀ list i = Ran (allTurns (invOf op)) noState list₀ i no
 abbrev μ-loop : tie.MeasureT-loop
 μ-loop list₀ op i₀ list i = length list₀ - i
 
-loop-holds : tie.Need-loop-holds Inv-loop μ-loop
+abbrev Inv-loop2 : tie.InvT-loop2
+Inv-loop2 list₀ op i₀ list i = Onward (allTurns (invOf op)) noState list₀ i₀ list i
+
+abbrev μ-loop2 : tie.MeasureT-loop2
+μ-loop2 list₀ op i₀ list i = length list₀ - i
+
+loop-holds : tie.Need-loop-holds Inv-loop μ-loop Inv-loop2 μ-loop2
 loop-holds c = ran-start _ _ _
 
-sub-loop : tie.Need-sub-loop Inv-loop μ-loop
+sub-loop : tie.Need-sub-loop Inv-loop μ-loop Inv-loop2 μ-loop2
 sub-loop c = search needs
 
-read4-requires : tie.Need-read4-requires Inv-loop μ-loop
-read4-requires c κs = search needs
+permtide-inverse-sixteen-requires :
+    tie.Need-permtide-inverse-sixteen-requires Inv-loop μ-loop Inv-loop2 μ-loop2
+permtide-inverse-sixteen-requires c κs = search needs
 
-inv-requires : tie.Need-inv-requires Inv-loop μ-loop
-inv-requires c κs = search needs
-
-write4-requires : tie.Need-write4-requires Inv-loop μ-loop
-write4-requires c κs = search needs
-
-add-i : tie.Need-add-i Inv-loop μ-loop
+add-i : tie.Need-add-i Inv-loop μ-loop Inv-loop2 μ-loop2
 add-i c = search needs
 
-loop-less : tie.Need-loop-less Inv-loop μ-loop
+loop-less : tie.Need-loop-less Inv-loop μ-loop Inv-loop2 μ-loop2
 loop-less c = search needs
 
-loop-again : tie.Need-loop-again Inv-loop μ-loop
-loop-again c =
-    ran-again (search needs) (rw (c .before .before .before .before .before .read4 .ensures) at (c .before .before .before .before .inv .ensures)) (c .before .before .write4 .ensures) (c .before .before .before .before .before .before .before .before .loop .inv)
+loop-again : tie.Need-loop-again Inv-loop μ-loop Inv-loop2 μ-loop2
+loop-again c = ran-again-sixteen (λ k v. refl) (search needs) (c .before .before .permtide-inverse-sixteen .ensures) (c .before .before .before .before .before .loop .inv)
 
-same-length : tie.Need-same-length Inv-loop μ-loop
+loop2-holds : tie.Need-loop2-holds Inv-loop μ-loop Inv-loop2 μ-loop2
+loop2-holds c = onward-start (search needs)
+
+sub-loop2 : tie.Need-sub-loop2 Inv-loop μ-loop Inv-loop2 μ-loop2
+sub-loop2 c = search needs
+
+read4-requires : tie.Need-read4-requires Inv-loop μ-loop Inv-loop2 μ-loop2
+read4-requires c κs = search needs
+
+inv-requires : tie.Need-inv-requires Inv-loop μ-loop Inv-loop2 μ-loop2
+inv-requires c κs = search needs
+
+write4-requires : tie.Need-write4-requires Inv-loop μ-loop Inv-loop2 μ-loop2
+write4-requires c κs = search needs
+
+add-i-2 : tie.Need-add-i-2 Inv-loop μ-loop Inv-loop2 μ-loop2
+add-i-2 c = search needs
+
+loop2-less : tie.Need-loop2-less Inv-loop μ-loop Inv-loop2 μ-loop2
+loop2-less c = search needs
+
+loop2-again : tie.Need-loop2-again Inv-loop μ-loop Inv-loop2 μ-loop2
+loop2-again c =
+    onward-again (λ k v. refl) (search needs) (rw (c .before .before .before .before .before .read4 .ensures) at (c .before .before .before .before .inv .ensures)) (c .before .before .write4 .ensures) (c .before .before .before .before .before .before .before .before .loop2 .inv)
+
+same-length : tie.Need-same-length Inv-loop μ-loop Inv-loop2 μ-loop2
 same-length c = search needs
 
-returns : tie.Need-returns Inv-loop μ-loop
-returns c = ran-end (search needs) (c .before .loop .inv)
+returns : tie.Need-returns Inv-loop μ-loop Inv-loop2 μ-loop2
+returns c = ran-end (search needs) (c .before .loop2 .inv .ran _ (c .before .before .before .loop .inv))
 
 pub permtide-inverse-spec : {M : Type 1} → statement M
 permtide-inverse-spec =
@@ -51,13 +78,21 @@ permtide-inverse-spec =
     (tie.spec
     Inv-loop
     μ-loop
+    Inv-loop2
+    μ-loop2
     loop-holds
     sub-loop
-    read4-requires
-    inv-requires
-    write4-requires
+    permtide-inverse-sixteen-requires
     add-i
     loop-less
     loop-again
+    loop2-holds
+    sub-loop2
+    read4-requires
+    inv-requires
+    write4-requires
+    add-i-2
+    loop2-less
+    loop2-again
     same-length
     returns)
