@@ -1,3 +1,4 @@
 -- What the contract of `atan2` cites.
 pub mod Table
 pub mod Arctan
+pub mod Block

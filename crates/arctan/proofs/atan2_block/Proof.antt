@@ -1,70 +1,29 @@
--- `arctan::atan2_block` meets its contract. Assumes nothing.
-use Prim.Native.Nat.{ℕ, _-_}
+-- `arctan::atan2_block` meets its contract: by either way each angle is `atan2`'s. Assumes nothing.
 use borrow.Author.Needs.{needs}
-use mathlib.Core.Path.{refl}
-use Rattle.blocks.specs.Each.{at, UpTo}
-use Rattle.blocks.proofs.Laws.{none-filled, one-more, all-filled}
-use Rattle.arctan.specs.Arctan.{atan2Of}
+use Rattle.arctan.proofs.Blocks.{block-angles}
 use Rattle.arctan.proofs.atan2_block.Statement.{statement}
 use Rattle.arctan.proofs.atan2_block.Tie as tie
 
-abbrev Inv-loop : tie.InvT-loop
-Inv-loop y x r₀ i₀ r i = UpTo i r (λ (j : ℕ). atan2Of (at y j) (at x j))
+sizes-requires : tie.Need-sizes-requires
+sizes-requires c κs = search needs
 
-abbrev μ-loop : tie.MeasureT-loop
-μ-loop y x r₀ i₀ r i = 16 - i
+pairs-requires : tie.Need-pairs-requires
+pairs-requires c κs = search needs
 
-loop-holds : tie.Need-loop-holds Inv-loop μ-loop
-loop-holds c = none-filled refl
+mend-requires : tie.Need-mend-requires
+mend-requires c κs = search needs
 
-mul-atan2 : tie.Need-mul-atan2 Inv-loop μ-loop
-mul-atan2 c = search needs
+any-block-requires : tie.Need-any-block-requires
+any-block-requires c κs = search needs
 
-element-copy-out-atan2 : tie.Need-element-copy-out-atan2 Inv-loop μ-loop
-element-copy-out-atan2 c = search needs
+returns : tie.Need-returns
+returns c =
+    let t = c .before .before .before .before in
+    let u = t .before .before .before .before .before .before in
+    block-angles (u .if1 .taken) (u .before .sizes .ensures) (t .pairs .ensures) (c .mend .ensures)
 
-mul-atan2-2 : tie.Need-mul-atan2-2 Inv-loop μ-loop
-mul-atan2-2 c = search needs
-
-element-copy-out-atan2-2 : tie.Need-element-copy-out-atan2-2 Inv-loop μ-loop
-element-copy-out-atan2-2 c = search needs
-
-atan2-requires : tie.Need-atan2-requires Inv-loop μ-loop
-atan2-requires c κs = search needs
-
-mul-r : tie.Need-mul-r Inv-loop μ-loop
-mul-r c = search needs
-
-element-write-r : tie.Need-element-write-r Inv-loop μ-loop
-element-write-r c = search needs
-
-add-i : tie.Need-add-i Inv-loop μ-loop
-add-i c = search needs
-
-loop-less : tie.Need-loop-less Inv-loop μ-loop
-loop-less c = search needs
-
-loop-again : tie.Need-loop-again Inv-loop μ-loop
-loop-again c = one-more (search needs) (c .atan2 .ensures) (c .before .before .before .before .loop .inv)
-
-returns : tie.Need-returns Inv-loop μ-loop
-returns c = all-filled (search needs) (c .before .loop .inv)
+returns-2 : tie.Need-returns-2
+returns-2 c = search needs
 
 pub atan2-block-spec : {M : Type 1} → statement M
-atan2-block-spec =
-    tie.close
-    (tie.spec
-    Inv-loop
-    μ-loop
-    loop-holds
-    mul-atan2
-    element-copy-out-atan2
-    mul-atan2-2
-    element-copy-out-atan2-2
-    atan2-requires
-    mul-r
-    element-write-r
-    add-i
-    loop-less
-    loop-again
-    returns)
+atan2-block-spec = tie.close (tie.spec sizes-requires pairs-requires mend-requires any-block-requires returns returns-2)
