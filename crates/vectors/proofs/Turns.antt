@@ -54,11 +54,11 @@ laid job told h =
 -- the parts that are lent to the chain are the job's
 pub lent : (job : List ℕ) {direction sheet tuples velocities marks : ℕ} → direction ≡ word32 job 0 → sheet ≡ sheetLength job → tuples ≡ 4 * tupleCount job → velocities ≡ 3 * velocityCount job → marks ≡ velocityCount job
     → shiftOf
-      (eqb direction 1)
-      (take (16 + sheet - 16) (drop 16 job))
-      (numbersOf job (16 + sheet) tuples)
-      (numbersOf job (16 + sheet + 8 * tuples) velocities)
-      (take (16 + sheet + 8 * tuples + 8 * velocities + marks - (16 + sheet + 8 * tuples + 8 * velocities)) (drop (16 + sheet + 8 * tuples + 8 * velocities) job))
+    (eqb direction 1)
+    (take (16 + sheet - 16) (drop 16 job))
+    (numbersOf job (16 + sheet) tuples)
+    (numbersOf job (16 + sheet + 8 * tuples) velocities)
+    (take (16 + sheet + 8 * tuples + 8 * velocities + marks - (16 + sheet + 8 * tuples + 8 * velocities)) (drop (16 + sheet + 8 * tuples + 8 * velocities) job))
     ≡ shiftedOf job
 unfolding shiftedOf
 lent job {direction} {sheet} {tuples} {velocities} {marks} d s t v m =

@@ -42,7 +42,8 @@ fn print_name(line: usize) {
         3 => io::write_all(OUT, b"  permtide"),
         4 => io::write_all(OUT, b"  deformation"),
         _ => io::write_all(OUT, b"  chains"),
-    };
+    }
+    ;
     if line % 2 == 0 {
         io::write_all(OUT, b" forward: ");
     } else {
@@ -222,7 +223,13 @@ fn replay_answers() {
     let mut tuples = [0u64; 12];
     let mut differences = [0u64; 12];
     let fd = os::open_read(b"answers.bin");
-    replay_jobs(fd, record_count(fd), &mut jobs, &mut tuples, &mut differences);
+    replay_jobs(
+        fd,
+        record_count(fd),
+        &mut jobs,
+        &mut tuples,
+        &mut differences,
+    );
     close(fd);
     io::write_all(OUT, b"answers.bin: ");
     print_totals(sum(&jobs), sum(&tuples), sum(&differences));

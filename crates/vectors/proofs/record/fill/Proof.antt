@@ -45,10 +45,11 @@ loop-less c = let l = c .before .before .loop in omega (arith, length-set (l .li
 loop-again : tie.Need-loop-again Inv-loop μ-loop
 loop-again c =
     let l = c .before .before .loop in
-    let h : l .i < length (l .list) = omega arith in
-    (omega (arith, length-set (l .list) (l .i) (c .number .result)),
-    simp length-set (l .inv .1),
-    rw (add-one, take-suc-set _ _ _ h, numbers-next, l .inv .2, c .number .ensures))
+    let h : l .i < length (l .list) = omega arith in (
+      omega (arith, length-set (l .list) (l .i) (c .number .result)),
+      simp length-set (l .inv .1),
+      rw (add-one, take-suc-set _ _ _ h, numbers-next, l .inv .2, c .number .ensures),
+    )
 
 same-length : tie.Need-same-length Inv-loop μ-loop
 same-length c = search needs

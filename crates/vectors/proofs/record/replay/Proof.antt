@@ -44,10 +44,13 @@ slice-aggregate-beside-2 c = sym (length-take-le _ _ (omega (arith, laid _ _ (sy
 
 beside-requires : tie.Need-beside-requires
 beside-requires c κs =
-    let l = laid _ _ (sym (c .before .before .before .before .before .before .before .laid-out .ensures) ∙ c .before .before .before .before .before .before .if1 .taken) in
-    ((length-take-le _ _ (omega (arith, l, c .before .before .before .before .before .length-at .ensures .0, c .before .before .before .room .ensures)) ∙ ap (λ (n : ℕ). 4 * n) (c .before .before .before .before .before .length-at .ensures .0),
-    length-take-le _ _ (omega (arith, l, c .before .before .before .before .length-at2 .ensures .0, c .before .before .room2 .ensures)) ∙ ap (λ (n : ℕ). 3 * n) (c .before .before .before .before .length-at2 .ensures .0)),
-    (l .tuples, l .velocities, l .whole))
+    let l = laid _ _ (sym (c .before .before .before .before .before .before .before .laid-out .ensures) ∙ c .before .before .before .before .before .before .if1 .taken) in (
+      (
+        length-take-le _ _ (omega (arith, l, c .before .before .before .before .before .length-at .ensures .0, c .before .before .before .room .ensures)) ∙ ap (λ (n : ℕ). 4 * n) (c .before .before .before .before .before .length-at .ensures .0),
+        length-take-le _ _ (omega (arith, l, c .before .before .before .before .length-at2 .ensures .0, c .before .before .room2 .ensures)) ∙ ap (λ (n : ℕ). 3 * n) (c .before .before .before .before .length-at2 .ensures .0),
+      ),
+      (l .tuples, l .velocities, l .whole),
+    )
 
 returns : tie.Need-returns
 unfolding replayOf
