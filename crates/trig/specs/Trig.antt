@@ -113,6 +113,10 @@ pairOf a = record { s = sineOf a; c = cosineOf a }
 unfoldable pub signedOf : Float → Float → Float
 signedOf s x = cond (signOf x) (neg s) s
 
+-- s, turned where x is below zero
+unfoldable pub turnedOf : Float → Float → Float
+turnedOf s x = cond (lt x zero) (neg s) s
+
 -- The sine of x: a zero is its own; out of reach, and of NaN, it is NaN; else that of |x|, with the sign of x.
 unfoldable pub sinOf : Float → Float
 sinOf x = cond (eq x zero) x (cond (le (absOf x) reach) (signedOf (sineOf (absOf x)) x) nan)

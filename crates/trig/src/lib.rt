@@ -9,12 +9,9 @@
 // exactly where the angle is NaN or beyond ±1024. Measured: within 0.59·2^-53 for |x| up to 8, and within 1.35 units in the last place for every
 // angle in reach. Every step of a shift that meets a latitude or an exact rotation uses the pair.
 ghost use mathlib.Core.Path.{_≡_};
-ghost use Prim.Native.Nat.{ℕ, _%_};
-ghost use Rattle.blocks.specs.Each.{at, wholeAt, Each, EachWhole};
+ghost use Prim.Native.Nat.{_%_};
 ghost use Rattle.trig.specs.Table.{rowOf, asideOf, halfOf};
-ghost use Rattle.trig.specs.Trig.{reducedOf, bendOf, atMostOne, clampOf, sumOf, pairOf, sinOf, cosOf, sinCosOf};
-ghost use Rattle.trig.specs.Block.{stepOf, restOf, bendsOf, turnedOf, sinFrom, cosFrom, bothFrom};
-use blocks::WIDTH;
+ghost use Rattle.trig.specs.Trig.{reducedOf, bendOf, atMostOne, clampOf, sumOf, pairOf, turnedOf, sinOf, cosOf, sinCosOf};
 use floats::abs;
 use floats::of_bits;
 use floats::to_bits;
@@ -56,142 +53,8 @@ pub fn cos(x: f64) -> f64
     sin_cos(x).c
 }
 
-// Sine and cosine of a block of angles, each as `sin_cos` gives them.
-pub fn sin_cos_block(x: &[f64; WIDTH], s: &mut [f64; WIDTH], c: &mut [f64; WIDTH])
-    ensures { λ _. ⌜ Each (now (s .exit)) (λ (j : ℕ). sinOf (at (now (x .entry)) j)) × Each (now (c .exit)) (λ (j : ℕ). cosOf (at (now (x .entry)) j)) ⌝ }
-{
-    let mut step: [u64; WIDTH] = [0; WIDTH];
-    let mut rest: [f64; WIDTH] = [0.0; WIDTH];
-    let mut bs: [f64; WIDTH] = [0.0; WIDTH];
-    let mut bc: [f64; WIDTH] = [0.0; WIDTH];
-    let mut sh: [f64; WIDTH] = [0.0; WIDTH];
-    let mut sl: [f64; WIDTH] = [0.0; WIDTH];
-    let mut ch: [f64; WIDTH] = [0.0; WIDTH];
-    let mut cl: [f64; WIDTH] = [0.0; WIDTH];
-    smalls(x, &mut step, &mut rest, &mut bs, &mut bc);
-    rows(&step, &mut sh, &mut sl, &mut ch, &mut cl);
-    sums(x, &rest, &bs, &bc, &sh, &sl, &ch, &cl, s, c);
-}
-
-// What is arithmetic alone in the magnitudes of a block: step, rest and the two bends of each.
-fn smalls(
-    x: &[f64; WIDTH],
-    step: &mut [u64; WIDTH],
-    rest: &mut [f64; WIDTH],
-    bs: &mut [f64; WIDTH],
-    bc: &mut [f64; WIDTH],
-)
-    ensures { λ _. ⌜ EachWhole (now (step .exit)) (λ (j : ℕ). stepOf (at (now (x .entry)) j)) × Each (now (rest .exit)) (λ (j : ℕ). restOf (at (now (x .entry)) j)) × Each (now (bs .exit)) (λ (j : ℕ). bendsOf (at (now (x .entry)) j) .sine) × Each (now (bc .exit)) (λ (j : ℕ). bendsOf (at (now (x .entry)) j) .cosine) ⌝ }
-{
-    *step = [0; WIDTH];
-    *rest = [0.0; WIDTH];
-    *bs = [0.0; WIDTH];
-    *bc = [0.0; WIDTH];
-    let mut i = 0;
-    while i < WIDTH {
-        let g = reduce(abs(x[i]));
-        let b = bend(g.rest, g.tail);
-        step[i] = g.step;
-        rest[i] = g.rest;
-        bs[i] = b.sine;
-        bc[i] = b.cosine;
-        i += 1;
-    }
-}
-
-// The table's rows for a block of steps: the loop that is not turned into vector instructions has nothing else to do.
-fn rows(
-    step: &[u64; WIDTH],
-    sh: &mut [f64; WIDTH],
-    sl: &mut [f64; WIDTH],
-    ch: &mut [f64; WIDTH],
-    cl: &mut [f64; WIDTH],
-)
-    ensures { λ _. ⌜ Each (now (sh .exit)) (λ (j : ℕ). rowOf (wholeAt (now (step .entry)) j) .0) × Each (now (sl .exit)) (λ (j : ℕ). rowOf (wholeAt (now (step .entry)) j) .1) × Each (now (ch .exit)) (λ (j : ℕ). rowOf (wholeAt (now (step .entry)) j) .2) × Each (now (cl .exit)) (λ (j : ℕ). rowOf (wholeAt (now (step .entry)) j) .3) ⌝ }
-{
-    *sh = [0.0; WIDTH];
-    *sl = [0.0; WIDTH];
-    *ch = [0.0; WIDTH];
-    *cl = [0.0; WIDTH];
-    let mut i = 0;
-    while i < WIDTH {
-        let w = look_up(step[i]);
-        sh[i] = w.0;
-        sl[i] = w.1;
-        ch[i] = w.2;
-        cl[i] = w.3;
-        i += 1;
-    }
-}
-
-// The sums of a block, from what the two loops before have laid down.
-fn sums(
-    x: &[f64; WIDTH],
-    rest: &[f64; WIDTH],
-    bs: &[f64; WIDTH],
-    bc: &[f64; WIDTH],
-    sh: &[f64; WIDTH],
-    sl: &[f64; WIDTH],
-    ch: &[f64; WIDTH],
-    cl: &[f64; WIDTH],
-    s: &mut [f64; WIDTH],
-    c: &mut [f64; WIDTH],
-)
-    ensures { λ _. ⌜ Each (now (s .exit)) (λ (j : ℕ). bothFrom (at (now (x .entry)) j) (at (now (rest .entry)) j) (record { sine = at (now (bs .entry)) j; cosine = at (now (bc .entry)) j }) (record { 0 = at (now (sh .entry)) j; 1 = at (now (sl .entry)) j; 2 = at (now (ch .entry)) j; 3 = at (now (cl .entry)) j }) .s) × Each (now (c .exit)) (λ (j : ℕ). bothFrom (at (now (x .entry)) j) (at (now (rest .entry)) j) (record { sine = at (now (bs .entry)) j; cosine = at (now (bc .entry)) j }) (record { 0 = at (now (sh .entry)) j; 1 = at (now (sl .entry)) j; 2 = at (now (ch .entry)) j; 3 = at (now (cl .entry)) j }) .c) ⌝ }
-{
-    *s = [0.0; WIDTH];
-    *c = [0.0; WIDTH];
-    let mut i = 0;
-    while i < WIDTH {
-        let q = both(x[i], rest[i], bs[i], bc[i], sh[i], sl[i], ch[i], cl[i]);
-        s[i] = q.s;
-        c[i] = q.c;
-        i += 1;
-    }
-}
-
-// One sine and cosine of a block. Each `if` chooses between two numbers that are there already, which is no branch.
-fn both(x: f64, r: f64, bs: f64, bc: f64, sh: f64, sl: f64, ch: f64, cl: f64) -> SinCos
-    ensures { λ q. ⌜ q ≡ bothFrom x r (record { sine = bs; cosine = bc }) (record { 0 = sh; 1 = sl; 2 = ch; 3 = cl }) ⌝ }
-{
-    let b = Bends {
-        sine: bs,
-        cosine: bc,
-    };
-    let s = sum(sh, sl, ch, r, b);
-    let c = sum(ch, cl, -sh, r, b);
-    SinCos {
-        s: sine_from(x, s),
-        c: cosine_from(x, c),
-    }
-}
-
-// the sine of x, where s is that of a magnitude in reach
-fn sine_from(x: f64, s: f64) -> f64
-    ensures { λ r. ⌜ r ≡ sinFrom x s ⌝ }
-{
-    if x == 0.0 {
-        return x;
-    }
-    if abs(x) <= 1024.0 {
-        signed(s, x)
-    } else {
-        0.0 / 0.0
-    }
-}
-
-// the cosine of x, where c is that of a magnitude in reach
-fn cosine_from(x: f64, c: f64) -> f64
-    ensures { λ r. ⌜ r ≡ cosFrom x c ⌝ }
-{
-    if x == 0.0 {
-        return 1.0;
-    }
-    if abs(x) <= 1024.0 { c } else { 0.0 / 0.0 }
-}
-
 // s, turned where x is below zero: the sine is odd. Of a number that is not zero this is its sign, and costs no branch.
-fn signed(s: f64, x: f64) -> f64
+pub fn signed(s: f64, x: f64) -> f64
     ensures { λ r. ⌜ r ≡ turnedOf s x ⌝ }
 {
     if x < 0.0 { -s } else { s }
@@ -211,10 +74,10 @@ fn pair(a: f64) -> SinCos
 }
 
 // An angle as a step of the circle, counted in the last six bits, a small rest, and what rounding took from the rest.
-struct Reduced {
-    step: u64,
-    rest: f64,
-    tail: f64,
+pub struct Reduced {
+    pub step: u64,
+    pub rest: f64,
+    pub tail: f64,
 }
 
 // 32/π, the steps in a radian
@@ -228,7 +91,7 @@ const STEP_2: f64 = -6.716466596861444e-14;
 
 const STEP_3: f64 = 3.9801982271943437e-26;
 
-fn reduce(a: f64) -> Reduced
+pub fn reduce(a: f64) -> Reduced
     ensures { λ r. ⌜ r ≡ reducedOf a ⌝ }
 {
     let t = a * STEPS + WHOLE;
@@ -244,9 +107,9 @@ fn reduce(a: f64) -> Reduced
 }
 
 // What the sine of the small angle has beyond its rest, and its cosine beyond 1.
-struct Bends {
-    sine: f64,
-    cosine: f64,
+pub struct Bends {
+    pub sine: f64,
+    pub cosine: f64,
 }
 
 // sin r = r + r³·(S1 + S2·r² + S3·r⁴) and cos r = 1 + r²·(C1 + C2·r² + C3·r⁴ + C4·r⁶), fitted to |r| ≤ π/64
@@ -264,7 +127,7 @@ const C3: f64 = -0.0013888888865422283;
 
 const C4: f64 = 2.4800157947443464e-5;
 
-fn bend(r: f64, tail: f64) -> Bends
+pub fn bend(r: f64, tail: f64) -> Bends
     ensures { λ b. ⌜ b ≡ bendOf r tail ⌝ }
 {
     let z = r * r;
@@ -289,17 +152,17 @@ fn clamp(r: f64) -> f64
 }
 
 // f(A + r) = f(A)·cos r + f'(A)·sin r for sine and cosine alike, summed from the smallest part to the largest
-fn sum(high: f64, low: f64, slope: f64, r: f64, b: Bends) -> f64
+pub fn sum(high: f64, low: f64, slope: f64, r: f64, b: Bends) -> f64
     ensures { λ q. ⌜ q ≡ sumOf high low slope r b ⌝ }
 {
     clamp(high + (slope * r + (slope * b.sine + (high * b.cosine + low))))
 }
 
 // Sine and cosine of a step of the circle, each as the number nearest to it and what that leaves: sine, its rest, cosine, its rest.
-struct Row(f64, f64, f64, f64);
+pub struct Row(pub f64, pub f64, pub f64, pub f64);
 
 // The row of a step: that of the step as far from 0 on the first half of the circle, the sine turned on the second half.
-fn look_up(k: u64) -> Row
+pub fn look_up(k: u64) -> Row
     ensures { λ r. ⌜ r ≡ rowOf k ⌝ }
 {
     let w = half(aside(k));

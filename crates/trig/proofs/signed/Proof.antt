@@ -1,5 +1,5 @@
 -- `trig::signed` meets its contract. Assumes nothing.
-use Rattle.trig.specs.Block.{turnedOf}
+use Rattle.trig.specs.Trig.{turnedOf}
 use Rattle.trig.proofs.signed.Statement.{statement}
 use Rattle.trig.proofs.signed.Tie as tie
 

@@ -1,7 +1,6 @@
 -- `trig::sin_cos` meets its contract: of a number that is not zero, being below zero tells the sign. Assumes nothing.
 use borrow.Author.Needs.{needs}
-use Rattle.trig.specs.Trig.{signedOf, sinOf, cosOf}
-use Rattle.trig.specs.Block.{turnedOf}
+use Rattle.trig.specs.Trig.{signedOf, turnedOf, sinOf, cosOf}
 use Rattle.floats.proofs.Nan.{zero-over-zero}
 use Rattle.floats.proofs.Zero.{sign-of-other}
 use Rattle.trig.proofs.sin_cos.Statement.{statement}

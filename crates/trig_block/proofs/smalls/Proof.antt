@@ -1,15 +1,15 @@
--- `trig::smalls` meets its contract. Assumes nothing.
+-- `trig_block::smalls` meets its contract. Assumes nothing.
 use Prim.Native.Nat.{ℕ, _-_}
 use borrow.Author.Needs.{needs}
 use mathlib.Core.Path.{refl, ap, _∙_}
 use Rattle.blocks.specs.Each.{at, UpTo, WholeUpTo}
 use Rattle.blocks.proofs.Laws.{none-filled, one-more, all-filled, none-filled-whole, one-more-whole, all-filled-whole}
 use Rattle.trig.specs.declared.Reduced.{Reduced}
 use Rattle.trig.specs.declared.Bends.{Bends}
 use Rattle.trig.specs.Trig.{reducedOf, bendOf}
-use Rattle.trig.specs.Block.{stepOf, restOf, bendsOf}
-use Rattle.trig.proofs.smalls.Statement.{statement}
-use Rattle.trig.proofs.smalls.Tie as tie
+use Rattle.trig_block.specs.Block.{stepOf, restOf, bendsOf}
+use Rattle.trig_block.proofs.smalls.Statement.{statement}
+use Rattle.trig_block.proofs.smalls.Tie as tie
 
 abbrev Inv-loop : tie.InvT-loop
 Inv-loop x step₀ rest₀ bs₀ bc₀ i₀ step rest bs bc i =

@@ -1,11 +1,11 @@
--- `trig::sin_cos_block` meets its contract: place by place, what the three loops reach is the pair. Assumes nothing.
+-- `trig_block::sin_cos_block` meets its contract: place by place, what the three loops reach is the pair. Assumes nothing.
 use borrow.Author.Needs.{needs}
 use mathlib.Core.Path.{ap}
 use Rattle.blocks.proofs.Laws.{told}
 use Rattle.trig.specs.declared.SinCos.{SinCos}
-use Rattle.trig.proofs.Joined.{joined}
-use Rattle.trig.proofs.sin_cos_block.Statement.{statement}
-use Rattle.trig.proofs.sin_cos_block.Tie as tie
+use Rattle.trig_block.proofs.Joined.{joined}
+use Rattle.trig_block.proofs.sin_cos_block.Statement.{statement}
+use Rattle.trig_block.proofs.sin_cos_block.Tie as tie
 
 smalls-requires : tie.Need-smalls-requires
 smalls-requires c κs = search needs

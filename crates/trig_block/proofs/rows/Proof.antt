@@ -1,13 +1,13 @@
--- `trig::rows` meets its contract. Assumes nothing.
+-- `trig_block::rows` meets its contract. Assumes nothing.
 use Prim.Native.Nat.{ℕ, _-_}
 use borrow.Author.Needs.{needs}
 use mathlib.Core.Path.{refl, ap}
 use Rattle.blocks.specs.Each.{wholeAt, UpTo}
 use Rattle.blocks.proofs.Laws.{none-filled, one-more, all-filled}
 use Rattle.trig.specs.declared.Row.{Row}
 use Rattle.trig.specs.Table.{rowOf}
-use Rattle.trig.proofs.rows.Statement.{statement}
-use Rattle.trig.proofs.rows.Tie as tie
+use Rattle.trig_block.proofs.rows.Statement.{statement}
+use Rattle.trig_block.proofs.rows.Tie as tie
 
 abbrev Inv-loop : tie.InvT-loop
 Inv-loop step sh₀ sl₀ ch₀ cl₀ i₀ sh sl ch cl i =

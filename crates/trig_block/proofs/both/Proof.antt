@@ -1,7 +1,7 @@
--- `trig::both` meets its contract. Assumes nothing.
+-- `trig_block::both` meets its contract. Assumes nothing.
 use borrow.Author.Needs.{needs}
-use Rattle.trig.proofs.both.Statement.{statement}
-use Rattle.trig.proofs.both.Tie as tie
+use Rattle.trig_block.proofs.both.Statement.{statement}
+use Rattle.trig_block.proofs.both.Tie as tie
 
 sum-requires : tie.Need-sum-requires
 sum-requires c κs = search needs

@@ -1,9 +1,9 @@
--- `trig::cosine_from` meets its contract. Assumes nothing.
+-- `trig_block::cosine_from` meets its contract. Assumes nothing.
 use borrow.Author.Needs.{needs}
-use Rattle.trig.specs.Block.{cosFrom}
+use Rattle.trig_block.specs.Block.{cosFrom}
 use Rattle.floats.proofs.Nan.{zero-over-zero}
-use Rattle.trig.proofs.cosine_from.Statement.{statement}
-use Rattle.trig.proofs.cosine_from.Tie as tie
+use Rattle.trig_block.proofs.cosine_from.Statement.{statement}
+use Rattle.trig_block.proofs.cosine_from.Tie as tie
 
 returns : tie.Need-returns
 unfolding cosFrom

@@ -2,9 +2,9 @@
 use Prim.Native.Nat.{ℕ}
 use mathlib.Core.Path.{_≡_}
 use lib.Ieee.{Float}
 use Rattle.trig.specs.Table.{rowOf}
 use Rattle.trig.specs.Trig.{sineOf, cosineOf, sinOf, cosOf, sinCosOf}
-use Rattle.trig.specs.Block.{stepOf, restOf, bendsOf, sinFrom, cosFrom, bothFrom}
+use Rattle.trig_block.specs.Block.{stepOf, restOf, bendsOf, sinFrom, cosFrom, bothFrom}
 
 pub joined :
     (x : Float) {k : ℕ} {r bs bc sh sl ch cl : Float} →

@@ -1,13 +1,13 @@
--- `trig::sums` meets its contract. Assumes nothing.
+-- `trig_block::sums` meets its contract. Assumes nothing.
 use Prim.Native.Nat.{ℕ, _-_}
 use borrow.Author.Needs.{needs}
 use mathlib.Core.Path.{refl, ap}
 use Rattle.blocks.specs.Each.{at, UpTo}
 use Rattle.blocks.proofs.Laws.{none-filled, one-more, all-filled}
 use Rattle.trig.specs.declared.SinCos.{SinCos}
-use Rattle.trig.specs.Block.{bothFrom}
-use Rattle.trig.proofs.sums.Statement.{statement}
-use Rattle.trig.proofs.sums.Tie as tie
+use Rattle.trig_block.specs.Block.{bothFrom}
+use Rattle.trig_block.proofs.sums.Statement.{statement}
+use Rattle.trig_block.proofs.sums.Tie as tie
 
 abbrev Inv-loop : tie.InvT-loop
 Inv-loop x rest bs bc sh sl ch cl s₀ c₀ i₀ s c i =

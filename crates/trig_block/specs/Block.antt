@@ -1,12 +1,12 @@
 -- What the loops over a block hand to one another: the parts of a sine and a cosine, as functions of the angle, and how they are joined.
 use Prim.Native.Nat.{ℕ}
 use mathlib.Core.Bool.{cond}
-use lib.Ieee.{Float, nan, neg, eq, lt, le}
+use lib.Ieee.{Float, nan, neg, eq, le}
 use Rattle.floats.specs.Number.{absOf}
 use Rattle.trig.specs.declared.SinCos.{SinCos}
 use Rattle.trig.specs.declared.Row.{Row}
 use Rattle.trig.specs.declared.Bends.{Bends}
 use Rattle.trig.specs.Trig.{zero, one, reach, reducedOf, bendOf, sumOf, signedOf}
 
 -- step, rest and bends of an angle's magnitude
 abbrev pub stepOf : Float → ℕ
@@ -17,10 +17,6 @@ restOf x = reducedOf (absOf x) .rest
 
 abbrev pub bendsOf : Float → Bends
 bendsOf x = bendOf (restOf x) (reducedOf (absOf x) .tail)
-
--- s, turned where x is below zero
-unfoldable pub turnedOf : Float → Float → Float
-turnedOf s x = cond (lt x zero) (neg s) s
 
 -- the sine of x from s, that of |x|
 unfoldable pub sinFrom : Float → Float → Float

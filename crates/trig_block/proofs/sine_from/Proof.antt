@@ -1,11 +1,11 @@
--- `trig::sine_from` meets its contract: of a number that is not zero, being below zero tells the sign. Assumes nothing.
+-- `trig_block::sine_from` meets its contract: of a number that is not zero, being below zero tells the sign. Assumes nothing.
 use borrow.Author.Needs.{needs}
-use Rattle.trig.specs.Trig.{signedOf}
-use Rattle.trig.specs.Block.{turnedOf, sinFrom}
+use Rattle.trig.specs.Trig.{signedOf, turnedOf}
+use Rattle.trig_block.specs.Block.{sinFrom}
 use Rattle.floats.proofs.Nan.{zero-over-zero}
 use Rattle.floats.proofs.Zero.{sign-of-other}
-use Rattle.trig.proofs.sine_from.Statement.{statement}
-use Rattle.trig.proofs.sine_from.Tie as tie
+use Rattle.trig_block.proofs.sine_from.Statement.{statement}
+use Rattle.trig_block.proofs.sine_from.Tie as tie
 
 returns : tie.Need-returns
 unfolding sinFrom

@@ -1,0 +1,2 @@
+-- What the contracts of `trig_block` cite.
+pub mod Block
