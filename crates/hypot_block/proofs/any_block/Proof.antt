@@ -1,12 +1,12 @@
--- `hypot::any_block` meets its contract. Assumes nothing.
+-- `hypot_block::any_block` meets its contract. Assumes nothing.
 use Prim.Native.Nat.{ℕ, _-_}
 use borrow.Author.Needs.{needs}
 use mathlib.Core.Path.{refl}
 use Rattle.blocks.specs.Each.{at, UpTo}
 use Rattle.blocks.proofs.Laws.{none-filled, one-more, all-filled}
 use Rattle.hypot.specs.Hypot.{hypotOf}
-use Rattle.hypot.proofs.any_block.Statement.{statement}
-use Rattle.hypot.proofs.any_block.Tie as tie
+use Rattle.hypot_block.proofs.any_block.Statement.{statement}
+use Rattle.hypot_block.proofs.any_block.Tie as tie
 
 abbrev Inv-loop : tie.InvT-loop
 Inv-loop x y r₀ i₀ r i = UpTo i r (λ (j : ℕ). hypotOf (at x j) (at y j))
