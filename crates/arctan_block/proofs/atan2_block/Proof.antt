@@ -1,8 +1,8 @@
--- `arctan::atan2_block` meets its contract: by either way each angle is `atan2`'s. Assumes nothing.
+-- `arctan_block::atan2_block` meets its contract: by either way each angle is `atan2`'s. Assumes nothing.
 use borrow.Author.Needs.{needs}
-use Rattle.arctan.proofs.Blocks.{block-angles}
-use Rattle.arctan.proofs.atan2_block.Statement.{statement}
-use Rattle.arctan.proofs.atan2_block.Tie as tie
+use Rattle.arctan_block.proofs.Blocks.{block-angles}
+use Rattle.arctan_block.proofs.atan2_block.Statement.{statement}
+use Rattle.arctan_block.proofs.atan2_block.Tie as tie
 
 sizes-requires : tie.Need-sizes-requires
 sizes-requires c κs = search needs

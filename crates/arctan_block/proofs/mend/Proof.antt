@@ -1,12 +1,12 @@
--- `arctan::mend` meets its contract. Assumes nothing.
+-- `arctan_block::mend` meets its contract. Assumes nothing.
 use borrow.Author.Needs.{needs}
 use Prim.Native.Nat.{ℕ, _-_}
 use mathlib.Core.Path.{_∙_}
 use Rattle.blocks.proofs.Laws.{all-filled}
-use Rattle.arctan.specs.Block.{mendedAt}
-use Rattle.arctan.proofs.Blocks.{MendedUpTo, none-mended, one-more-mended}
-use Rattle.arctan.proofs.mend.Statement.{statement}
-use Rattle.arctan.proofs.mend.Tie as tie
+use Rattle.arctan_block.specs.Block.{mendedAt}
+use Rattle.arctan_block.proofs.Blocks.{MendedUpTo, none-mended, one-more-mended}
+use Rattle.arctan_block.proofs.mend.Statement.{statement}
+use Rattle.arctan_block.proofs.mend.Tie as tie
 
 abbrev Inv-loop : tie.InvT-loop
 Inv-loop y x quarters octants r₀ i₀ r i = MendedUpTo i r₀ r (λ (j : ℕ). mendedAt y x quarters octants r₀ j)

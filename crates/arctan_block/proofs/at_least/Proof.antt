@@ -1,6 +1,6 @@
--- `arctan::at_least` meets its contract. Assumes nothing.
-use Rattle.arctan.proofs.at_least.Statement.{statement}
-use Rattle.arctan.proofs.at_least.Tie as tie
+-- `arctan_block::at_least` meets its contract. Assumes nothing.
+use Rattle.arctan_block.proofs.at_least.Statement.{statement}
+use Rattle.arctan_block.proofs.at_least.Tie as tie
 
 returns : tie.Need-returns
 returns c = rw (c .if1 .taken)

@@ -1,14 +1,13 @@
--- `arctan::sized` meets its contract. Assumes nothing.
+-- `arctan_block::sized` meets its contract. Assumes nothing.
 use borrow.Author.Needs.{needs}
-use Prim.Native.Nat.{_<_}
 use mathlib.Core.Path.{sym, subst, _∙_, refl}
 use mathlib.Core.Bool.{not}
 use lib.Dec.{T}
 use lib.Ieee.{Float, isNan}
-use Rattle.arctan.specs.Block.{heldLarger, heldSmaller, octantOf}
-use Rattle.arctan.proofs.Blocks.{at-most-is-a-number, at-least-is-a-number, sized-point}
-use Rattle.arctan.proofs.sized.Statement.{statement}
-use Rattle.arctan.proofs.sized.Tie as tie
+use Rattle.arctan_block.specs.Block.{heldLarger, heldSmaller, octantOf}
+use Rattle.arctan_block.proofs.Blocks.{at-most-is-a-number, at-least-is-a-number, sized-point}
+use Rattle.arctan_block.proofs.sized.Statement.{statement}
+use Rattle.arctan_block.proofs.sized.Tie as tie
 
 abs-requires : tie.Need-abs-requires
 abs-requires c κs = search needs

@@ -1,6 +1,6 @@
--- `arctan::at_most` meets its contract. Assumes nothing.
-use Rattle.arctan.proofs.at_most.Statement.{statement}
-use Rattle.arctan.proofs.at_most.Tie as tie
+-- `arctan_block::at_most` meets its contract. Assumes nothing.
+use Rattle.arctan_block.proofs.at_most.Statement.{statement}
+use Rattle.arctan_block.proofs.at_most.Tie as tie
 
 returns : tie.Need-returns
 returns c = rw (c .if1 .taken)

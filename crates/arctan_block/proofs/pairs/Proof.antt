@@ -1,14 +1,13 @@
--- `arctan::pairs` meets its contract. Assumes nothing.
+-- `arctan_block::pairs` meets its contract. Assumes nothing.
 use borrow.Author.Needs.{needs}
 use Prim.Native.Nat.{ℕ, _-_, _*_}
-use native.Mathlib.Omega.{arith}
 use mathlib.Core.Path.{refl}
 use Rattle.blocks.specs.Each.{UpTo}
 use Rattle.blocks.proofs.Laws.{none-filled, all-filled}
-use Rattle.arctan.specs.Block.{quickAt}
-use Rattle.arctan.proofs.Blocks.{two-more}
-use Rattle.arctan.proofs.pairs.Statement.{statement}
-use Rattle.arctan.proofs.pairs.Tie as tie
+use Rattle.arctan_block.specs.Block.{quickAt}
+use Rattle.arctan_block.proofs.Blocks.{two-more}
+use Rattle.arctan_block.proofs.pairs.Statement.{statement}
+use Rattle.arctan_block.proofs.pairs.Tie as tie
 
 abbrev Inv-loop : tie.InvT-loop
 Inv-loop y larger smaller quarters octants r₀ h₀ r h = UpTo (2 * h) r (λ (j : ℕ). quickAt y larger smaller quarters octants j)

@@ -1,8 +1,8 @@
--- `arctan::difference` meets its contract. Assumes nothing.
+-- `arctan_block::difference` meets its contract. Assumes nothing.
 use borrow.Author.Needs.{needs}
 use borrow.Author.Tests.{le-leb, lt-leb}
-use Rattle.arctan.proofs.difference.Statement.{statement}
-use Rattle.arctan.proofs.difference.Tie as tie
+use Rattle.arctan_block.proofs.difference.Statement.{statement}
+use Rattle.arctan_block.proofs.difference.Tie as tie
 
 sub-result : tie.Need-sub-result
 sub-result c = search needs

@@ -1,12 +1,12 @@
--- `arctan::sizes` meets its contract. Assumes nothing.
+-- `arctan_block::sizes` meets its contract. Assumes nothing.
 use borrow.Author.Needs.{needs}
-use Prim.Native.Nat.{_-_, _+_, _≤_}
+use Prim.Native.Nat.{_-_, _≤_}
 use native.Mathlib.Omega.{arith}
 use mathlib.Core.Path.{refl}
-use Rattle.arctan.specs.Block.{SizedUpTo}
-use Rattle.arctan.proofs.Blocks.{none-sized, one-more-sized, all-sized}
-use Rattle.arctan.proofs.sizes.Statement.{statement}
-use Rattle.arctan.proofs.sizes.Tie as tie
+use Rattle.arctan_block.specs.Block.{SizedUpTo}
+use Rattle.arctan_block.proofs.Blocks.{none-sized, one-more-sized, all-sized}
+use Rattle.arctan_block.proofs.sizes.Statement.{statement}
+use Rattle.arctan_block.proofs.sizes.Tie as tie
 
 abbrev Inv-loop : tie.InvT-loop
 Inv-loop y x larger₀ smaller₀ quarters₀ octants₀ n₀ i₀ larger smaller quarters octants n i = SizedUpTo i y x larger smaller quarters octants n × (i ≤ 16)

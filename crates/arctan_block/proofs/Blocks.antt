@@ -1,28 +1,28 @@
 -- A block of points: when the rows of the tables give a point's angle, and the loop that tells so of all. Assumes nothing.
 use Prim.Native.Nat.{ℕ, zero, suc, _+_, _-_, _*_, _/_, _%_, _<_, _≤_, min}
-use native.Mathlib.Nat.{not-suc-le-zero, eq-or-lt-of-le, lt-of-lt-of-le, le-trans, le-div-iff-mul-le, div-lt-iff-lt-mul, zero-lt-suc, lt-irrefl, le-refl, le-of-suc-le-suc}
+use native.Mathlib.Nat.{not-suc-le-zero, eq-or-lt-of-le, lt-of-lt-of-le, le-div-iff-mul-le, div-lt-iff-lt-mul, zero-lt-suc, lt-irrefl, le-refl, le-of-suc-le-suc}
 use native.Mathlib.Omega.{arith}
 use mathlib.Core.Path.{_≡_, refl, ap, _∙_, sym, subst}
 use mathlib.Core.Logic.{_⊎_, inl, inr}
 use mathlib.Core.Bool.{Bool, true, false, cond, not, _&&_, true≢false}
 use mathlib.Core.List.{List, [], _∷_}
-use lib.Dec.{T, leb, ltb, eqb}
+use lib.Dec.{T, leb, ltb}
 use lib.ListN.{set, length}
 use lib.Ieee.{Float, nan, inf, fin, binary64, fits, toBits, isNan, neg, lt, ofBits}
 use lib.Ieee.Fits.{neg-fits}
-use borrow.Author.Tests.{leb-true, leb-false, ltb-false, ne-eqb, le-leb, lt-leb}
+use borrow.Author.Tests.{leb-false, ltb-false, ne-eqb}
 use Rattle.floats.specs.Binary64.{bits}
 use Rattle.floats.specs.Number.{signOf, absOf}
 use Rattle.floats.proofs.Values.{sign-is-the-highest-bit}
 use Rattle.floats.proofs.Laws.{abs-is-not-negative}
 use Rattle.blocks.specs.Each.{at, wholeAt, UpTo, Each}
-use Rattle.blocks.proofs.Laws.{none-filled, one-more, all-filled, none-filled-whole, one-more-whole, all-filled-whole, told}
+use Rattle.blocks.proofs.Laws.{none-filled, one-more, none-filled-whole, one-more-whole, told}
 use Rattle.arctan.specs.declared.Octant.{Octant}
-use Rattle.arctan.specs.declared.Point.{Point}
+use Rattle.arctan_block.specs.declared.Point.{Point}
 use Rattle.arctan.specs.Table.{cellAt, octantAt, octants}
 use Rattle.arctan.specs.Arctan.{small, moderate, cellIndexOf, octantIndexOf, cutAngleOf, quotientAngleOf, smallAngleOf, withinOf, signed, atan2Of}
-use Rattle.arctan.specs.Block.{atMost, atLeast, differenceOf, largerOf, smallerOf, heldLarger, heldSmaller, quartersOf, octantOf, Usual, SizedPoint, SizedUpTo, quickOf, quickAt, mendedOf, mendedAt}
+use Rattle.arctan_block.specs.Block.{atMost, atLeast, differenceOf, largerOf, smallerOf, heldLarger, heldSmaller, quartersOf, octantOf, Usual, SizedPoint, SizedUpTo, quickOf, quickAt, mendedOf, mendedAt}
 use Rattle.arctan.proofs.Parts.{usual-point}
 
 abbrev most : Float
 most = bits 0x6bb0_0000_0000_0000

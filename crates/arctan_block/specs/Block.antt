@@ -1,18 +1,18 @@
 -- What the loops over a block of points tell one another.
 use Prim.Native.Nat.{ℕ, _+_, _-_, _*_, _/_, _%_, _<_, _≤_, min}
 use mathlib.Core.Path.{_≡_}
-use mathlib.Core.Bool.{Bool, true, cond}
+use mathlib.Core.Bool.{true, cond}
 use mathlib.Core.List.{List}
 use lib.Dec.{leb, ltb}
 use lib.Ieee.{Float, binary64, toBits, lt}
 use Rattle.floats.specs.Binary64.{bits}
 use Rattle.floats.specs.Number.{absOf}
 use Rattle.blocks.specs.Each.{at, wholeAt, UpTo, WholeUpTo}
 use Rattle.arctan.specs.declared.Cell.{Cell}
 use Rattle.arctan.specs.declared.Octant.{Octant}
-use Rattle.arctan.specs.declared.Point.{Point}
+use Rattle.arctan_block.specs.declared.Point.{Point}
 use Rattle.arctan.specs.Table.{cellAt, octantAt}
 use Rattle.arctan.specs.Arctan.{zero, moderate, cellIndexOf, octantIndexOf, cutAngleOf, signed, atan2Of}
 
 abbrev pub atMost : Float → Float → Float
 atMost v m = cond (lt v m) v m

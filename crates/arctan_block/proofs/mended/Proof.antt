@@ -1,8 +1,8 @@
--- `arctan::mended` meets its contract. Assumes nothing.
+-- `arctan_block::mended` meets its contract. Assumes nothing.
 use borrow.Author.Needs.{needs}
 use borrow.Author.Tests.{lt-ltb, le-ltb}
-use Rattle.arctan.proofs.mended.Statement.{statement}
-use Rattle.arctan.proofs.mended.Tie as tie
+use Rattle.arctan_block.proofs.mended.Statement.{statement}
+use Rattle.arctan_block.proofs.mended.Tie as tie
 
 atan2-requires : tie.Need-atan2-requires
 atan2-requires c κs = search needs

@@ -1,8 +1,8 @@
--- `arctan::quick` meets its contract. Assumes nothing.
+-- `arctan_block::quick` meets its contract. Assumes nothing.
 use borrow.Author.Needs.{needs}
-use Rattle.arctan.specs.Block.{quickOf}
-use Rattle.arctan.proofs.quick.Statement.{statement}
-use Rattle.arctan.proofs.quick.Tie as tie
+use Rattle.arctan_block.specs.Block.{quickOf}
+use Rattle.arctan_block.proofs.quick.Statement.{statement}
+use Rattle.arctan_block.proofs.quick.Tie as tie
 
 cut-angle-requires : tie.Need-cut-angle-requires
 cut-angle-requires c κs = search needs

@@ -1,12 +1,12 @@
--- `arctan::any_block` meets its contract. Assumes nothing.
+-- `arctan_block::any_block` meets its contract. Assumes nothing.
 use Prim.Native.Nat.{ℕ, _-_}
 use borrow.Author.Needs.{needs}
 use mathlib.Core.Path.{refl}
 use Rattle.blocks.specs.Each.{at, UpTo}
 use Rattle.blocks.proofs.Laws.{none-filled, one-more, all-filled}
 use Rattle.arctan.specs.Arctan.{atan2Of}
-use Rattle.arctan.proofs.any_block.Statement.{statement}
-use Rattle.arctan.proofs.any_block.Tie as tie
+use Rattle.arctan_block.proofs.any_block.Statement.{statement}
+use Rattle.arctan_block.proofs.any_block.Tie as tie
 
 abbrev Inv-loop : tie.InvT-loop
 Inv-loop y x r₀ i₀ r i = UpTo i r (λ (j : ℕ). atan2Of (at y j) (at x j))
