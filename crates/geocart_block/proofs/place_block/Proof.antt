@@ -1,10 +1,9 @@
--- `geocart::place_block` meets its contract. Assumes nothing.
+-- `geocart_block::place_block` meets its contract. Assumes nothing.
 use Rattle.blocks.proofs.Laws.{told}
-use Rattle.geocart.proofs.Parts.{longitude-is, latitude-is}
+use Rattle.geocart_block.proofs.Parts.{longitude-is, latitude-is}
 use borrow.Author.Needs.{needs}
-use borrow.Author.Needs.{needs}
-use Rattle.geocart.proofs.place_block.Statement.{statement}
-use Rattle.geocart.proofs.place_block.Tie as tie
+use Rattle.geocart_block.proofs.place_block.Statement.{statement}
+use Rattle.geocart_block.proofs.place_block.Tie as tie
 
 atan2-block-requires : tie.Need-atan2-block-requires
 atan2-block-requires c κs = search needs

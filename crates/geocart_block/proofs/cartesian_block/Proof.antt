@@ -1,12 +1,11 @@
--- `geocart::cartesian_block` meets its contract. Assumes nothing.
+-- `geocart_block::cartesian_block` meets its contract. Assumes nothing.
 use mathlib.Core.Path.{ap}
 use Rattle.blocks.proofs.Laws.{told}
-use Rattle.geocart.specs.declared.Point.{Point}
-use Rattle.geocart.proofs.Parts.{point-is}
+use Rattle.geocart_block.specs.declared.Point.{Point}
+use Rattle.geocart_block.proofs.Parts.{point-is}
 use borrow.Author.Needs.{needs}
-use borrow.Author.Needs.{needs}
-use Rattle.geocart.proofs.cartesian_block.Statement.{statement}
-use Rattle.geocart.proofs.cartesian_block.Tie as tie
+use Rattle.geocart_block.proofs.cartesian_block.Statement.{statement}
+use Rattle.geocart_block.proofs.cartesian_block.Tie as tie
 
 sin-cos-block-requires : tie.Need-sin-cos-block-requires
 sin-cos-block-requires c κs = search needs

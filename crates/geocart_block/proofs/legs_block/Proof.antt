@@ -1,13 +1,13 @@
--- `geocart::legs_block` meets its contract. Assumes nothing.
+-- `geocart_block::legs_block` meets its contract. Assumes nothing.
 use Prim.Native.Nat.{ℕ, _-_}
 use mathlib.Core.Path.{refl, ap}
 use Rattle.blocks.specs.Each.{at, UpTo}
 use Rattle.blocks.proofs.Laws.{none-filled, one-more, all-filled}
 use Rattle.geocart.specs.declared.Legs.{Legs}
-use Rattle.geocart.specs.Blocks.{legsOf}
+use Rattle.geocart_block.specs.Blocks.{legsOf}
 use borrow.Author.Needs.{needs}
-use Rattle.geocart.proofs.legs_block.Statement.{statement}
-use Rattle.geocart.proofs.legs_block.Tie as tie
+use Rattle.geocart_block.proofs.legs_block.Statement.{statement}
+use Rattle.geocart_block.proofs.legs_block.Tie as tie
 
 abbrev Inv-loop : tie.InvT-loop
 Inv-loop ellps p z t root num₀ denom₀ i₀ num denom i =

@@ -1,8 +1,7 @@
--- `geocart::latitude` meets its contract. Assumes nothing.
+-- `geocart_block::latitude` meets its contract. Assumes nothing.
 use borrow.Author.Needs.{needs}
-use borrow.Author.Needs.{needs}
-use Rattle.geocart.proofs.latitude.Statement.{statement}
-use Rattle.geocart.proofs.latitude.Tie as tie
+use Rattle.geocart_block.proofs.latitude.Statement.{statement}
+use Rattle.geocart_block.proofs.latitude.Tie as tie
 
 pole-requires : tie.Need-pole-requires
 pole-requires c κs = search needs

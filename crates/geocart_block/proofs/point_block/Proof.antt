@@ -1,13 +1,13 @@
--- `geocart::point_block` meets its contract. Assumes nothing.
+-- `geocart_block::point_block` meets its contract. Assumes nothing.
 use Prim.Native.Nat.{ℕ, _-_}
 use mathlib.Core.Path.{refl, ap}
 use Rattle.blocks.specs.Each.{at, UpTo}
 use Rattle.blocks.proofs.Laws.{none-filled, one-more, all-filled}
-use Rattle.geocart.specs.declared.Point.{Point}
-use Rattle.geocart.specs.Blocks.{pointOf}
+use Rattle.geocart_block.specs.declared.Point.{Point}
+use Rattle.geocart_block.specs.Blocks.{pointOf}
 use borrow.Author.Needs.{needs}
-use Rattle.geocart.proofs.point_block.Statement.{statement}
-use Rattle.geocart.proofs.point_block.Tie as tie
+use Rattle.geocart_block.proofs.point_block.Statement.{statement}
+use Rattle.geocart_block.proofs.point_block.Tie as tie
 
 abbrev Inv-loop : tie.InvT-loop
 Inv-loop ellps rootw h sinphi cosphi sinlam coslam x₀ y₀ z₀ i₀ x y z i =

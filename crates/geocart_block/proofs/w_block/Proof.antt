@@ -1,12 +1,12 @@
--- `geocart::w_block` meets its contract. Assumes nothing.
+-- `geocart_block::w_block` meets its contract. Assumes nothing.
 use Prim.Native.Nat.{ℕ, _-_}
-use mathlib.Core.Path.{refl, ap}
+use mathlib.Core.Path.{refl}
 use Rattle.blocks.specs.Each.{at, UpTo}
 use Rattle.blocks.proofs.Laws.{none-filled, one-more, all-filled}
 use Rattle.ellipsoid.specs.Figure.{wOf}
 use borrow.Author.Needs.{needs}
-use Rattle.geocart.proofs.w_block.Statement.{statement}
-use Rattle.geocart.proofs.w_block.Tie as tie
+use Rattle.geocart_block.proofs.w_block.Statement.{statement}
+use Rattle.geocart_block.proofs.w_block.Tie as tie
 
 abbrev Inv-loop : tie.InvT-loop
 Inv-loop ellps sinphi w₀ i₀ w i =

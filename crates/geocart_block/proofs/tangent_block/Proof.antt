@@ -1,4 +1,4 @@
--- `geocart::tangent_block` meets its contract. Assumes nothing.
+-- `geocart_block::tangent_block` meets its contract. Assumes nothing.
 use Prim.Native.Nat.{ℕ, _-_}
 use mathlib.Core.Path.{refl, ap}
 use Rattle.blocks.specs.Each.{at, UpTo}
@@ -6,10 +6,10 @@ use Rattle.blocks.proofs.Laws.{none-filled, one-more, all-filled}
 use lib.Ieee.{Float}
 use Rattle.floats.specs.Binary64.{_⊕_, _⊗_}
 use Rattle.ellipsoid.specs.Figure.{one}
-use Rattle.geocart.specs.Blocks.{tangentOf}
+use Rattle.geocart_block.specs.Blocks.{tangentOf}
 use borrow.Author.Needs.{needs}
-use Rattle.geocart.proofs.tangent_block.Statement.{statement}
-use Rattle.geocart.proofs.tangent_block.Tie as tie
+use Rattle.geocart_block.proofs.tangent_block.Statement.{statement}
+use Rattle.geocart_block.proofs.tangent_block.Tie as tie
 
 abbrev Inv-loop : tie.InvT-loop
 Inv-loop ellps p z t₀ u₀ i₀ t u i =

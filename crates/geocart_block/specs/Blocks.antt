@@ -5,9 +5,9 @@ use Rattle.floats.specs.Binary64.{_⊕_, _⊖_, _⊗_, _⊘_}
 use Rattle.floats.specs.Number.{cubeOf}
 use Rattle.ellipsoid.specs.declared.Ellipsoid.{Ellipsoid}
 use Rattle.ellipsoid.specs.Figure.{one}
 use Rattle.geocart.specs.declared.Legs.{Legs}
-use Rattle.geocart.specs.declared.Point.{Point}
+use Rattle.geocart_block.specs.declared.Point.{Point}
 use Rattle.geocart.specs.Geocart.{poleOf}
 
 -- the point at a height h, from √w, where N = a/√w, and from the sines and cosines of latitude and longitude
 unfoldable pub pointOf : Ellipsoid → Float → Float → Float → Float → Float → Float → Point

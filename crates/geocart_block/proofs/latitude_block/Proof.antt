@@ -1,12 +1,12 @@
--- `geocart::latitude_block` meets its contract. Assumes nothing.
+-- `geocart_block::latitude_block` meets its contract. Assumes nothing.
 use Prim.Native.Nat.{ℕ, _-_}
-use mathlib.Core.Path.{refl, ap}
+use mathlib.Core.Path.{refl}
 use Rattle.blocks.specs.Each.{at, UpTo}
 use Rattle.blocks.proofs.Laws.{none-filled, one-more, all-filled}
-use Rattle.geocart.specs.Blocks.{latitudeOf}
+use Rattle.geocart_block.specs.Blocks.{latitudeOf}
 use borrow.Author.Needs.{needs}
-use Rattle.geocart.proofs.latitude_block.Statement.{statement}
-use Rattle.geocart.proofs.latitude_block.Tie as tie
+use Rattle.geocart_block.proofs.latitude_block.Statement.{statement}
+use Rattle.geocart_block.proofs.latitude_block.Tie as tie
 
 abbrev Inv-loop : tie.InvT-loop
 Inv-loop cutoff p z phi r₀ i₀ r i =

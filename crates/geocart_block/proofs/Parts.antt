@@ -10,10 +10,9 @@ use Rattle.hypot.specs.Hypot.{hypotOf}
 use Rattle.tuple.specs.declared.Tuple.{Tuple}
 use Rattle.ellipsoid.specs.declared.Ellipsoid.{Ellipsoid}
 use Rattle.ellipsoid.specs.Figure.{one, wOf, primeVerticalOf}
-use Rattle.geocart.specs.declared.Legs.{Legs}
-use Rattle.geocart.specs.declared.Point.{Point}
-use Rattle.geocart.specs.Geocart.{cutoff, poleOf, cartesianOf, bowringOf, geographicOf}
-use Rattle.geocart.specs.Blocks.{pointOf, tangentOf, legsOf, latitudeOf}
+use Rattle.geocart_block.specs.declared.Point.{Point}
+use Rattle.geocart.specs.Geocart.{cutoff, cartesianOf, bowringOf, geographicOf}
+use Rattle.geocart_block.specs.Blocks.{pointOf, tangentOf, legsOf, latitudeOf}
 
 -- a function of what is taken is taken of the function's values
 pub through : {A B : Type 0} (g : A → B) (b : Bool) (u w : A) → g (cond b u w) ≡ cond b (g u) (g w)

@@ -1,12 +1,11 @@
--- `geocart::bowring_block` meets its contract. Assumes nothing.
+-- `geocart_block::bowring_block` meets its contract. Assumes nothing.
 use mathlib.Core.Path.{ap}
 use Rattle.blocks.proofs.Laws.{told}
 use Rattle.geocart.specs.declared.Legs.{Legs}
-use Rattle.geocart.proofs.Parts.{legs-are}
+use Rattle.geocart_block.proofs.Parts.{legs-are}
 use borrow.Author.Needs.{needs}
-use borrow.Author.Needs.{needs}
-use Rattle.geocart.proofs.bowring_block.Statement.{statement}
-use Rattle.geocart.proofs.bowring_block.Tie as tie
+use Rattle.geocart_block.proofs.bowring_block.Statement.{statement}
+use Rattle.geocart_block.proofs.bowring_block.Tie as tie
 
 tangent-block-requires : tie.Need-tangent-block-requires
 tangent-block-requires c κs = search needs
