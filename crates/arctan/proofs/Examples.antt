@@ -1,11 +1,10 @@
 -- Known angles, evaluated from the definition. Assumes nothing.
 use mathlib.Core.Path.{_≡_, refl}
-use mathlib.Core.Bool.{true, false}
-use lib.Ieee.{nan, ofBits, toBits, isNan, neg, add, sub, mul, div, lt, le, eq, round, size}
+use lib.Ieee.{ofBits, toBits, isNan, neg, add, sub, mul, div, lt, le, eq, round, size}
 use Rattle.floats.specs.Binary64.{bits}
 use Rattle.floats.specs.Number.{signOf}
-use Rattle.arctan.specs.Table.{quarterPi, halfPi, threeQuarterPi, pi, cells, cellAt, octants, octantAt}
-use Rattle.arctan.specs.Arctan.{tailOf, headOf, smallAngleOf, cutAngleOf, cellIndexOf, small, quotientAngleOf, moderate, scaleOf, extremeAngleOf, withinOf, octantIndexOf, insideOf, alongOf, diagonalOf, angleOf, atan2Of}
+use Rattle.arctan.specs.Table.{quarterPi, threeQuarterPi, pi, cells, cellAt, octants, octantAt}
+use Rattle.arctan.specs.Arctan.{tailOf, headOf, smallAngleOf, cutAngleOf, cellIndexOf, small, quotientAngleOf, moderate, scaleOf, extremeAngleOf, withinOf, octantIndexOf, insideOf, alongOf, angleOf, atan2Of}
 
 -- atan2 (1, 1) = π/4
 one-one : atan2Of (bits 0x3ff0_0000_0000_0000) (bits 0x3ff0_0000_0000_0000) ≡ quarterPi

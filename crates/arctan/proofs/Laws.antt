@@ -1,21 +1,21 @@
 -- What is true of `atan2Of` for every two numbers, for callers to cite: IEEE 754's cases, each by its name. Assumes nothing.
 use mathlib.Core.Path.{_≡_, refl, sym, ap, _∙_}
-use Prim.Native.Nat.{ℕ, zero, suc, _*_}
-use mathlib.Core.Bool.{Bool, true, false, not, cond, _||_, true≢false}
+use Prim.Native.Nat.{ℕ, zero, suc}
+use mathlib.Core.Bool.{Bool, true, false, cond, _||_, true≢false}
 use lib.IntN.{ℤ, pos}
 use lib.Dec.{T, lt→ltb}
 use native.Mathlib.Nat.{zero-lt-suc}
 use lib.Ieee.Scale.{finite}
 use lib.Ieee.Bits.{is-true}
 use lib.Ieee.Positive.{positive, positive-finite, le-trans-positive}
-use lib.Ieee.{Float, nan, inf, fin, ofBits, isNan, neg, lt, le, eq, up, down}
+use lib.Ieee.{Float, nan, inf, fin, ofBits, isNan, neg, lt, le, eq}
 use Rattle.floats.specs.Binary64.{bits}
 use Rattle.floats.specs.Number.{signOf, absOf}
-use Rattle.floats.proofs.Laws.{neg-neg, abs-of-neg}
-use Rattle.floats.proofs.Zero.{equals-zero, differs-from-zero}
+use Rattle.floats.proofs.Laws.{neg-neg}
+use Rattle.floats.proofs.Zero.{equals-zero}
 use Rattle.arctan.specs.Table.{quarterPi, halfPi, threeQuarterPi, pi, octants, octantAt}
 use Rattle.arctan.specs.Arctan.{infinity, octantIndexOf, withinOf, insideOf, alongOf, diagonalOf, angleOf, signed, atan2Of}
-use Rattle.arctan.proofs.Parts.{nan-of-abs, zero-of-abs, no-zero-is-above, zero-is-below}
+use Rattle.arctan.proofs.Parts.{zero-of-abs, no-zero-is-above, zero-is-below}
 
 -- ±0
 abbrev pub zeroOf : Bool → Float

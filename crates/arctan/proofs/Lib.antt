@@ -1,6 +1,5 @@
 -- What the proofs of this crate share, and the laws that callers cite.
 mod Match
-mod Parts
-mod Blocks
+pub mod Parts
 pub mod Laws
 mod Examples

@@ -1,6 +1,6 @@
 -- What the last arm of a `match` on a number knows: it is none of the numbers of the arms before. Assumes nothing.
 use mathlib.Core.Path.{_≡_}
-use Prim.Native.Nat.{ℕ, zero, suc, _≤_, _<_}
+use Prim.Native.Nat.{ℕ, zero, suc, _≤_}
 use native.Mathlib.Omega.{arith}
 
 abbrev pub Missed : ℕ → ℕ → Type 0

@@ -1,9 +1,9 @@
 -- Magnitudes: what the test for the usual case says of them, and what they keep of the number. Assumes nothing.
 use mathlib.Core.Path.{_≡_, refl, sym, ap, _∙_}
-use Prim.Native.Nat.{ℕ, zero, suc, _+_, _*_, _≤_, _<_}
+use Prim.Native.Nat.{ℕ, zero, suc, _*_, _<_}
 use native.Mathlib.Nat.{zero-mul, mul-pos, zero-lt-suc}
 use native.Mathlib.Omega.{arith}
-use mathlib.Core.Bool.{Bool, true, false, cond, _&&_, _||_, true≢false, and-false}
+use mathlib.Core.Bool.{Bool, true, false, cond, true≢false, and-false}
 use lib.IntN.{ℤ, negsuc}
 use lib.Ieee.{Float, nan, inf, fin, ofBits, isNan, neg, lt, eq, div, up, down}
 use lib.Ieee.Fits.{up-pos, down-pos}

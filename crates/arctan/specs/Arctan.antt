@@ -1,6 +1,6 @@
 -- atan2: the angle of the point (x, y), from -π to π, as a sequence of single roundings.
 use Prim.Native.Nat.{ℕ, _-_, _/_, min}
-use mathlib.Core.Bool.{Bool, true, false, cond, _&&_, _||_}
+use mathlib.Core.Bool.{Bool, cond, _&&_, _||_}
 use lib.Dec.{eqb}
 use lib.Ieee.{Float, nan, binary64, toBits, isNan, neg, lt, le, eq}
 use Rattle.floats.specs.Binary64.{_⊕_, _⊖_, _⊗_, _⊘_, bits}

@@ -1,4 +1,3 @@
 -- What the contract of `atan2` cites.
 pub mod Table
 pub mod Arctan
-pub mod Block

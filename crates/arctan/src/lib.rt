@@ -4,16 +4,12 @@
 // and arctan (b/a) = arctan c + arctan t with t = (b - c·a)/(a + c·b), which is small, so that a polynomial of five terms serves. The octant adds the result to 0 or
 // π/2, or takes it away from π/2 or π. Proved: NaN exactly where a part is; odd in y; IEEE 754's zeros, infinities and quadrants.
 // Measured against MPFR over 1.3 million points: within 0.76 units in the last place, absolute within 2^-51.85 (measure/atan2_hypot.c).
-// Longitude and latitude in `cart`, `geocart` and the geocentric latitude are taken by it.
+// Longitude and latitude in `cart`, `geocart` and the geocentric latitude are taken by it; `arctan_block` is the same for sixteen points at once, by the tables and the cut angle here.
 ghost use mathlib.Core.Path.{_≡_};
-ghost use Prim.Native.Nat.{ℕ, _-_, min};
+ghost use Prim.Native.Nat.{_-_};
 ghost use mathlib.Core.Bool.{cond};
-ghost use lib.ListN.{length};
-ghost use Rattle.blocks.specs.Each.{at, Each};
 ghost use Rattle.arctan.specs.Table.{cellAt, octantAt};
 ghost use Rattle.arctan.specs.Arctan.{tailOf, headOf, smallAngleOf, cutAngleOf, cellIndexOf, small, quotientAngleOf, moderate, scaleOf, extremeAngleOf, withinOf, octantIndexOf, insideOf, alongOf, diagonalOf, angleOf, atan2Of};
-ghost use Rattle.arctan.specs.Block.{atMost, atLeast, differenceOf, SizedPoint, SizedUpTo, quickOf, quickAt, mendedOf, mendedAt};
-use blocks::WIDTH;
 
 const QUARTER_PI: f64 = 0.7853981633974483;
 
@@ -39,9 +35,9 @@ const T9: f64 = 0.11109821147869375;
 const T11: f64 = -0.08928223896045735;
 
 // 2^700 and 2^-700
-const MOST: f64 = 5.260135901548374e210;
+pub const MOST: f64 = 5.260135901548374e210;
 
-const LEAST: f64 = 1.90109156629516e-211;
+pub const LEAST: f64 = 1.90109156629516e-211;
 
 // 2^-100, 2^300 and 2^-300
 const NEGLIGIBLE: f64 = 7.888609052210118e-31;
@@ -50,22 +46,22 @@ const UP: f64 = 2.037035976334486e90;
 
 const DOWN: f64 = 4.909093465297727e-91;
 
-struct Cell {
-    coarse: f64,
-    fine: f64,
-    angle: f64,
-    rest: f64,
+pub struct Cell {
+    pub coarse: f64,
+    pub fine: f64,
+    pub angle: f64,
+    pub rest: f64,
 }
 
-struct Octant {
-    base: f64,
-    rest: f64,
-    side: f64,
-    low: f64,
-    high: f64,
+pub struct Octant {
+    pub base: f64,
+    pub rest: f64,
+    pub side: f64,
+    pub low: f64,
+    pub high: f64,
 }
 
-fn cell_at(i: u64) -> Cell
+pub fn cell_at(i: u64) -> Cell
     ensures { λ r. ⌜ r ≡ cellAt i ⌝ }
 {
     match i {
@@ -181,7 +177,7 @@ fn cell_at(i: u64) -> Cell
     }
 }
 
-fn octant_at(k: u64) -> Octant
+pub fn octant_at(k: u64) -> Octant
     ensures { λ r. ⌜ r ≡ octantAt k ⌝ }
 {
     match k {
@@ -216,7 +212,7 @@ fn octant_at(k: u64) -> Octant
     }
 }
 
-fn octant_index(left: bool, steep: bool) -> u64
+pub fn octant_index(left: bool, steep: bool) -> u64
     ensures { λ r. ⌜ r ≡ octantIndexOf left steep ⌝ }
 {
     if left {
@@ -254,7 +250,7 @@ fn small_angle(a: f64, b: f64) -> f64
     h + (left * inverse + tail(t))
 }
 
-fn cut_angle(o: Octant, c: Cell, a: f64, b: f64) -> f64
+pub fn cut_angle(o: Octant, c: Cell, a: f64, b: f64) -> f64
     ensures { λ r. ⌜ r ≡ cutAngleOf o c a b ⌝ }
 {
     let t = (b - c.coarse * a - c.fine * a) / (o.side * (a + (c.coarse + c.fine) * b));
@@ -291,7 +287,7 @@ fn quotient_angle(k: u64, a: f64, b: f64) -> f64
     cut_angle(octant_at(k), cell_at(i), a, b)
 }
 
-fn is_moderate(a: f64, b: f64) -> bool
+pub fn is_moderate(a: f64, b: f64) -> bool
     ensures { λ r. ⌜ r ≡ moderate a b ⌝ }
 {
     if a < MOST { LEAST < b } else { false }
@@ -326,7 +322,7 @@ fn within(o: Octant, angle: f64) -> f64
     }
 }
 
-fn choose(first: bool, a: f64, b: f64) -> f64
+pub fn choose(first: bool, a: f64, b: f64) -> f64
     ensures { λ r. ⌜ r ≡ cond first a b ⌝ }
 {
     if first { a } else { b }
@@ -408,192 +404,4 @@ pub fn atan2(y: f64, x: f64) -> f64
     }
     let r = angle(b, x);
     if floats::negative(y) { -r } else { r }
-}
-
-// v if it is below m, else m: so a NaN gives m
-fn at_most(v: f64, m: f64) -> f64
-    ensures { λ r. ⌜ r ≡ atMost v m ⌝ }
-{
-    if v < m { v } else { m }
-}
-
-// v if it is above m, else m
-fn at_least(v: f64, m: f64) -> f64
-    ensures { λ r. ⌜ r ≡ atLeast v m ⌝ }
-{
-    if m < v { v } else { m }
-}
-
-// p - q, modulo 2^64
-fn difference(p: u64, q: u64) -> u64
-    ensures { λ r. ⌜ r ≡ differenceOf p q ⌝ }
-{
-    if q <= p {
-        p - q
-    } else {
-        p + (u64::MAX - q) + 1
-    }
-}
-
-fn odd_if(usual: bool, quarters: u64) -> u64
-    ensures { λ r. ⌜ r ≡ cond usual quarters 8192 ⌝ }
-{
-    if usual { quarters } else { 8192 }
-}
-
-// What a point of a block comes to before the tables: its two magnitudes, held within the moderate; the quarters of a halving from the one to the other; its octant; and how odd it is:
-// the quarters, and 8192 if a magnitude was held. Points that are less than 256 odd together are moderate, each of them, and mostly away from the axes.
-struct Point {
-    larger: f64,
-    smaller: f64,
-    quarters: u64,
-    octant: u64,
-    odd: u64,
-}
-
-fn sized(y: f64, x: f64) -> Point
-    ensures { λ r. ⌜ SizedPoint y x r ⌝ }
-{
-    let a = floats::abs(x);
-    let b = floats::abs(y);
-    let steep = a < b;
-    let larger = at_most(choose(steep, b, a), MOST);
-    let smaller = at_least(choose(steep, a, b), LEAST);
-    let quarters = difference(f64::to_bits(larger), f64::to_bits(smaller)) / 0x4_0000_0000_0000;
-    let octant = octant_index(x < 0.0, steep);
-    let odd = odd_if(is_moderate(larger, smaller), quarters);
-    Point {
-        larger: larger,
-        smaller: smaller,
-        quarters: quarters,
-        octant: octant,
-        odd: odd,
-    }
-}
-
-// The points of a block; the answer is how odd they are together.
-fn sizes(
-    y: &[f64; WIDTH],
-    x: &[f64; WIDTH],
-    larger: &mut [f64; WIDTH],
-    smaller: &mut [f64; WIDTH],
-    quarters: &mut [u64; WIDTH],
-    octants: &mut [u64; WIDTH],
-) -> u64
-    ensures { λ n. ⌜ SizedUpTo 16 (now (y .entry)) (now (x .entry)) (now (larger .exit)) (now (smaller .exit)) (now (quarters .exit)) (now (octants .exit)) n ⌝ }
-{
-    *larger = [0.0; WIDTH];
-    *smaller = [0.0; WIDTH];
-    *quarters = [0; WIDTH];
-    *octants = [0; WIDTH];
-    let mut n: u64 = 0;
-    let mut i = 0;
-    while i < WIDTH {
-        let p = sized(y[i], x[i]);
-        larger[i] = p.larger;
-        smaller[i] = p.smaller;
-        quarters[i] = p.quarters;
-        octants[i] = p.octant;
-        n += p.odd;
-        i += 1;
-    }
-    n
-}
-
-fn cell_of(quarters: u64) -> u64
-    ensures { λ r. ⌜ r ≡ min quarters 16 ⌝ }
-{
-    if quarters < 16 { quarters } else { 16 }
-}
-
-// The angle by the rows of the tables. The order of the bounds is of no account, and this is two instructions.
-fn quick(y: f64, o: Octant, c: Cell, a: f64, b: f64) -> f64
-    ensures { λ r. ⌜ r ≡ quickOf y o c a b ⌝ }
-{
-    let r = at_least(at_most(cut_angle(o, c, a, b), o.high), o.low);
-    if y < 0.0 { -r } else { r }
-}
-
-// The angles by the rows of the tables, two points at a time: of two the compiler makes one vector, rows and all.
-fn pairs(
-    y: &[f64; WIDTH],
-    larger: &[f64; WIDTH],
-    smaller: &[f64; WIDTH],
-    quarters: &[u64; WIDTH],
-    octants: &[u64; WIDTH],
-    r: &mut [f64; WIDTH],
-)
-    ensures { λ _. ⌜ Each (now (r .exit)) (λ (j : ℕ). quickAt (now (y .entry)) (now (larger .entry)) (now (smaller .entry)) (now (quarters .entry)) (now (octants .entry)) j) ⌝ }
-{
-    *r = [0.0; WIDTH];
-    let mut h = 0;
-    while h < 8 {
-        let i = 2 * h;
-        let j = 2 * h + 1;
-        let c = cell_at(cell_of(quarters[i]));
-        let d = cell_at(cell_of(quarters[j]));
-        let o = octant_at(octants[i] % 4);
-        let p = octant_at(octants[j] % 4);
-        let v = quick(y[i], o, c, larger[i], smaller[i]);
-        let w = quick(y[j], p, d, larger[j], smaller[j]);
-        r[i] = v;
-        r[j] = w;
-        h += 1;
-    }
-}
-
-// The rows do not serve near 0, in the octant 0 below all cuts. This takes in a few points more.
-fn mended(y: f64, x: f64, octant: u64, quarters: u64, angle: f64) -> f64
-    ensures { λ r. ⌜ r ≡ mendedOf y x octant quarters angle ⌝ }
-{
-    if octant < quarters / 16 {
-        atan2(y, x)
-    } else {
-        angle
-    }
-}
-
-fn mend(
-    y: &[f64; WIDTH],
-    x: &[f64; WIDTH],
-    quarters: &[u64; WIDTH],
-    octants: &[u64; WIDTH],
-    r: &mut [f64; WIDTH],
-)
-    requires { ⌜ length (now r) ≡ 16 ⌝ }
-    ensures { λ _. ⌜ Each (now (r .exit)) (λ (j : ℕ). mendedAt (now (y .entry)) (now (x .entry)) (now (quarters .entry)) (now (octants .entry)) (now (r .entry)) j) ⌝ }
-{
-    let mut i = 0;
-    while i < WIDTH {
-        r[i] = mended(y[i], x[i], octants[i], quarters[i], r[i]);
-        i += 1;
-    }
-}
-
-// The angles one after the other, whatever the points are.
-fn any_block(y: &[f64; WIDTH], x: &[f64; WIDTH], r: &mut [f64; WIDTH])
-    ensures { λ _. ⌜ Each (now (r .exit)) (λ (j : ℕ). atan2Of (at (now (y .entry)) j) (at (now (x .entry)) j)) ⌝ }
-{
-    *r = [0.0; WIDTH];
-    let mut i = 0;
-    while i < WIDTH {
-        r[i] = atan2(y[i], x[i]);
-        i += 1;
-    }
-}
-
-// The angles of a block of points, each as `atan2` gives it. A block with an odd point, or with most of its points near an axis, goes one point after the other.
-pub fn atan2_block(y: &[f64; WIDTH], x: &[f64; WIDTH], r: &mut [f64; WIDTH])
-    ensures { λ _. ⌜ Each (now (r .exit)) (λ (j : ℕ). atan2Of (at (now (y .entry)) j) (at (now (x .entry)) j)) ⌝ }
-{
-    let mut larger = [0.0; WIDTH];
-    let mut smaller = [0.0; WIDTH];
-    let mut quarters: [u64; WIDTH] = [0; WIDTH];
-    let mut octants: [u64; WIDTH] = [0; WIDTH];
-    if sizes(y, x, &mut larger, &mut smaller, &mut quarters, &mut octants) < 256 {
-        pairs(y, &larger, &smaller, &quarters, &octants, r);
-        mend(y, x, &quarters, &octants, r);
-    } else {
-        any_block(y, x, r);
-    }
 }

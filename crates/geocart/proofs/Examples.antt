@@ -11,7 +11,6 @@ use Rattle.arctan.specs.Table.{cells, cellAt, octants, octantAt}
 use Rattle.arctan.specs.Arctan.{tailOf, headOf, smallAngleOf, cutAngleOf, cellIndexOf, small, quotientAngleOf, moderate, scaleOf, extremeAngleOf, withinOf, octantIndexOf, insideOf, alongOf, diagonalOf, angleOf, atan2Of}
 use Rattle.hypot.specs.Hypot.{infinite, larger, smaller, squaresOf, ordinary, guessOf, reciprocalRootOf, rootOf, scaledRootOf, rescaledOf, lengthOf, boundedOf, hypotOf}
 use Rattle.tuple.specs.declared.Tuple.{Tuple}
-use Rattle.ellipsoid.specs.declared.Ellipsoid.{Ellipsoid}
 use Rattle.ellipsoid.specs.Figure.{ellipsoidOf, namedOf, wOf, primeVerticalOf}
 use Rattle.geocart.specs.Geocart.{cartesianOf, poleOf, poleHeightOf, bowringOf, bowringHeightOf, geographicOf, halfPi}
 

@@ -1,6 +1,6 @@
 -- `cartesian` and `geographic` of geocart.rs: the Rust's own sequence of roundings, in its letters and order (Bowring 1976 and 1985, Fukushima 1999).
 -- A geographic tuple holds longitude, latitude, height and time in x, y, z and t.
-use mathlib.Core.Bool.{Bool, cond}
+use mathlib.Core.Bool.{cond}
 use lib.Ieee.{Float, nan, isNan, lt}
 use Rattle.floats.specs.Binary64.{_⊕_, _⊖_, _⊗_, _⊘_, bits}
 use Rattle.floats.specs.Number.{absOf, copysignOf, cubeOf}

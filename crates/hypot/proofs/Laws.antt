@@ -1,18 +1,18 @@
 -- What is true of `hypotOf` for every two numbers, for callers to cite. `T (fits binary64 x)` says that x is a number that binary64 holds, as every number of a
 -- program is. Assumes nothing.
 use mathlib.Core.Path.{_≡_, refl, sym, ap, _∙_, subst}
-use Prim.Native.Nat.{ℕ, zero, suc, _+_, _*_, _≤_, _<_}
-use native.Mathlib.Nat.{add-zero, mul-one, one-mul, zero-mul, mul-assoc, mul-comm, mul-right-comm, mul-le-mul-right, le-add-right, le-trans, le-of-eq, le-antisymm, mul-pos}
+use Prim.Native.Nat.{ℕ, zero, _+_, _*_}
+use native.Mathlib.Nat.{add-zero, mul-one, zero-mul, mul-assoc, mul-comm, mul-le-mul-right, le-add-right, le-trans, le-of-eq, le-antisymm, mul-pos}
 use native.Mathlib.Omega.{arith}
 use mathlib.Core.Bool.{Bool, true, false, not, cond, _&&_, _||_, true≢false, or-comm, or-true, and-false}
-use lib.IntN.{ℤ, pos, negsuc}
-use lib.Dec.{T, ltb}
-use lib.Ieee.{Float, nan, inf, fin, binary64, fits, isNan, ofBits, neg, add, sum, mul, lt, le, eq, round, units, odd, up, down}
-use lib.Ieee.Fits.{neg-fits, down-pos, round-is}
+use lib.IntN.{ℤ, pos}
+use lib.Dec.{T}
+use lib.Ieee.{Float, nan, inf, fin, binary64, fits, isNan, ofBits, neg, add, sum, lt, le, eq, round, up, down}
+use lib.Ieee.Fits.{neg-fits, down-pos}
 use lib.Ieee.Order.{round-mono}
 use lib.Ieee.Scale.{finite}
 use lib.Ieee.Bits.{is-true}
-use borrow.Author.Tests.{ltb-true, ltb-false, lt-ltb, le-ltb, eq-eqb}
+use borrow.Author.Tests.{ltb-true, ltb-false, le-ltb, eq-eqb}
 use Rattle.floats.specs.Binary64.{_⊕_, bits}
 use Rattle.floats.specs.Number.{signOf, absOf}
 use Rattle.floats.proofs.Laws.{abs-of-neg, abs-is-not-negative}

@@ -2,7 +2,7 @@
 use mathlib.Core.Path.{_≡_, refl, sym, ap, _∙_, subst}
 use Prim.Native.Nat.{ℕ, zero, suc, _+_, _*_, _-_, _/_, _%_, _^_, compare}
 use native.Mathlib.Nat.{add-comm, mul-comm}
-use mathlib.Core.Bool.{Bool, true, false, cond, _&&_, _||_, true≢false}
+use mathlib.Core.Bool.{Bool, true, false, cond, _||_, true≢false}
 use lib.Dec.{ltb}
 use lib.Ieee.{Float, nan, inf, fin, binary64, ofBits, add, mul, div, neg, lt, eq, round, units, odd, sum, up, down, minus, size, nearest, isNan}
 use lib.IntN.{ℤ, pos}

@@ -4,6 +4,7 @@ use mathlib.Core.Bool.{Bool, true, false, cond, _&&_, _||_}
 use lib.Ieee.{Float, nan, inf, fin, binary64, toBits, lt}
 use Rattle.floats.specs.Binary64.{_⊕_, _⊖_, _⊗_, bits}
 use Rattle.floats.specs.Number.{absOf}
+use Rattle.hypot.specs.declared.Usual.{Usual}
 
 abbrev pub half : Float
 half = bits 0x3fe0_0000_0000_0000
@@ -83,3 +84,7 @@ unfoldable pub hypotOf : Float → Float → Float
 hypotOf x y =
     cond (infinite x || infinite y) (inf false)
     (pairOf (larger (absOf x) (absOf y)) (smaller (absOf x) (absOf y)))
+
+-- the same where the sum of squares is ordinary, else 0; and whether it is
+unfoldable pub usualOf : Float → Float → Usual
+usualOf x y = record { length = cond (ordinary (squaresOf x y)) (hypotOf x y) (bits 0); ordinary = ordinary (squaresOf x y) }

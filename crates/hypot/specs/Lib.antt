@@ -1,3 +1,2 @@
 -- What the contract of `hypot` cites.
 pub mod Hypot
-pub mod Block

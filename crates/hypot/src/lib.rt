@@ -4,16 +4,12 @@
 // for the larger part a, which needs neither a square root nor a fused multiplication. Proved: infinite if either part is, even beside a NaN; NaN exactly where
 // a part is and neither is infinite; symmetric, and by the magnitudes alone; never below the larger part nor above the sum of both.
 // Measured against MPFR over 1.3 million points, subnormal and huge parts among them: within 0.95 units in the last place (measure/atan2_hypot.c).
-// The distance from the axis in `cart` and `geocart` is taken by it.
+// The distance from the axis in `cart` and `geocart` is taken by it; `hypot_block` is the same for sixteen points at once, by the usual case here.
 ghost use mathlib.Core.Path.{_≡_};
-ghost use Prim.Native.Nat.{ℕ};
 ghost use mathlib.Core.Bool.{true, false};
 ghost use lib.Ieee.{isNan};
-ghost use Rattle.blocks.specs.Each.{at, Each};
 ghost use Rattle.floats.specs.Number.{absOf};
-ghost use Rattle.hypot.specs.Hypot.{larger, smaller, squaresOf, guessOf, reciprocalRootOf, rootOf, scaledRootOf, rescaledOf, ordinary, boundedOf, hypotOf};
-ghost use Rattle.hypot.specs.Block.{SquaresUpTo};
-use blocks::WIDTH;
+ghost use Rattle.hypot.specs.Hypot.{larger, smaller, squaresOf, guessOf, reciprocalRootOf, rootOf, scaledRootOf, rescaledOf, ordinary, boundedOf, hypotOf, usualOf};
 
 // 2^-900 and 2^1000: a sum of squares between them lost nothing by overflow or underflow
 const LEAST: f64 = 1.1830521861667747e-271;
@@ -166,55 +162,26 @@ pub fn hypot(x: f64, y: f64) -> f64
     bounded(a, b, rescaled(a, b))
 }
 
-// The sums of squares of a block of points; the answer is whether all are ordinary.
-fn squares_block(x: &[f64; WIDTH], y: &[f64; WIDTH], squares: &mut [f64; WIDTH]) -> bool
-    ensures { λ usual. ⌜ SquaresUpTo 16 (now (x .entry)) (now (y .entry)) (now (squares .exit)) usual ⌝ }
-{
-    *squares = [0.0; WIDTH];
-    let mut usual = true;
-    let mut i = 0;
-    while i < WIDTH {
-        let s = x[i] * x[i] + y[i] * y[i];
-        squares[i] = s;
-        usual = usual & is_ordinary(s);
-        i += 1;
-    }
-    usual
+// A length as far as the usual case gives it.
+pub struct Usual {
+    pub length: f64,
+    pub ordinary: bool,
 }
 
-// The lengths where all sums of squares are ordinary: a loop with neither a branch nor a test for NaN, of which the compiler makes vector instructions.
-fn ordinary_block(squares: &[f64; WIDTH], x: &[f64; WIDTH], y: &[f64; WIDTH], r: &mut [f64; WIDTH])
-    requires { ⌜ SquaresUpTo 16 (now x) (now y) (now squares) true ⌝ }
-    ensures { λ _. ⌜ Each (now (r .exit)) (λ (j : ℕ). hypotOf (at (now (x .entry)) j) (at (now (y .entry)) j)) ⌝ }
+// The usual case alone, for loops over blocks: the length where the sum of squares is ordinary, else 0; and whether it is.
+pub fn usual_length(x: f64, y: f64) -> Usual
+    ensures { λ r. ⌜ r ≡ usualOf x y ⌝ }
 {
-    *r = [0.0; WIDTH];
-    let mut i = 0;
-    while i < WIDTH {
-        r[i] = ordinary_length(squares[i], x[i], y[i]);
-        i += 1;
-    }
-}
-
-// The lengths one after the other, whatever the parts are.
-fn any_block(x: &[f64; WIDTH], y: &[f64; WIDTH], r: &mut [f64; WIDTH])
-    ensures { λ _. ⌜ Each (now (r .exit)) (λ (j : ℕ). hypotOf (at (now (x .entry)) j) (at (now (y .entry)) j)) ⌝ }
-{
-    *r = [0.0; WIDTH];
-    let mut i = 0;
-    while i < WIDTH {
-        r[i] = hypot(x[i], y[i]);
-        i += 1;
-    }
-}
-
-// The lengths of a block of points, each as `hypot` gives it.
-pub fn hypot_block(x: &[f64; WIDTH], y: &[f64; WIDTH], r: &mut [f64; WIDTH])
-    ensures { λ _. ⌜ Each (now (r .exit)) (λ (j : ℕ). hypotOf (at (now (x .entry)) j) (at (now (y .entry)) j)) ⌝ }
-{
-    let mut squares = [0.0; WIDTH];
-    if squares_block(x, y, &mut squares) {
-        ordinary_block(&squares, x, y, r);
+    let squares = x * x + y * y;
+    if is_ordinary(squares) {
+        Usual {
+            length: ordinary_length(squares, x, y),
+            ordinary: true,
+        }
     } else {
-        any_block(x, y, r);
+        Usual {
+            length: 0.0,
+            ordinary: false,
+        }
     }
 }

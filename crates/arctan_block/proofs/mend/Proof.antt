@@ -1,0 +1,94 @@
+-- `arctan_block::mend` meets its contract. Assumes nothing.
+use borrow.Author.Needs.{needs}
+use Prim.Native.Nat.{ℕ, _-_}
+use mathlib.Core.Path.{_∙_}
+use Rattle.blocks.proofs.Laws.{all-filled}
+use Rattle.arctan_block.specs.Block.{mendedAt}
+use Rattle.arctan_block.proofs.Blocks.{MendedUpTo, none-mended, one-more-mended}
+use Rattle.arctan_block.proofs.mend.Statement.{statement}
+use Rattle.arctan_block.proofs.mend.Tie as tie
+
+abbrev Inv-loop : tie.InvT-loop
+Inv-loop y x quarters octants r₀ i₀ r i = MendedUpTo i r₀ r (λ (j : ℕ). mendedAt y x quarters octants r₀ j)
+
+abbrev μ-loop : tie.MeasureT-loop
+μ-loop y x quarters octants r₀ i₀ r i = 16 - i
+
+loop-holds : tie.Need-loop-holds Inv-loop μ-loop
+loop-holds c = none-mended (c .pre)
+
+mul-mended : tie.Need-mul-mended Inv-loop μ-loop
+mul-mended c = search needs
+
+element-copy-out-mended : tie.Need-element-copy-out-mended Inv-loop μ-loop
+element-copy-out-mended c = search needs
+
+mul-mended-2 : tie.Need-mul-mended-2 Inv-loop μ-loop
+mul-mended-2 c = search needs
+
+element-copy-out-mended-2 : tie.Need-element-copy-out-mended-2 Inv-loop μ-loop
+element-copy-out-mended-2 c = search needs
+
+mul-mended-3 : tie.Need-mul-mended-3 Inv-loop μ-loop
+mul-mended-3 c = search needs
+
+element-copy-out-mended-3 : tie.Need-element-copy-out-mended-3 Inv-loop μ-loop
+element-copy-out-mended-3 c = search needs
+
+mul-mended-4 : tie.Need-mul-mended-4 Inv-loop μ-loop
+mul-mended-4 c = search needs
+
+element-copy-out-mended-4 : tie.Need-element-copy-out-mended-4 Inv-loop μ-loop
+element-copy-out-mended-4 c = search needs
+
+mul-mended-5 : tie.Need-mul-mended-5 Inv-loop μ-loop
+mul-mended-5 c = search needs
+
+element-copy-out-mended-5 : tie.Need-element-copy-out-mended-5 Inv-loop μ-loop
+element-copy-out-mended-5 c = search needs
+
+mended-requires : tie.Need-mended-requires Inv-loop μ-loop
+mended-requires c κs = search needs
+
+mul-r : tie.Need-mul-r Inv-loop μ-loop
+mul-r c = search needs
+
+element-write-r : tie.Need-element-write-r Inv-loop μ-loop
+element-write-r c = search needs
+
+add-i : tie.Need-add-i Inv-loop μ-loop
+add-i c = search needs
+
+loop-less : tie.Need-loop-less Inv-loop μ-loop
+loop-less c = search needs
+
+loop-again : tie.Need-loop-again Inv-loop μ-loop
+loop-again c = one-more-mended (search needs) (λ e. c .mended .ensures ∙ rw e) (c .before .before .before .before .before .before .before .loop .inv)
+
+returns : tie.Need-returns Inv-loop μ-loop
+returns c = all-filled (search needs) (c .before .loop .inv .mended)
+
+pub mend-spec : {M : Type 1} → statement M
+mend-spec =
+    tie.close
+    (tie.spec
+    Inv-loop
+    μ-loop
+    loop-holds
+    mul-mended
+    element-copy-out-mended
+    mul-mended-2
+    element-copy-out-mended-2
+    mul-mended-3
+    element-copy-out-mended-3
+    mul-mended-4
+    element-copy-out-mended-4
+    mul-mended-5
+    element-copy-out-mended-5
+    mended-requires
+    mul-r
+    element-write-r
+    add-i
+    loop-less
+    loop-again
+    returns)

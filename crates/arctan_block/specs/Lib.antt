@@ -1,0 +1,2 @@
+-- What the contracts of `arctan_block` cite.
+pub mod Block

@@ -1,0 +1,18 @@
+-- `geocart_block::legs_at` meets its contract. Assumes nothing.
+use Rattle.geocart_block.specs.Blocks.{legsOf}
+use borrow.Author.Needs.{needs}
+use Rattle.geocart_block.proofs.legs_at.Statement.{statement}
+use Rattle.geocart_block.proofs.legs_at.Tie as tie
+
+cube-requires : tie.Need-cube-requires
+cube-requires c κs = search needs
+
+cube-requires-2 : tie.Need-cube-requires-2
+cube-requires-2 c κs = search needs
+
+returns : tie.Need-returns
+unfolding legsOf
+returns c = rw (c .cube2 .ensures, c .before .before .cube .ensures)
+
+pub legs-at-spec : {M : Type 1} → statement M
+legs-at-spec = tie.close (tie.spec cube-requires cube-requires-2 returns)

@@ -1,0 +1,12 @@
+-- `geocart_block::point_at` meets its contract. Assumes nothing.
+use mathlib.Core.Path.{refl}
+use Rattle.geocart_block.specs.Blocks.{pointOf}
+use Rattle.geocart_block.proofs.point_at.Statement.{statement}
+use Rattle.geocart_block.proofs.point_at.Tie as tie
+
+returns : tie.Need-returns
+unfolding pointOf
+returns c = refl
+
+pub point-at-spec : {M : Type 1} → statement M
+point-at-spec = tie.close (tie.spec returns)

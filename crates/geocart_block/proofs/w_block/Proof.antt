@@ -1,0 +1,70 @@
+-- `geocart_block::w_block` meets its contract. Assumes nothing.
+use Prim.Native.Nat.{ℕ, _-_}
+use mathlib.Core.Path.{refl}
+use Rattle.blocks.specs.Each.{at, UpTo}
+use Rattle.blocks.proofs.Laws.{none-filled, one-more, all-filled}
+use Rattle.ellipsoid.specs.Figure.{wOf}
+use borrow.Author.Needs.{needs}
+use Rattle.geocart_block.proofs.w_block.Statement.{statement}
+use Rattle.geocart_block.proofs.w_block.Tie as tie
+
+abbrev Inv-loop : tie.InvT-loop
+Inv-loop ellps sinphi w₀ i₀ w i =
+    UpTo i w (λ (j : ℕ). wOf ellps (at sinphi j))
+
+abbrev μ-loop : tie.MeasureT-loop
+μ-loop ellps sinphi w₀ i₀ w i = 16 - i
+
+loop-holds : tie.Need-loop-holds Inv-loop μ-loop
+loop-holds c = none-filled refl
+
+mul-w : tie.Need-mul-w Inv-loop μ-loop
+mul-w c = search needs
+
+element-copy-out-w : tie.Need-element-copy-out-w Inv-loop μ-loop
+element-copy-out-w c = search needs
+
+mul-w-2 : tie.Need-mul-w-2 Inv-loop μ-loop
+mul-w-2 c = search needs
+
+element-copy-out-w-2 : tie.Need-element-copy-out-w-2 Inv-loop μ-loop
+element-copy-out-w-2 c = search needs
+
+mul-w-3 : tie.Need-mul-w-3 Inv-loop μ-loop
+mul-w-3 c = search needs
+
+element-write-w : tie.Need-element-write-w Inv-loop μ-loop
+element-write-w c = search needs
+
+add-i : tie.Need-add-i Inv-loop μ-loop
+add-i c = search needs
+
+loop-less : tie.Need-loop-less Inv-loop μ-loop
+loop-less c = search needs
+
+loop-again : tie.Need-loop-again Inv-loop μ-loop
+unfolding wOf
+loop-again c =
+    let l = c .before .before .before .before .loop in
+    one-more (search needs) (refl) (l .inv)
+
+returns : tie.Need-returns Inv-loop μ-loop
+returns c = all-filled (search needs) (c .before .loop .inv)
+
+pub w-block-spec : {M : Type 1} → statement M
+w-block-spec =
+    tie.close
+    (tie.spec
+    Inv-loop
+    μ-loop
+    loop-holds
+    mul-w
+    element-copy-out-w
+    mul-w-2
+    element-copy-out-w-2
+    mul-w-3
+    element-write-w
+    add-i
+    loop-less
+    loop-again
+    returns)

@@ -1,0 +1,2 @@
+-- What the contracts of `geocart_block` cite.
+pub mod Blocks

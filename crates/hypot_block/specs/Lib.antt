@@ -1,0 +1,2 @@
+-- What the contracts of `hypot_block` cite.
+pub mod Block
