@@ -1,0 +1,105 @@
+-- `cart_block::level_block` meets its contract. Assumes nothing.
+use Prim.Native.Nat.{ℕ, _-_}
+use mathlib.Core.Path.{refl, ap}
+use Rattle.blocks.specs.Each.{at, UpTo}
+use Rattle.blocks.proofs.Laws.{none-filled, one-more, all-filled}
+use Rattle.cart_block.specs.Blocks.{levelOf}
+use borrow.Author.Needs.{needs}
+use Rattle.cart_block.proofs.level_block.Statement.{statement}
+use Rattle.cart_block.proofs.level_block.Tie as tie
+
+abbrev Inv-loop : tie.InvT-loop
+Inv-loop k p z s1 cc inner outer h₀ i₀ h i =
+    UpTo i h (λ (j : ℕ). levelOf k (at p j) (at z j) (at s1 j) (at cc j) (at inner j) (at outer j))
+
+abbrev μ-loop : tie.MeasureT-loop
+μ-loop k p z s1 cc inner outer h₀ i₀ h i = 16 - i
+
+loop-holds : tie.Need-loop-holds Inv-loop μ-loop
+loop-holds c = none-filled refl
+
+mul-level : tie.Need-mul-level Inv-loop μ-loop
+mul-level c = search needs
+
+element-copy-out-level : tie.Need-element-copy-out-level Inv-loop μ-loop
+element-copy-out-level c = search needs
+
+mul-level-2 : tie.Need-mul-level-2 Inv-loop μ-loop
+mul-level-2 c = search needs
+
+element-copy-out-level-2 : tie.Need-element-copy-out-level-2 Inv-loop μ-loop
+element-copy-out-level-2 c = search needs
+
+mul-level-3 : tie.Need-mul-level-3 Inv-loop μ-loop
+mul-level-3 c = search needs
+
+element-copy-out-level-3 : tie.Need-element-copy-out-level-3 Inv-loop μ-loop
+element-copy-out-level-3 c = search needs
+
+mul-level-4 : tie.Need-mul-level-4 Inv-loop μ-loop
+mul-level-4 c = search needs
+
+element-copy-out-level-4 : tie.Need-element-copy-out-level-4 Inv-loop μ-loop
+element-copy-out-level-4 c = search needs
+
+mul-level-5 : tie.Need-mul-level-5 Inv-loop μ-loop
+mul-level-5 c = search needs
+
+element-copy-out-level-5 : tie.Need-element-copy-out-level-5 Inv-loop μ-loop
+element-copy-out-level-5 c = search needs
+
+mul-level-6 : tie.Need-mul-level-6 Inv-loop μ-loop
+mul-level-6 c = search needs
+
+element-copy-out-level-6 : tie.Need-element-copy-out-level-6 Inv-loop μ-loop
+element-copy-out-level-6 c = search needs
+
+level-requires : tie.Need-level-requires Inv-loop μ-loop
+level-requires c κs = search needs
+
+mul-h : tie.Need-mul-h Inv-loop μ-loop
+mul-h c = search needs
+
+element-write-h : tie.Need-element-write-h Inv-loop μ-loop
+element-write-h c = search needs
+
+add-i : tie.Need-add-i Inv-loop μ-loop
+add-i c = search needs
+
+loop-less : tie.Need-loop-less Inv-loop μ-loop
+loop-less c = search needs
+
+loop-again : tie.Need-loop-again Inv-loop μ-loop
+loop-again c =
+    let l = c .before .before .before .before .before .before .before .before .loop in
+    one-more (search needs) (c .level .ensures) (l .inv)
+
+returns : tie.Need-returns Inv-loop μ-loop
+returns c = all-filled (search needs) (c .before .loop .inv)
+
+pub level-block-spec : {M : Type 1} → statement M
+level-block-spec =
+    tie.close
+    (tie.spec
+    Inv-loop
+    μ-loop
+    loop-holds
+    mul-level
+    element-copy-out-level
+    mul-level-2
+    element-copy-out-level-2
+    mul-level-3
+    element-copy-out-level-3
+    mul-level-4
+    element-copy-out-level-4
+    mul-level-5
+    element-copy-out-level-5
+    mul-level-6
+    element-copy-out-level-6
+    level-requires
+    mul-h
+    element-write-h
+    add-i
+    loop-less
+    loop-again
+    returns)

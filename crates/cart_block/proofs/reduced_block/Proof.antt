@@ -1,0 +1,87 @@
+-- `cart_block::reduced_block` meets its contract. Assumes nothing.
+use Prim.Native.Nat.{ℕ, _-_}
+use mathlib.Core.Path.{refl, ap}
+use Rattle.blocks.specs.Each.{at, UpTo}
+use Rattle.blocks.proofs.Laws.{none-filled, one-more, all-filled}
+use Rattle.floats.specs.Binary64.{_⊗_}
+use borrow.Author.Needs.{needs}
+use Rattle.cart_block.proofs.reduced_block.Statement.{statement}
+use Rattle.cart_block.proofs.reduced_block.Tie as tie
+
+abbrev Inv-loop : tie.InvT-loop
+Inv-loop k p z reduced₀ s0₀ c0₀ i₀ reduced s0 c0 i =
+    UpTo i reduced (λ (j : ℕ). k .ra ⊗ at p j)
+    × UpTo i s0 (λ (j : ℕ). k .ra ⊗ at z j)
+    × UpTo i c0 (λ (j : ℕ). k .ar ⊗ (k .ra ⊗ at p j))
+
+abbrev μ-loop : tie.MeasureT-loop
+μ-loop k p z reduced₀ s0₀ c0₀ i₀ reduced s0 c0 i = 16 - i
+
+loop-holds : tie.Need-loop-holds Inv-loop μ-loop
+loop-holds c = (none-filled refl, none-filled refl, none-filled refl)
+
+mul-q : tie.Need-mul-q Inv-loop μ-loop
+mul-q c = search needs
+
+element-copy-out-q : tie.Need-element-copy-out-q Inv-loop μ-loop
+element-copy-out-q c = search needs
+
+mul-reduced : tie.Need-mul-reduced Inv-loop μ-loop
+mul-reduced c = search needs
+
+element-write-reduced : tie.Need-element-write-reduced Inv-loop μ-loop
+element-write-reduced c = search needs
+
+mul-s0 : tie.Need-mul-s0 Inv-loop μ-loop
+mul-s0 c = search needs
+
+element-copy-out-s0 : tie.Need-element-copy-out-s0 Inv-loop μ-loop
+element-copy-out-s0 c = search needs
+
+mul-s0-2 : tie.Need-mul-s0-2 Inv-loop μ-loop
+mul-s0-2 c = search needs
+
+element-write-s0 : tie.Need-element-write-s0 Inv-loop μ-loop
+element-write-s0 c = search needs
+
+mul-c0 : tie.Need-mul-c0 Inv-loop μ-loop
+mul-c0 c = search needs
+
+element-write-c0 : tie.Need-element-write-c0 Inv-loop μ-loop
+element-write-c0 c = search needs
+
+add-i : tie.Need-add-i Inv-loop μ-loop
+add-i c = search needs
+
+loop-less : tie.Need-loop-less Inv-loop μ-loop
+loop-less c = search needs
+
+loop-again : tie.Need-loop-again Inv-loop μ-loop
+loop-again c =
+    let l = c .before .before .before .before .before .before .loop in
+    (one-more (search needs) (refl) (l .inv .0), one-more (search needs) (refl) (l .inv .1), one-more (search needs) (refl) (l .inv .2))
+
+returns : tie.Need-returns Inv-loop μ-loop
+returns c = (all-filled (search needs) (c .before .loop .inv .0), all-filled (search needs) (c .before .loop .inv .1), all-filled (search needs) (c .before .loop .inv .2))
+
+pub reduced-block-spec : {M : Type 1} → statement M
+reduced-block-spec =
+    tie.close
+    (tie.spec
+    Inv-loop
+    μ-loop
+    loop-holds
+    mul-q
+    element-copy-out-q
+    mul-reduced
+    element-write-reduced
+    mul-s0
+    element-copy-out-s0
+    mul-s0-2
+    element-write-s0
+    mul-c0
+    element-write-c0
+    add-i
+    loop-less
+    loop-again
+    returns)

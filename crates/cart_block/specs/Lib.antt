@@ -1,0 +1,2 @@
+-- What the contracts of `cart_block` cite.
+pub mod Blocks

@@ -1,0 +1,246 @@
+// Geographic to cartesian coordinates and back, sixteen tuples at a time: the step of the crate cart by the block.
+//
+// Method, letters and sequence of roundings are those of `cart`: each tuple and the count are proved to be what `cart_fwd` and `cart_inv` give, in every bit. The kernels
+// are called by their blocks, and between them are short loops of arithmetic alone, which a compiler turns into vector instructions. On the axis too the latitude and
+// height of a point off it are worked out, and not taken. Used by the loops over a list.
+ghost use mathlib.Core.Path.{_≡_};
+ghost use mathlib.Core.Bool.{not, cond};
+ghost use Prim.Native.Nat.{ℕ};
+ghost use Rattle.floats.specs.Binary64.{_⊗_};
+ghost use Rattle.blocks.specs.Each.{at, Each, countTo};
+ghost use Rattle.tuple.specs.Columns.{rowOf};
+ghost use Rattle.tuple.specs.Sums.{anyNanOf};
+ghost use Rattle.cart.specs.Step.{cartFwdOf, meridianOf, cartInvOf};
+ghost use Rattle.cart_block.specs.Blocks.{legsOf, levelOf, eitherHeightOf, countsOf};
+use blocks::WIDTH;
+use cart::Inverse;
+use ellipsoid::Ellipsoid;
+use tuple::Tuple;
+
+fn one_if(b: bool) -> usize
+    ensures { λ r. ⌜ r ≡ cond b 1 0 ⌝ }
+{
+    if b { 1 } else { 0 }
+}
+
+// How many tuples of a block have no NaN.
+fn count_block(x: &[f64; WIDTH], y: &[f64; WIDTH], z: &[f64; WIDTH], t: &[f64; WIDTH]) -> usize
+    ensures { λ r. ⌜ r ≡ countTo 16 (λ (j : ℕ). not (anyNanOf (rowOf (now (x .entry)) (now (y .entry)) (now (z .entry)) (now (t .entry)) j))) ⌝ }
+{
+    let mut n = 0;
+    let mut i = 0;
+    while i < WIDTH {
+        let v = Tuple {
+            x: x[i],
+            y: y[i],
+            z: z[i],
+            t: t[i],
+        };
+        n += one_if(!v.any_nan());
+        i += 1;
+    }
+    n
+}
+
+// A block of tuples, each as `cart_fwd` gives it; the time stays. How many count.
+pub fn cart_fwd_block(
+    ellps: Ellipsoid,
+    x: &[f64; WIDTH],
+    y: &[f64; WIDTH],
+    z: &[f64; WIDTH],
+    t: &[f64; WIDTH],
+    ox: &mut [f64; WIDTH],
+    oy: &mut [f64; WIDTH],
+    oz: &mut [f64; WIDTH],
+) -> usize
+    ensures { λ r. ⌜ Each (now (ox .exit)) (λ (j : ℕ). cartFwdOf ellps (rowOf (now (x .entry)) (now (y .entry)) (now (z .entry)) (now (t .entry)) j) .tuple .x) × Each (now (oy .exit)) (λ (j : ℕ). cartFwdOf ellps (rowOf (now (x .entry)) (now (y .entry)) (now (z .entry)) (now (t .entry)) j) .tuple .y) × Each (now (oz .exit)) (λ (j : ℕ). cartFwdOf ellps (rowOf (now (x .entry)) (now (y .entry)) (now (z .entry)) (now (t .entry)) j) .tuple .z) × (r ≡ countTo 16 (λ (j : ℕ). cartFwdOf ellps (rowOf (now (x .entry)) (now (y .entry)) (now (z .entry)) (now (t .entry)) j) .counted)) ⌝ }
+{
+    geocart::cartesian_block(ellps, x, y, z, t, ox, oy, oz);
+    count_block(ox, oy, oz, t)
+}
+
+// P, S0 and C0 of a block.
+fn reduced_block(
+    k: Inverse,
+    p: &[f64; WIDTH],
+    z: &[f64; WIDTH],
+    reduced: &mut [f64; WIDTH],
+    s0: &mut [f64; WIDTH],
+    c0: &mut [f64; WIDTH],
+)
+    ensures { λ _. ⌜ Each (now (reduced .exit)) (λ (j : ℕ). k .ra ⊗ (at (now (p .entry)) j)) × Each (now (s0 .exit)) (λ (j : ℕ). k .ra ⊗ (at (now (z .entry)) j)) × Each (now (c0 .exit)) (λ (j : ℕ). k .ar ⊗ (k .ra ⊗ (at (now (p .entry)) j))) ⌝ }
+{
+    *reduced = [0.0; WIDTH];
+    *s0 = [0.0; WIDTH];
+    *c0 = [0.0; WIDTH];
+    let mut i = 0;
+    while i < WIDTH {
+        let q = k.ra * p[i];
+        reduced[i] = q;
+        s0[i] = k.ra * z[i];
+        c0[i] = k.ar * q;
+        i += 1;
+    }
+}
+
+// S1 and CC of a block.
+fn meridian_block(
+    k: Inverse,
+    p: &[f64; WIDTH],
+    s0: &[f64; WIDTH],
+    c0: &[f64; WIDTH],
+    a: &[f64; WIDTH],
+    s1: &mut [f64; WIDTH],
+    cc: &mut [f64; WIDTH],
+)
+    ensures { λ _. ⌜ Each (now (s1 .exit)) (λ (j : ℕ). meridianOf k (at (now (p .entry)) j) (at (now (s0 .entry)) j) (at (now (c0 .entry)) j) (at (now (a .entry)) j) .s1) × Each (now (cc .exit)) (λ (j : ℕ). meridianOf k (at (now (p .entry)) j) (at (now (s0 .entry)) j) (at (now (c0 .entry)) j) (at (now (a .entry)) j) .cc) ⌝ }
+{
+    *s1 = [0.0; WIDTH];
+    *cc = [0.0; WIDTH];
+    let mut i = 0;
+    while i < WIDTH {
+        let m = cart::meridian(k, p[i], s0[i], c0[i], a[i]);
+        s1[i] = m.s1;
+        cc[i] = m.cc;
+        i += 1;
+    }
+}
+
+// The same from p and Z.
+fn legs_block(
+    k: Inverse,
+    p: &[f64; WIDTH],
+    z: &[f64; WIDTH],
+    s1: &mut [f64; WIDTH],
+    cc: &mut [f64; WIDTH],
+)
+    ensures { λ _. ⌜ Each (now (s1 .exit)) (λ (j : ℕ). legsOf k (at (now (p .entry)) j) (at (now (z .entry)) j) .s1) × Each (now (cc .exit)) (λ (j : ℕ). legsOf k (at (now (p .entry)) j) (at (now (z .entry)) j) .cc) ⌝ }
+{
+    let mut reduced: [f64; WIDTH] = [0.0; WIDTH];
+    let mut s0: [f64; WIDTH] = [0.0; WIDTH];
+    let mut c0: [f64; WIDTH] = [0.0; WIDTH];
+    let mut a: [f64; WIDTH] = [0.0; WIDTH];
+    reduced_block(k, p, z, &mut reduced, &mut s0, &mut c0);
+    hypot::hypot_block(&s0, &c0, &mut a);
+    meridian_block(k, &reduced, &s0, &c0, &a, s1, cc);
+}
+
+fn product_block(k: Inverse, s1: &[f64; WIDTH], r: &mut [f64; WIDTH])
+    ensures { λ _. ⌜ Each (now (r .exit)) (λ (j : ℕ). k .ar ⊗ (at (now (s1 .entry)) j)) ⌝ }
+{
+    *r = [0.0; WIDTH];
+    let mut i = 0;
+    while i < WIDTH {
+        r[i] = k.ar * s1[i];
+        i += 1;
+    }
+}
+
+fn level(k: Inverse, p: f64, z: f64, s1: f64, cc: f64, inner: f64, outer: f64) -> f64
+    ensures { λ r. ⌜ r ≡ levelOf k p z s1 cc inner outer ⌝ }
+{
+    let axis = geocart::pole_height(k.ellps, z);
+    let along = p * floats::abs(cc) + floats::abs(z) * floats::abs(s1);
+    let h = (along - k.ellps.a * inner) / outer;
+    if p < k.cutoff { axis } else { h }
+}
+
+// The heights of a block from the two hypotenuses.
+fn level_block(
+    k: Inverse,
+    p: &[f64; WIDTH],
+    z: &[f64; WIDTH],
+    s1: &[f64; WIDTH],
+    cc: &[f64; WIDTH],
+    inner: &[f64; WIDTH],
+    outer: &[f64; WIDTH],
+    h: &mut [f64; WIDTH],
+)
+    ensures { λ _. ⌜ Each (now (h .exit)) (λ (j : ℕ). levelOf k (at (now (p .entry)) j) (at (now (z .entry)) j) (at (now (s1 .entry)) j) (at (now (cc .entry)) j) (at (now (inner .entry)) j) (at (now (outer .entry)) j)) ⌝ }
+{
+    *h = [0.0; WIDTH];
+    let mut i = 0;
+    while i < WIDTH {
+        h[i] = level(k, p[i], z[i], s1[i], cc[i], inner[i], outer[i]);
+        i += 1;
+    }
+}
+
+// The heights of a block: as `height` gives them, or a pole's where p is less than the cutoff.
+fn height_block(
+    k: Inverse,
+    p: &[f64; WIDTH],
+    z: &[f64; WIDTH],
+    s1: &[f64; WIDTH],
+    cc: &[f64; WIDTH],
+    h: &mut [f64; WIDTH],
+)
+    ensures { λ _. ⌜ Each (now (h .exit)) (λ (j : ℕ). eitherHeightOf k (at (now (p .entry)) j) (at (now (z .entry)) j) (record { s1 = at (now (s1 .entry)) j; cc = at (now (cc .entry)) j })) ⌝ }
+{
+    let mut reduced: [f64; WIDTH] = [0.0; WIDTH];
+    let mut inner: [f64; WIDTH] = [0.0; WIDTH];
+    let mut outer: [f64; WIDTH] = [0.0; WIDTH];
+    product_block(k, s1, &mut reduced);
+    hypot::hypot_block(cc, &reduced, &mut inner);
+    hypot::hypot_block(cc, s1, &mut outer);
+    level_block(k, p, z, s1, cc, &inner, &outer, h);
+}
+
+fn counts_at(k: Inverse, p: f64, v: Tuple) -> bool
+    ensures { λ r. ⌜ r ≡ countsOf k p v ⌝ }
+{
+    let whole = !v.any_nan();
+    if p < k.cutoff { false } else { whole }
+}
+
+// How many tuples of a block count, p from the axis.
+fn count_off_axis_block(
+    k: Inverse,
+    p: &[f64; WIDTH],
+    x: &[f64; WIDTH],
+    y: &[f64; WIDTH],
+    z: &[f64; WIDTH],
+    t: &[f64; WIDTH],
+) -> usize
+    ensures { λ r. ⌜ r ≡ countTo 16 (λ (j : ℕ). countsOf k (at (now (p .entry)) j) (rowOf (now (x .entry)) (now (y .entry)) (now (z .entry)) (now (t .entry)) j)) ⌝ }
+{
+    let mut n = 0;
+    let mut i = 0;
+    while i < WIDTH {
+        let v = Tuple {
+            x: x[i],
+            y: y[i],
+            z: z[i],
+            t: t[i],
+        };
+        n += one_if(counts_at(k, p[i], v));
+        i += 1;
+    }
+    n
+}
+
+// A block of tuples, each as `cart_inv` gives it; the time stays. How many count.
+pub fn cart_inv_block(
+    k: Inverse,
+    x: &[f64; WIDTH],
+    y: &[f64; WIDTH],
+    z: &[f64; WIDTH],
+    t: &[f64; WIDTH],
+    ox: &mut [f64; WIDTH],
+    oy: &mut [f64; WIDTH],
+    oz: &mut [f64; WIDTH],
+) -> usize
+    ensures { λ r. ⌜ Each (now (ox .exit)) (λ (j : ℕ). cartInvOf k (rowOf (now (x .entry)) (now (y .entry)) (now (z .entry)) (now (t .entry)) j) .tuple .x) × Each (now (oy .exit)) (λ (j : ℕ). cartInvOf k (rowOf (now (x .entry)) (now (y .entry)) (now (z .entry)) (now (t .entry)) j) .tuple .y) × Each (now (oz .exit)) (λ (j : ℕ). cartInvOf k (rowOf (now (x .entry)) (now (y .entry)) (now (z .entry)) (now (t .entry)) j) .tuple .z) × (r ≡ countTo 16 (λ (j : ℕ). cartInvOf k (rowOf (now (x .entry)) (now (y .entry)) (now (z .entry)) (now (t .entry)) j) .counted)) ⌝ }
+{
+    let mut p: [f64; WIDTH] = [0.0; WIDTH];
+    let mut s1: [f64; WIDTH] = [0.0; WIDTH];
+    let mut cc: [f64; WIDTH] = [0.0; WIDTH];
+    let mut phi: [f64; WIDTH] = [0.0; WIDTH];
+    arctan::atan2_block(y, x, ox);
+    hypot::hypot_block(x, y, &mut p);
+    legs_block(k, &p, z, &mut s1, &mut cc);
+    arctan::atan2_block(&s1, &cc, &mut phi);
+    geocart::latitude_block(k.cutoff, &p, z, &phi, oy);
+    height_block(k, &p, z, &s1, &cc, oz);
+    count_off_axis_block(k, &p, ox, oy, oz, t)
+}

@@ -1,0 +1,2 @@
+-- What serves the proofs of the blocks.
+pub mod Block

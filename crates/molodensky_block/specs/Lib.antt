@@ -1,0 +1,2 @@
+-- What the contracts of `molodensky_block` cite.
+pub mod Block
