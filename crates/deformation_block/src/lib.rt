@@ -1,12 +1,14 @@
 // Kinematic datum shift by velocities of the ground, sixteen tuples at a time: the step of `deformation` over columns.
 //
 // Each loop is straight arithmetic over the places, so that a compiler makes vectors of it; what depends on the step and not on the tuple is decided before.
-// An absent velocity is worked on like the others, and NaN is written in the end.
+// An absent velocity is worked on like the others, and NaN is written in the end. The columns that the results go to serve for the parts before, so that one
+// column more is enough.
 // Every number is `deformation::common`'s in every bit: proved place by place against the same definition. Used by `deformation_runs`.
 ghost use mathlib.Core.Path.{_≡_};
 ghost use Prim.Native.Nat.{ℕ, _+_, _<_};
 ghost use mathlib.Core.Bool.{cond};
 ghost use lib.Dec.{eqb};
+ghost use lib.ListN.{length};
 ghost use Rattle.floats.specs.Binary64.{_⊕_, bits};
 ghost use Rattle.blocks.specs.Each.{at, wholeAt, Each, countTo};
 ghost use Rattle.root.specs.Sqrt.{sqrtOf};
@@ -33,7 +35,7 @@ fn metre(inverse: bool) -> f64
     if inverse { 0.001 } else { -0.001 }
 }
 
-// The velocities, turned and times their durations. k brings them to metres.
+// The velocities, turned and times their durations. k brings them to metres. dx comes with the sines of the latitudes, dz with the cosines of the longitudes.
 fn turned_block(
     op: Motion,
     fixed: bool,
@@ -43,20 +45,17 @@ fn turned_block(
     up: &[f64; WIDTH],
     t: &[f64; WIDTH],
     slon: &[f64; WIDTH],
-    clon: &[f64; WIDTH],
-    slat: &[f64; WIDTH],
     clat: &[f64; WIDTH],
     dx: &mut [f64; WIDTH],
     dy: &mut [f64; WIDTH],
     dz: &mut [f64; WIDTH],
 )
-    ensures { λ _. ⌜ Each (now (dx .exit)) (λ (j : ℕ). turnedAt op fixed k (now (east .entry)) (now (north .entry)) (now (up .entry)) (now (t .entry)) (now (slon .entry)) (now (clon .entry)) (now (slat .entry)) (now (clat .entry)) j .x)
-        × Each (now (dy .exit)) (λ (j : ℕ). turnedAt op fixed k (now (east .entry)) (now (north .entry)) (now (up .entry)) (now (t .entry)) (now (slon .entry)) (now (clon .entry)) (now (slat .entry)) (now (clat .entry)) j .y)
-        × Each (now (dz .exit)) (λ (j : ℕ). turnedAt op fixed k (now (east .entry)) (now (north .entry)) (now (up .entry)) (now (t .entry)) (now (slon .entry)) (now (clon .entry)) (now (slat .entry)) (now (clat .entry)) j .z) ⌝ }
+    requires { ⌜ (length (now dx) ≡ 16) × (length (now dz) ≡ 16) ⌝ }
+    ensures { λ _. ⌜ Each (now (dx .exit)) (λ (j : ℕ). turnedAt op fixed k (now (east .entry)) (now (north .entry)) (now (up .entry)) (now (t .entry)) (now (slon .entry)) (now (dz .entry)) (now (dx .entry)) (now (clat .entry)) j .x)
+        × Each (now (dy .exit)) (λ (j : ℕ). turnedAt op fixed k (now (east .entry)) (now (north .entry)) (now (up .entry)) (now (t .entry)) (now (slon .entry)) (now (dz .entry)) (now (dx .entry)) (now (clat .entry)) j .y)
+        × Each (now (dz .exit)) (λ (j : ℕ). turnedAt op fixed k (now (east .entry)) (now (north .entry)) (now (up .entry)) (now (t .entry)) (now (slon .entry)) (now (dz .entry)) (now (dx .entry)) (now (clat .entry)) j .z) ⌝ }
 {
-    *dx = [0.0; WIDTH];
     *dy = [0.0; WIDTH];
-    *dz = [0.0; WIDTH];
     let mut i = 0;
     while i < WIDTH {
         let v = Velocity {
@@ -66,10 +65,10 @@ fn turned_block(
         };
         let lon = SinCos {
             s: slon[i],
-            c: clon[i],
+            c: dz[i],
         };
         let lat = SinCos {
-            s: slat[i],
+            s: dx[i],
             c: clat[i],
         };
         let r = deformation::turned(v.scale(k), lon, lat, lasting(op, fixed, t[i]));
@@ -80,7 +79,7 @@ fn turned_block(
     }
 }
 
-// The velocities as corrections of the tuples.
+// The velocities as corrections of the tuples. slon and clat are room for the parts.
 fn correction_block(
     op: Motion,
     inverse: bool,
@@ -94,20 +93,16 @@ fn correction_block(
     dx: &mut [f64; WIDTH],
     dy: &mut [f64; WIDTH],
     dz: &mut [f64; WIDTH],
+    slon: &mut [f64; WIDTH],
+    clat: &mut [f64; WIDTH],
 )
     ensures { λ _. ⌜ Each (now (dx .exit)) (λ (j : ℕ). correctionOf op inverse (velocityOf (now (east .entry)) (now (north .entry)) (now (up .entry)) j) (rowOf (now (x .entry)) (now (y .entry)) (now (z .entry)) (now (t .entry)) j) .x)
         × Each (now (dy .exit)) (λ (j : ℕ). correctionOf op inverse (velocityOf (now (east .entry)) (now (north .entry)) (now (up .entry)) j) (rowOf (now (x .entry)) (now (y .entry)) (now (z .entry)) (now (t .entry)) j) .y)
         × Each (now (dz .exit)) (λ (j : ℕ). correctionOf op inverse (velocityOf (now (east .entry)) (now (north .entry)) (now (up .entry)) j) (rowOf (now (x .entry)) (now (y .entry)) (now (z .entry)) (now (t .entry)) j) .z) ⌝ }
 {
-    let mut lam = [0.0; WIDTH];
-    let mut phi = [0.0; WIDTH];
-    geocart::place_block(op.ellps, x, y, z, t, &mut lam, &mut phi);
-    let mut slon = [0.0; WIDTH];
-    let mut clon = [0.0; WIDTH];
-    trig::sin_cos_block(&lam, &mut slon, &mut clon);
-    let mut slat = [0.0; WIDTH];
-    let mut clat = [0.0; WIDTH];
-    trig::sin_cos_block(&phi, &mut slat, &mut clat);
+    geocart::place_block(op.ellps, x, y, z, t, dx, dy); // longitudes and latitudes
+    trig::sin_cos_block(dx, slon, dz);
+    trig::sin_cos_block(dy, dx, clat);
     let fixed = floats::is_finite(op.dt);
     turned_block(
         op,
@@ -117,10 +112,8 @@ fn correction_block(
         north,
         up,
         t,
-        &slon,
-        &clon,
-        &slat,
-        &clat,
+        slon,
+        clat,
         dx,
         dy,
         dz,
@@ -146,12 +139,18 @@ fn square_block(dx: &[f64; WIDTH], dy: &[f64; WIDTH], dz: &[f64; WIDTH], q: &mut
     }
 }
 
-fn length_block(dx: &[f64; WIDTH], dy: &[f64; WIDTH], dz: &[f64; WIDTH], r: &mut [f64; WIDTH])
+// The corrections' lengths. q is room for the squares.
+fn length_block(
+    dx: &[f64; WIDTH],
+    dy: &[f64; WIDTH],
+    dz: &[f64; WIDTH],
+    q: &mut [f64; WIDTH],
+    r: &mut [f64; WIDTH],
+)
     ensures { λ _. ⌜ Each (now (r .exit)) (λ (j : ℕ). sqrtOf (dotOf (correctionAt (now (dx .entry)) (now (dy .entry)) (now (dz .entry)) j) (correctionAt (now (dx .entry)) (now (dy .entry)) (now (dz .entry)) j))) ⌝ }
 {
-    let mut q = [0.0; WIDTH];
-    square_block(dx, dy, dz, &mut q);
-    root::sqrt_block(&q, r);
+    square_block(dx, dy, dz, q);
+    root::sqrt_block(q, r);
 }
 
 // A number where there is a velocity, NaN where there is none.
@@ -161,24 +160,26 @@ fn kept(mark: u8, v: f64) -> f64
     if mark == 1 { v } else { 0.0 / 0.0 }
 }
 
-fn keep_block(marks: &[u8; WIDTH], v: &[f64; WIDTH], r: &mut [f64; WIDTH])
-    ensures { λ _. ⌜ Each (now (r .exit)) (λ (j : ℕ). keptOf (wholeAt (now (marks .entry)) j) (at (now (v .entry)) j)) ⌝ }
+// A column kept so.
+fn keep_block(marks: &[u8; WIDTH], r: &mut [f64; WIDTH])
+    requires { ⌜ length (now r) ≡ 16 ⌝ }
+    ensures { λ _. ⌜ Each (now (r .exit)) (λ (j : ℕ). keptOf (wholeAt (now (marks .entry)) j) (at (now (r .entry)) j)) ⌝ }
 {
-    *r = [0.0; WIDTH];
     let mut i = 0;
     while i < WIDTH {
-        r[i] = kept(marks[i], v[i]);
+        r[i] = kept(marks[i], r[i]);
         i += 1;
     }
 }
 
-fn add_block(marks: &[u8; WIDTH], v: &[f64; WIDTH], d: &[f64; WIDTH], r: &mut [f64; WIDTH])
-    ensures { λ _. ⌜ Each (now (r .exit)) (λ (j : ℕ). keptOf (wholeAt (now (marks .entry)) j) (at (now (v .entry)) j ⊕ at (now (d .entry)) j)) ⌝ }
+// A column added to corrections, and kept so.
+fn add_block(marks: &[u8; WIDTH], v: &[f64; WIDTH], r: &mut [f64; WIDTH])
+    requires { ⌜ length (now r) ≡ 16 ⌝ }
+    ensures { λ _. ⌜ Each (now (r .exit)) (λ (j : ℕ). keptOf (wholeAt (now (marks .entry)) j) (at (now (v .entry)) j ⊕ at (now (r .entry)) j)) ⌝ }
 {
-    *r = [0.0; WIDTH];
     let mut i = 0;
     while i < WIDTH {
-        r[i] = kept(marks[i], v[i] + d[i]);
+        r[i] = kept(marks[i], v[i] + r[i]);
         i += 1;
     }
 }
@@ -237,9 +238,7 @@ pub fn common_block(
         × Each (now (ot .exit)) (λ (j : ℕ). shiftedOf op inverse (now (east .entry)) (now (north .entry)) (now (up .entry)) (now (marks .entry)) (now (x .entry)) (now (y .entry)) (now (z .entry)) (now (t .entry)) j .tuple .t)
         × (r ≡ countTo 16 (λ (j : ℕ). shiftedOf op inverse (now (east .entry)) (now (north .entry)) (now (up .entry)) (now (marks .entry)) (now (x .entry)) (now (y .entry)) (now (z .entry)) (now (t .entry)) j .counted)) ⌝ }
 {
-    let mut dx = [0.0; WIDTH];
-    let mut dy = [0.0; WIDTH];
-    let mut dz = [0.0; WIDTH];
+    let mut spare = [0.0; WIDTH];
     correction_block(
         op,
         inverse,
@@ -250,22 +249,23 @@ pub fn common_block(
         y,
         z,
         t,
-        &mut dx,
-        &mut dy,
-        &mut dz,
+        ox,
+        oy,
+        oz,
+        ot,
+        &mut spare,
     );
     if op.raw {
-        let mut length = [0.0; WIDTH];
-        length_block(&dx, &dy, &dz, &mut length);
-        keep_block(marks, &dx, ox);
-        keep_block(marks, &dy, oy);
-        keep_block(marks, &dz, oz);
-        keep_block(marks, &length, ot);
+        length_block(ox, oy, oz, &mut spare, ot);
+        keep_block(marks, ox);
+        keep_block(marks, oy);
+        keep_block(marks, oz);
+        keep_block(marks, ot);
         return count_block(marks);
     }
-    add_block(marks, x, &dx, ox);
-    add_block(marks, y, &dy, oy);
-    add_block(marks, z, &dz, oz);
+    add_block(marks, x, ox);
+    add_block(marks, y, oy);
+    add_block(marks, z, oz);
     time_block(marks, t, ot);
     count_block(marks)
 }

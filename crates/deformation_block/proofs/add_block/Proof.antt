@@ -1,22 +1,22 @@
 -- `deformation_block::add_block` meets its contract. Assumes nothing.
 use Prim.Native.Nat.{ℕ, _-_}
 use borrow.Author.Needs.{needs}
-use mathlib.Core.Path.{refl}
+use mathlib.Core.Path.{_∙_}
 use Rattle.floats.specs.Binary64.{_⊕_}
-use Rattle.blocks.specs.Each.{at, wholeAt, UpTo}
-use Rattle.blocks.proofs.Laws.{none-filled, one-more, all-filled}
+use Rattle.blocks.specs.Each.{at, wholeAt}
 use Rattle.deformation_block.specs.Places.{keptOf}
+use Rattle.deformation_block.proofs.Over.{Over, none-over, one-over, all-over}
 use Rattle.deformation_block.proofs.add_block.Statement.{statement}
 use Rattle.deformation_block.proofs.add_block.Tie as tie
 
 abbrev Inv-loop : tie.InvT-loop
-Inv-loop marks v d r₀ i₀ r i = UpTo i r (λ (j : ℕ). keptOf (wholeAt marks j) (at v j ⊕ at d j))
+Inv-loop marks v r₀ i₀ r i = Over i r₀ r (λ (j : ℕ). keptOf (wholeAt marks j) (at v j ⊕ at r₀ j))
 
 abbrev μ-loop : tie.MeasureT-loop
-μ-loop marks v d r₀ i₀ r i = 16 - i
+μ-loop marks v r₀ i₀ r i = 16 - i
 
 loop-holds : tie.Need-loop-holds Inv-loop μ-loop
-loop-holds c = none-filled refl
+loop-holds c = none-over (c .pre)
 
 element-copy-out-kept : tie.Need-element-copy-out-kept Inv-loop μ-loop
 element-copy-out-kept c = search needs
@@ -49,10 +49,10 @@ loop-less : tie.Need-loop-less Inv-loop μ-loop
 loop-less c = search needs
 
 loop-again : tie.Need-loop-again Inv-loop μ-loop
-loop-again c = one-more (search needs) (c .kept .ensures) (c .before .before .before .before .before .loop .inv)
+loop-again c = one-over (search needs) (λ e. c .kept .ensures ∙ rw e) (c .before .before .before .before .before .loop .inv)
 
 returns : tie.Need-returns Inv-loop μ-loop
-returns c = all-filled (search needs) (c .before .loop .inv)
+returns c = all-over (search needs) (c .before .loop .inv)
 
 pub add-block-spec : {M : Type 1} → statement M
 add-block-spec =

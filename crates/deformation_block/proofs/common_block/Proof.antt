@@ -11,24 +11,24 @@ length-block-requires : tie.Need-length-block-requires
 length-block-requires c κs = search needs
 
 keep-block-requires : tie.Need-keep-block-requires
-keep-block-requires c κs = search needs
+keep-block-requires c κs = c .before .before .before .before .before .before .before .before .correction-block .ensures .0 .block
 
 keep-block-requires-2 : tie.Need-keep-block-requires-2
-keep-block-requires-2 c κs = search needs
+keep-block-requires-2 c κs = c .before .before .before .before .before .before .before .before .before .before .correction-block .ensures .1 .block
 
 keep-block-requires-3 : tie.Need-keep-block-requires-3
-keep-block-requires-3 c κs = search needs
+keep-block-requires-3 c κs = c .before .before .before .before .before .before .before .before .before .before .before .before .correction-block .ensures .2 .block
 
 keep-block-requires-4 : tie.Need-keep-block-requires-4
-keep-block-requires-4 c κs = search needs
+keep-block-requires-4 c κs = c .before .before .before .before .before .before .before .length-block .ensures .block
 
 count-block-requires : tie.Need-count-block-requires
 count-block-requires c κs = search needs
 
 returns : tie.Need-returns
 returns c =
-    let d = c .before .before .before .before .before .before .before .before .before .before .before .before .before .before .before .before .before .before .before .correction-block .ensures in
-    let a = c .before .before .before .before .before .before .before .before .before .before .before .before .before .before .before .before .before .before .before .before .before .before .before .args in
+    let d = c .before .before .before .before .before .before .before .before .before .before .before .before .before .before .before .before .correction-block .ensures in
+    let a = c .before .before .before .before .before .before .before .before .before .before .before .before .before .before .before .before .before .before .before .before .before .before .args in
     raw-all
     (a .op)
     (a .inverse)
@@ -40,25 +40,25 @@ returns c =
     (a .y .now)
     (a .z .now)
     (a .t .now)
-    (c .before .before .before .before .before .before .before .before .before .before .before .before .before .before .before .before .before .before .if1 .taken)
+    (c .before .before .before .before .before .before .before .before .before .before .before .before .before .before .before .if1 .taken)
     (d .0)
     (d .1)
     (d .2)
-    (c .before .before .before .before .before .before .before .before .before .before .before .before .before .length-block .ensures)
-    (c .before .before .before .before .before .before .before .before .before .before .keep-block .ensures)
-    (c .before .before .before .before .before .before .before .keep-block2 .ensures)
-    (c .before .before .before .before .keep-block3 .ensures)
+    (c .before .before .before .before .before .before .before .before .before .length-block .ensures)
+    (c .before .before .before .before .before .before .before .keep-block .ensures)
+    (c .before .before .before .before .before .keep-block2 .ensures)
+    (c .before .before .before .keep-block3 .ensures)
     (c .before .keep-block4 .ensures)
     (c .count-block .ensures)
 
 add-block-requires : tie.Need-add-block-requires
-add-block-requires c κs = search needs
+add-block-requires c κs = c .before .before .correction-block .ensures .0 .block
 
 add-block-requires-2 : tie.Need-add-block-requires-2
-add-block-requires-2 c κs = search needs
+add-block-requires-2 c κs = c .before .before .before .before .correction-block .ensures .1 .block
 
 add-block-requires-3 : tie.Need-add-block-requires-3
-add-block-requires-3 c κs = search needs
+add-block-requires-3 c κs = c .before .before .before .before .before .before .correction-block .ensures .2 .block
 
 time-block-requires : tie.Need-time-block-requires
 time-block-requires c κs = search needs
@@ -68,8 +68,8 @@ count-block-requires-2 c κs = search needs
 
 returns-2 : tie.Need-returns-2
 returns-2 c =
-    let d = c .before .before .before .before .before .before .before .before .before .before .before .before .before .correction-block .ensures in
-    let a = c .before .before .before .before .before .before .before .before .before .before .before .before .before .before .before .before .before .args in
+    let d = c .before .before .before .before .before .before .before .before .before .before .correction-block .ensures in
+    let a = c .before .before .before .before .before .before .before .before .before .before .before .before .before .before .before .before .args in
     sum-all
     (a .op)
     (a .inverse)
@@ -81,12 +81,12 @@ returns-2 c =
     (a .y .now)
     (a .z .now)
     (a .t .now)
-    (c .before .before .before .before .before .before .before .before .before .before .before .before .if1 .left)
+    (c .before .before .before .before .before .before .before .before .before .if1 .left)
     (d .0)
     (d .1)
     (d .2)
-    (c .before .before .before .before .before .before .before .before .before .add-block .ensures)
-    (c .before .before .before .before .before .before .add-block2 .ensures)
+    (c .before .before .before .before .before .before .before .add-block .ensures)
+    (c .before .before .before .before .before .add-block2 .ensures)
     (c .before .before .before .add-block3 .ensures)
     (c .before .time-block .ensures)
     (c .count-block2 .ensures)

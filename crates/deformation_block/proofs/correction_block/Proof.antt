@@ -21,15 +21,15 @@ metre-requires : tie.Need-metre-requires
 metre-requires c κs = search needs
 
 turned-block-requires : tie.Need-turned-block-requires
-turned-block-requires c κs = search needs
+turned-block-requires c κs = (c .before .before .before .before .before .before .before .sin-cos-block2 .ensures .0 .block, c .before .before .before .before .before .before .before .before .before .before .before .sin-cos-block .ensures .1 .block)
 
 returns : tie.Need-returns
 returns c =
-    let place = c .before .before .before .before .before .before .before .before .before .before .before .before .before .before .before .before .before .before .place-block .ensures in
-    let lon = c .before .before .before .before .before .before .before .before .before .before .before .before .before .before .sin-cos-block .ensures in
-    let lat = c .before .before .before .before .before .before .before .before .before .before .sin-cos-block2 .ensures in
+    let place = c .before .before .before .before .before .before .before .before .before .before .before .before .before .before .before .before .place-block .ensures in
+    let lon = c .before .before .before .before .before .before .before .before .before .before .before .before .sin-cos-block .ensures in
+    let lat = c .before .before .before .before .before .before .before .before .sin-cos-block2 .ensures in
     let turned = c .turned-block .ensures in
-    let a = c .before .before .before .before .before .before .before .before .before .before .before .before .before .before .before .before .before .before .before .before .before .args in
+    let a = c .before .before .before .before .before .before .before .before .before .before .before .before .before .before .before .before .before .before .before .args in
     turned-all
     (a .op)
     (a .inverse)
@@ -44,8 +44,8 @@ returns c =
     (turned .0)
     (turned .1)
     (turned .2)
-    (c .before .before .before .before .before .before .before .before .before .is-finite .ensures)
-    (c .before .before .before .before .before .before .before .before .metre .ensures)
+    (c .before .before .before .before .before .before .before .is-finite .ensures)
+    (c .before .before .before .before .before .before .metre .ensures)
     (place .0)
     (place .1)
     (lon .0)
