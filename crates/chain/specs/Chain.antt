@@ -12,7 +12,8 @@ use Rattle.bodies.specs.declared.Step.the-variants.{Cart, Permtide, Deformation
 use Rattle.sheet.specs.declared.Entry.{Entry}
 use Rattle.lists.specs.Run.{Turns, ranOf, countOf}
 use Rattle.helmert_runs.specs.Turns.{noState, helmertTurns}
-use Rattle.runs.specs.Turns.{cartTurns, permtideTurns, molodenskyTurns, deformationTurns}
+use Rattle.runs.specs.Turns.{cartTurns, permtideTurns, molodenskyTurns}
+use Rattle.deformation_runs.specs.Turns.{deformationTurns}
 
 -- ---- one step over a list
 

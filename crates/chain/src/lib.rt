@@ -58,7 +58,7 @@ fn run_step(
             return runs::run_permtide(list, inv, r);
         }
         Step::Deformation(r) => {
-            return runs::run_deformation(list, inv, r, velocities, marks);
+            return deformation_runs::run_deformation(list, inv, r, velocities, marks);
         }
         Step::Molodensky(r) => {
             return runs::run_molodensky(list, inv, r);

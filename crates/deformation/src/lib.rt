@@ -3,19 +3,10 @@
 // The Rust looks a velocity up in grid files; here the caller lends it, east, north and up in mm a year, with a mark that says whether there is one.
 // Letters and sequence of roundings are the Rust's, over our kernels. Forward adds (t - t_epoch) times the velocity, while comment (3) of the Rust's file
 // subtracts it: the code decides, and the difference is listed. The sum works on all four coordinates, the fourth addend 0.0, so a time of -0 becomes +0.
+// Sixteen tuples at a time: `deformation_block`.
 ghost use mathlib.Core.Path.{_≡_};
-ghost use Prim.Native.Nat.{ℕ, _+_, _<_};
-ghost use mathlib.Core.Bool.{cond};
-ghost use lib.Dec.{eqb};
-ghost use Rattle.floats.specs.Binary64.{_⊕_, bits};
-ghost use Rattle.blocks.specs.Each.{at, wholeAt, Each, countTo};
-ghost use Rattle.root.specs.Sqrt.{sqrtOf};
-ghost use Rattle.tuple.specs.Sums.{dotOf};
-ghost use Rattle.tuple.specs.Columns.{rowOf};
 ghost use Rattle.deformation.specs.Record.{blankOf, rawOf, finiteOrNot, inRuleOf, neitherOf};
-ghost use Rattle.deformation.specs.Step.{motionOf, durationOf, scaleOf, metresOf, integratedOf, withLengthOf, deformedOf, commonOf};
-ghost use Rattle.deformation.specs.Places.{velocityOf, shiftedOf, correctionOf, turnedOf, lastingOf, metreOf, turnedAt, correctionAt, keptOf};
-use blocks::WIDTH;
+ghost use Rattle.deformation.specs.Step.{motionOf, durationOf, scaleOf, metresOf, turnedOf, integratedOf, withLengthOf, deformedOf, commonOf};
 use ellipsoid::Ellipsoid;
 use trig::SinCos;
 use tuple::Shifted;
@@ -121,7 +112,7 @@ impl Motion {
 }
 
 impl Velocity {
-    fn scale(self, k: f64) -> Self
+    pub fn scale(self, k: f64) -> Self
         ensures { λ r. ⌜ r ≡ scaleOf self k ⌝ }
     {
         Velocity {
@@ -161,7 +152,8 @@ pub fn rotate_and_integrate_velocity(
     )
 }
 
-fn turned(v: Velocity, lon: SinCos, lat: SinCos, duration: f64) -> Tuple
+// The same with the sines and cosines of longitude and latitude at hand.
+pub fn turned(v: Velocity, lon: SinCos, lat: SinCos, duration: f64) -> Tuple
     ensures { λ r. ⌜ r ≡ turnedOf v lon lat duration ⌝ }
 {
     Tuple {
@@ -219,261 +211,4 @@ pub fn common(op: Motion, inverse: bool, v: Velocity, mark: u8, cart: Tuple) -> 
         tuple: Tuple::nan(),
         counted: false,
     }
-}
-
-// ----- A   B L O C K -----------------------------------------------------------------
-
-// Sixteen tuples as columns. Each loop is straight arithmetic over the places, so that a compiler makes vectors of it; what depends on the step and not
-// on the tuple is decided before. An absent velocity is worked on like the others, and NaN is written in the end.
-
-impl Motion {
-    fn lasting(self, fixed: bool, t: f64) -> f64
-        ensures { λ r. ⌜ r ≡ lastingOf self fixed t ⌝ }
-    {
-        if fixed { -self.dt } else { self.epoch - t }
-    }
-}
-
-// mm to metres, and the direction.
-fn metre(inverse: bool) -> f64
-    ensures { λ r. ⌜ r ≡ metreOf inverse ⌝ }
-{
-    if inverse { 0.001 } else { -0.001 }
-}
-
-// The velocities, turned and times their durations. k brings them to metres.
-fn turned_block(
-    op: Motion,
-    fixed: bool,
-    k: f64,
-    east: &[f64; WIDTH],
-    north: &[f64; WIDTH],
-    up: &[f64; WIDTH],
-    t: &[f64; WIDTH],
-    slon: &[f64; WIDTH],
-    clon: &[f64; WIDTH],
-    slat: &[f64; WIDTH],
-    clat: &[f64; WIDTH],
-    dx: &mut [f64; WIDTH],
-    dy: &mut [f64; WIDTH],
-    dz: &mut [f64; WIDTH],
-)
-    ensures { λ _. ⌜ Each (now (dx .exit)) (λ (j : ℕ). turnedAt op fixed k (now (east .entry)) (now (north .entry)) (now (up .entry)) (now (t .entry)) (now (slon .entry)) (now (clon .entry)) (now (slat .entry)) (now (clat .entry)) j .x)
-        × Each (now (dy .exit)) (λ (j : ℕ). turnedAt op fixed k (now (east .entry)) (now (north .entry)) (now (up .entry)) (now (t .entry)) (now (slon .entry)) (now (clon .entry)) (now (slat .entry)) (now (clat .entry)) j .y)
-        × Each (now (dz .exit)) (λ (j : ℕ). turnedAt op fixed k (now (east .entry)) (now (north .entry)) (now (up .entry)) (now (t .entry)) (now (slon .entry)) (now (clon .entry)) (now (slat .entry)) (now (clat .entry)) j .z) ⌝ }
-{
-    *dx = [0.0; WIDTH];
-    *dy = [0.0; WIDTH];
-    *dz = [0.0; WIDTH];
-    let mut i = 0;
-    while i < WIDTH {
-        let v = Velocity {
-            east: east[i],
-            north: north[i],
-            up: up[i],
-        };
-        let lon = SinCos {
-            s: slon[i],
-            c: clon[i],
-        };
-        let lat = SinCos {
-            s: slat[i],
-            c: clat[i],
-        };
-        let r = turned(v.scale(k), lon, lat, op.lasting(fixed, t[i]));
-        dx[i] = r.x;
-        dy[i] = r.y;
-        dz[i] = r.z;
-        i += 1;
-    }
-}
-
-// The velocities as corrections of the tuples.
-fn correction_block(
-    op: Motion,
-    inverse: bool,
-    east: &[f64; WIDTH],
-    north: &[f64; WIDTH],
-    up: &[f64; WIDTH],
-    x: &[f64; WIDTH],
-    y: &[f64; WIDTH],
-    z: &[f64; WIDTH],
-    t: &[f64; WIDTH],
-    dx: &mut [f64; WIDTH],
-    dy: &mut [f64; WIDTH],
-    dz: &mut [f64; WIDTH],
-)
-    ensures { λ _. ⌜ Each (now (dx .exit)) (λ (j : ℕ). correctionOf op inverse (velocityOf (now (east .entry)) (now (north .entry)) (now (up .entry)) j) (rowOf (now (x .entry)) (now (y .entry)) (now (z .entry)) (now (t .entry)) j) .x)
-        × Each (now (dy .exit)) (λ (j : ℕ). correctionOf op inverse (velocityOf (now (east .entry)) (now (north .entry)) (now (up .entry)) j) (rowOf (now (x .entry)) (now (y .entry)) (now (z .entry)) (now (t .entry)) j) .y)
-        × Each (now (dz .exit)) (λ (j : ℕ). correctionOf op inverse (velocityOf (now (east .entry)) (now (north .entry)) (now (up .entry)) j) (rowOf (now (x .entry)) (now (y .entry)) (now (z .entry)) (now (t .entry)) j) .z) ⌝ }
-{
-    let mut lam = [0.0; WIDTH];
-    let mut phi = [0.0; WIDTH];
-    geocart::place_block(op.ellps, x, y, z, t, &mut lam, &mut phi);
-    let mut slon = [0.0; WIDTH];
-    let mut clon = [0.0; WIDTH];
-    trig::sin_cos_block(&lam, &mut slon, &mut clon);
-    let mut slat = [0.0; WIDTH];
-    let mut clat = [0.0; WIDTH];
-    trig::sin_cos_block(&phi, &mut slat, &mut clat);
-    let fixed = floats::is_finite(op.dt);
-    turned_block(
-        op,
-        fixed,
-        metre(inverse),
-        east,
-        north,
-        up,
-        t,
-        &slon,
-        &clon,
-        &slat,
-        &clat,
-        dx,
-        dy,
-        dz,
-    );
-}
-
-// The squares of the corrections' lengths.
-fn square_block(dx: &[f64; WIDTH], dy: &[f64; WIDTH], dz: &[f64; WIDTH], q: &mut [f64; WIDTH])
-    ensures { λ _. ⌜ Each (now (q .exit)) (λ (j : ℕ). dotOf (correctionAt (now (dx .entry)) (now (dy .entry)) (now (dz .entry)) j) (correctionAt (now (dx .entry)) (now (dy .entry)) (now (dz .entry)) j)) ⌝ }
-{
-    *q = [0.0; WIDTH];
-    let mut i = 0;
-    while i < WIDTH {
-        let time = 0.0;
-        let d = Tuple {
-            x: dx[i],
-            y: dy[i],
-            z: dz[i],
-            t: time,
-        };
-        q[i] = d.dot(d);
-        i += 1;
-    }
-}
-
-fn length_block(dx: &[f64; WIDTH], dy: &[f64; WIDTH], dz: &[f64; WIDTH], r: &mut [f64; WIDTH])
-    ensures { λ _. ⌜ Each (now (r .exit)) (λ (j : ℕ). sqrtOf (dotOf (correctionAt (now (dx .entry)) (now (dy .entry)) (now (dz .entry)) j) (correctionAt (now (dx .entry)) (now (dy .entry)) (now (dz .entry)) j))) ⌝ }
-{
-    let mut q = [0.0; WIDTH];
-    square_block(dx, dy, dz, &mut q);
-    root::sqrt_block(&q, r);
-}
-
-// A number where there is a velocity, NaN where there is none.
-fn kept(mark: u8, v: f64) -> f64
-    ensures { λ r. ⌜ r ≡ keptOf mark v ⌝ }
-{
-    if mark == 1 { v } else { 0.0 / 0.0 }
-}
-
-fn keep_block(marks: &[u8; WIDTH], v: &[f64; WIDTH], r: &mut [f64; WIDTH])
-    ensures { λ _. ⌜ Each (now (r .exit)) (λ (j : ℕ). keptOf (wholeAt (now (marks .entry)) j) (at (now (v .entry)) j)) ⌝ }
-{
-    *r = [0.0; WIDTH];
-    let mut i = 0;
-    while i < WIDTH {
-        r[i] = kept(marks[i], v[i]);
-        i += 1;
-    }
-}
-
-fn add_block(marks: &[u8; WIDTH], v: &[f64; WIDTH], d: &[f64; WIDTH], r: &mut [f64; WIDTH])
-    ensures { λ _. ⌜ Each (now (r .exit)) (λ (j : ℕ). keptOf (wholeAt (now (marks .entry)) j) (at (now (v .entry)) j ⊕ at (now (d .entry)) j)) ⌝ }
-{
-    *r = [0.0; WIDTH];
-    let mut i = 0;
-    while i < WIDTH {
-        r[i] = kept(marks[i], v[i] + d[i]);
-        i += 1;
-    }
-}
-
-// The times: 0.0 is added.
-fn time_block(marks: &[u8; WIDTH], t: &[f64; WIDTH], r: &mut [f64; WIDTH])
-    ensures { λ _. ⌜ Each (now (r .exit)) (λ (j : ℕ). keptOf (wholeAt (now (marks .entry)) j) (at (now (t .entry)) j ⊕ bits 0)) ⌝ }
-{
-    *r = [0.0; WIDTH];
-    let mut i = 0;
-    while i < WIDTH {
-        r[i] = kept(marks[i], t[i] + 0.0);
-        i += 1;
-    }
-}
-
-fn tally(n: usize, counted: bool) -> usize
-    requires { ⌜ n < 18446744073709551615 ⌝ }
-    ensures { λ r. ⌜ r ≡ n + cond counted 1 0 ⌝ }
-{
-    if counted { n + 1 } else { n }
-}
-
-fn count_block(marks: &[u8; WIDTH]) -> usize
-    ensures { λ r. ⌜ r ≡ countTo 16 (λ (j : ℕ). eqb (wholeAt (now (marks .entry)) j) 1) ⌝ }
-{
-    let mut n = 0;
-    let mut i = 0;
-    while i < WIDTH {
-        n = tally(n, marks[i] == 1);
-        i += 1;
-    }
-    n
-}
-
-// Sixteen tuples as columns, each shifted as `common` shifts it, and how many of them count.
-pub fn common_block(
-    op: Motion,
-    inverse: bool,
-    east: &[f64; WIDTH],
-    north: &[f64; WIDTH],
-    up: &[f64; WIDTH],
-    marks: &[u8; WIDTH],
-    x: &[f64; WIDTH],
-    y: &[f64; WIDTH],
-    z: &[f64; WIDTH],
-    t: &[f64; WIDTH],
-    ox: &mut [f64; WIDTH],
-    oy: &mut [f64; WIDTH],
-    oz: &mut [f64; WIDTH],
-    ot: &mut [f64; WIDTH],
-) -> usize
-    ensures { λ r. ⌜ Each (now (ox .exit)) (λ (j : ℕ). shiftedOf op inverse (now (east .entry)) (now (north .entry)) (now (up .entry)) (now (marks .entry)) (now (x .entry)) (now (y .entry)) (now (z .entry)) (now (t .entry)) j .tuple .x)
-        × Each (now (oy .exit)) (λ (j : ℕ). shiftedOf op inverse (now (east .entry)) (now (north .entry)) (now (up .entry)) (now (marks .entry)) (now (x .entry)) (now (y .entry)) (now (z .entry)) (now (t .entry)) j .tuple .y)
-        × Each (now (oz .exit)) (λ (j : ℕ). shiftedOf op inverse (now (east .entry)) (now (north .entry)) (now (up .entry)) (now (marks .entry)) (now (x .entry)) (now (y .entry)) (now (z .entry)) (now (t .entry)) j .tuple .z)
-        × Each (now (ot .exit)) (λ (j : ℕ). shiftedOf op inverse (now (east .entry)) (now (north .entry)) (now (up .entry)) (now (marks .entry)) (now (x .entry)) (now (y .entry)) (now (z .entry)) (now (t .entry)) j .tuple .t)
-        × (r ≡ countTo 16 (λ (j : ℕ). shiftedOf op inverse (now (east .entry)) (now (north .entry)) (now (up .entry)) (now (marks .entry)) (now (x .entry)) (now (y .entry)) (now (z .entry)) (now (t .entry)) j .counted)) ⌝ }
-{
-    let mut dx = [0.0; WIDTH];
-    let mut dy = [0.0; WIDTH];
-    let mut dz = [0.0; WIDTH];
-    correction_block(
-        op,
-        inverse,
-        east,
-        north,
-        up,
-        x,
-        y,
-        z,
-        t,
-        &mut dx,
-        &mut dy,
-        &mut dz,
-    );
-    if op.raw {
-        let mut length = [0.0; WIDTH];
-        length_block(&dx, &dy, &dz, &mut length);
-        keep_block(marks, &dx, ox);
-        keep_block(marks, &dy, oy);
-        keep_block(marks, &dz, oz);
-        keep_block(marks, &length, ot);
-        return count_block(marks);
-    }
-    add_block(marks, x, &dx, ox);
-    add_block(marks, y, &dy, oy);
-    add_block(marks, z, &dz, oz);
-    time_block(marks, t, ot);
-    count_block(marks)
 }

@@ -1,10 +1,5 @@
--- What each kind of step but Helmert makes of one tuple of a list, forward or inverse. Each is made of the step's own definition; nothing is computed here.
-use Prim.Native.Nat.{ℕ, _+_, _*_, _/_}
+-- What cart, permtide and Molodensky make of one tuple of a list, forward or inverse. Each is made of the step's own definition; nothing is computed here.
 use mathlib.Core.Bool.{Bool, cond}
-use mathlib.Core.List.{List}
-use lib.Dec.{ltb}
-use lib.ListN.{getD, length}
-use lib.Ieee.{Float, nan}
 use Rattle.tuple.specs.declared.Tuple.{Tuple}
 use Rattle.tuple.specs.declared.Shifted.{Shifted}
 use Rattle.ellipsoid.specs.Figure.{namedOf}
@@ -14,19 +9,15 @@ use Rattle.permtide.specs.declared.Permtide.{Permtide}
 use Rattle.permtide.specs.Step.{tideOf, fwdOf, invOf}
 use Rattle.molodensky.specs.declared.Molodensky.{Molodensky}
 use Rattle.molodensky.specs.Step.{mopedOf, commonOf}
-use Rattle.deformation.specs.declared.Deformation.{Deformation}
-use Rattle.deformation.specs.declared.Motion.{Motion}
-use Rattle.deformation.specs.declared.Velocity.{Velocity}
-use Rattle.deformation.specs.Step.{motionOf, commonOf as deformationOf}
 use Rattle.helmert.specs.declared.State.{State}
-use Rattle.lists.specs.Run.{Turn, Turns}
+use Rattle.lists.specs.Run.{Turns}
 use Rattle.helmert_runs.specs.Turns.{allTurns}
 
 -- a step that sees the tuple alone, and says whether it counts
 abbrev pub plainTurns : (Tuple → Shifted) → Turns State
 plainTurns f k state v = record { state = state; tuple = f v .tuple; counted = f v .counted }
 
--- ---- the kinds but Helmert
+-- ---- the kinds
 
 abbrev pub cartTurns : Bool → Cart → Turns State
 cartTurns inverse r =
@@ -37,23 +28,3 @@ permtideTurns inverse r = cond inverse (allTurns (invOf (tideOf r))) (allTurns (
 
 abbrev pub molodenskyTurns : Bool → Molodensky → Turns State
 molodenskyTurns inverse r = allTurns (commonOf (mopedOf r) inverse)
-
--- east, north, up of fix k: three numbers a tuple; NaNs where they are not lent
-unfoldable pub velocityAt : List Float → ℕ → Velocity
-velocityAt velocities k =
-    cond (ltb k (length velocities / 3))
-    (record { east = getD velocities (3 * k) nan; north = getD velocities (3 * k + 1) nan; up = getD velocities (3 * k + 2) nan })
-    (record { east = nan; north = nan; up = nan })
-
--- the mark of fix k: 1 present, 0 absent; absent where none is lent
-abbrev pub markAt : List ℕ → ℕ → ℕ
-markAt marks k = getD marks k 0
-
--- a fix's velocity and mark are those at its index
-abbrev pub movedTurns : Motion → Bool → List Float → List ℕ → Turns State
-movedTurns op inverse velocities marks k state v =
-    let shifted = deformationOf op inverse (velocityAt velocities k) (markAt marks k) v in
-    record { state = state; tuple = shifted .tuple; counted = shifted .counted }
-
-abbrev pub deformationTurns : Bool → Deformation → List Float → List ℕ → Turns State
-deformationTurns inverse r velocities marks = movedTurns (motionOf r) inverse velocities marks

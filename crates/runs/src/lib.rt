@@ -1,27 +1,22 @@
-// The kinds of step but Helmert over a lent flat list, written where the list stands: sixteen tuples a turn by the step's block form, and a loop for the fewer
-// than sixteen that are left. Helmert's loops: `helmert_runs`.
+// cart, permtide and Molodensky over a lent flat list, written where the list stands: sixteen tuples a turn by the step's block form, and a loop for the fewer
+// than sixteen that are left. Helmert's loops: `helmert_runs`; deformation's: `deformation_runs`.
 //
 // What depends on the record alone is worked out once a list: the ellipsoid, the inverse's constants, the coefficient. Kind and direction are decided before a
 // loop starts. Every function is proved equal, list and count, to the step's own definition from tuple to tuple (specs/Turns.antt over `lists`).
 // Exact: no rounding but the steps' own. Used by the chain.
 ghost use mathlib.Core.Path.{_≡_};
 ghost use mathlib.Core.Bool.{cond};
-ghost use Prim.Native.Nat.{ℕ, _+_, _^_, _<_};
-ghost use Rattle.blocks.specs.Each.{Each, EachWhole};
-ghost use lib.ListN.{getD, length};
+ghost use Prim.Native.Nat.{_+_, _<_};
 ghost use Rattle.cart.specs.Step.{cartFwdOf, cartInvOf};
 ghost use Rattle.permtide.specs.Step.{fwdOf, invOf};
 ghost use Rattle.molodensky.specs.Step.{commonOf};
 ghost use Rattle.lists.specs.Run.{ranOf, countOf};
 ghost use Rattle.lists.specs.Sixteen.{turnedOf, takenOf};
 ghost use Rattle.helmert_runs.specs.Turns.{noState, allTurns};
-ghost use Rattle.runs.specs.Turns.{plainTurns, velocityAt, markAt, movedTurns, cartTurns, permtideTurns, molodenskyTurns, deformationTurns};
+ghost use Rattle.runs.specs.Turns.{plainTurns, cartTurns, permtideTurns, molodenskyTurns};
 use blocks::WIDTH;
 use cart::Cart;
 use cart::Inverse;
-use deformation::Deformation;
-use deformation::Motion;
-use deformation::Velocity;
 use ellipsoid::Ellipsoid;
 use molodensky::Molodensky;
 use molodensky::Moped;
@@ -226,168 +221,4 @@ pub fn run_molodensky(list: &mut [f64], inverse: bool, step: Molodensky) -> usiz
 {
     molodensky_common(list, Moped::new(step), inverse);
     list.len() / 4
-}
-
-// ----- deformation -----------------------------------------------------------------------
-
-// The velocity of fix k; NaNs where none is lent.
-pub fn velocity_at(velocities: &[f64], k: usize) -> Velocity
-    ensures { λ r. ⌜ r ≡ velocityAt (now (velocities .entry)) k ⌝ }
-{
-    if k < velocities.len() / 3 {
-        let at = 3 * k;
-        return Velocity {
-            east: velocities[at],
-            north: velocities[at + 1],
-            up: velocities[at + 2],
-        };
-    }
-    let none = 0.0 / 0.0;
-    Velocity {
-        east: none,
-        north: none,
-        up: none,
-    }
-}
-
-// The mark of fix k; absent where none is lent.
-pub fn mark_at(marks: &[u8], k: usize) -> u8
-    ensures { λ r. ⌜ r ≡ markAt (now (marks .entry)) k ⌝ }
-{
-    if k < marks.len() {
-        return marks[k];
-    }
-    0
-}
-
-// The velocities of sixteen fixes from k on, as columns.
-fn velocity_block(
-    velocities: &[f64],
-    k: usize,
-    east: &mut [f64; WIDTH],
-    north: &mut [f64; WIDTH],
-    up: &mut [f64; WIDTH],
-)
-    requires { ⌜ k < 2 ^ 62 ⌝ }
-    ensures { λ _. ⌜ Each (now (east .exit)) (λ (j : ℕ). velocityAt (now (velocities .entry)) (k + j) .east)
-        × Each (now (north .exit)) (λ (j : ℕ). velocityAt (now (velocities .entry)) (k + j) .north)
-        × Each (now (up .exit)) (λ (j : ℕ). velocityAt (now (velocities .entry)) (k + j) .up) ⌝ }
-{
-    *east = [0.0; WIDTH];
-    *north = [0.0; WIDTH];
-    *up = [0.0; WIDTH];
-    let mut j = 0;
-    while j < WIDTH {
-        let v = velocity_at(velocities, k + j);
-        east[j] = v.east;
-        north[j] = v.north;
-        up[j] = v.up;
-        j += 1;
-    }
-}
-
-// The marks of sixteen fixes from k on.
-fn mark_block(marks: &[u8], k: usize, m: &mut [u8; WIDTH])
-    requires { ⌜ k < 2 ^ 62 ⌝ }
-    ensures { λ _. ⌜ EachWhole (now (m .exit)) (λ (j : ℕ). markAt (now (marks .entry)) (k + j)) ⌝ }
-{
-    *m = [0; WIDTH];
-    let mut j = 0;
-    while j < WIDTH {
-        m[j] = mark_at(marks, k + j);
-        j += 1;
-    }
-}
-
-fn deformation_sixteen(
-    list: &mut [f64],
-    i: usize,
-    op: Motion,
-    inverse: bool,
-    velocities: &[f64],
-    marks: &[u8],
-) -> usize
-    ensures { λ r. ⌜ (now (list .exit) ≡ turnedOf (movedTurns op inverse (now (velocities .entry)) (now (marks .entry))) noState (now (list .entry)) i)
-        × (r ≡ takenOf (movedTurns op inverse (now (velocities .entry)) (now (marks .entry))) noState (now (list .entry)) i) ⌝ }
-{
-    let mut east = [0.0; WIDTH];
-    let mut north = [0.0; WIDTH];
-    let mut up = [0.0; WIDTH];
-    let mut m = [0u8; WIDTH];
-    velocity_block(velocities, i / 4, &mut east, &mut north, &mut up);
-    mark_block(marks, i / 4, &mut m);
-    let mut x = [0.0; WIDTH];
-    let mut y = [0.0; WIDTH];
-    let mut z = [0.0; WIDTH];
-    let mut t = [0.0; WIDTH];
-    let mut ox = [0.0; WIDTH];
-    let mut oy = [0.0; WIDTH];
-    let mut oz = [0.0; WIDTH];
-    let mut ot = [0.0; WIDTH];
-    lists::read_block(list, i, &mut x, &mut y, &mut z, &mut t);
-    let n = deformation::common_block(
-        op,
-        inverse,
-        &east,
-        &north,
-        &up,
-        &m,
-        &x,
-        &y,
-        &z,
-        &t,
-        &mut ox,
-        &mut oy,
-        &mut oz,
-        &mut ot,
-    );
-    lists::write_block(list, i, &ox, &oy, &oz, &ot);
-    n
-}
-
-fn deformation_common(
-    list: &mut [f64],
-    op: Motion,
-    inverse: bool,
-    velocities: &[f64],
-    marks: &[u8],
-) -> usize
-    ensures { λ r. ⌜ (now (list .exit) ≡ ranOf (movedTurns op inverse (now (velocities .entry)) (now (marks .entry))) 0 noState (now (list .entry)))
-        × (r ≡ countOf (movedTurns op inverse (now (velocities .entry)) (now (marks .entry))) 0 noState (now (list .entry))) ⌝ }
-{
-    let mut n = 0;
-    let mut i = 0;
-    while 64 <= list.len() - i {
-        let m = deformation_sixteen(list, i, op, inverse, velocities, marks);
-        n += m;
-        i += 64;
-    }
-    while 4 <= list.len() - i {
-        let k = i / 4;
-        let r = deformation::common(
-            op,
-            inverse,
-            velocity_at(velocities, k),
-            mark_at(marks, k),
-            lists::read4(list, i),
-        );
-        lists::write4(list, i, r.tuple);
-        n = tally(n, r.counted);
-        i += 4;
-    }
-    n
-}
-
-// A fix's velocity and mark stand at its index.
-pub fn run_deformation(
-    list: &mut [f64],
-    inverse: bool,
-    step: Deformation,
-    velocities: &[f64],
-    marks: &[u8],
-) -> usize
-    ensures { λ r. ⌜ (now (list .exit) ≡ ranOf (deformationTurns inverse step (now (velocities .entry)) (now (marks .entry))) 0 noState (now (list .entry)))
-        × (r ≡ countOf (deformationTurns inverse step (now (velocities .entry)) (now (marks .entry))) 0 noState (now (list .entry))) ⌝ }
-{
-    deformation_common(list, Motion::new(step), inverse, velocities, marks)
 }

@@ -1,0 +1,3 @@
+-- What a block of tuples is proved by.
+pub mod Laws
+mod Over

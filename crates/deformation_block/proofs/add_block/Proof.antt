@@ -1,0 +1,75 @@
+-- `deformation_block::add_block` meets its contract. Assumes nothing.
+use Prim.Native.Nat.{ℕ, _-_}
+use borrow.Author.Needs.{needs}
+use mathlib.Core.Path.{_∙_}
+use Rattle.floats.specs.Binary64.{_⊕_}
+use Rattle.blocks.specs.Each.{at, wholeAt}
+use Rattle.deformation_block.specs.Places.{keptOf}
+use Rattle.deformation_block.proofs.Over.{Over, none-over, one-over, all-over}
+use Rattle.deformation_block.proofs.add_block.Statement.{statement}
+use Rattle.deformation_block.proofs.add_block.Tie as tie
+
+abbrev Inv-loop : tie.InvT-loop
+Inv-loop marks v r₀ i₀ r i = Over i r₀ r (λ (j : ℕ). keptOf (wholeAt marks j) (at v j ⊕ at r₀ j))
+
+abbrev μ-loop : tie.MeasureT-loop
+μ-loop marks v r₀ i₀ r i = 16 - i
+
+loop-holds : tie.Need-loop-holds Inv-loop μ-loop
+loop-holds c = none-over (c .pre)
+
+element-copy-out-kept : tie.Need-element-copy-out-kept Inv-loop μ-loop
+element-copy-out-kept c = search needs
+
+mul-kept : tie.Need-mul-kept Inv-loop μ-loop
+mul-kept c = search needs
+
+element-copy-out-kept-2 : tie.Need-element-copy-out-kept-2 Inv-loop μ-loop
+element-copy-out-kept-2 c = search needs
+
+mul-kept-2 : tie.Need-mul-kept-2 Inv-loop μ-loop
+mul-kept-2 c = search needs
+
+element-copy-out-kept-3 : tie.Need-element-copy-out-kept-3 Inv-loop μ-loop
+element-copy-out-kept-3 c = search needs
+
+kept-requires : tie.Need-kept-requires Inv-loop μ-loop
+kept-requires c κs = search needs
+
+mul-r : tie.Need-mul-r Inv-loop μ-loop
+mul-r c = search needs
+
+element-write-r : tie.Need-element-write-r Inv-loop μ-loop
+element-write-r c = search needs
+
+add-i : tie.Need-add-i Inv-loop μ-loop
+add-i c = search needs
+
+loop-less : tie.Need-loop-less Inv-loop μ-loop
+loop-less c = search needs
+
+loop-again : tie.Need-loop-again Inv-loop μ-loop
+loop-again c = one-over (search needs) (λ e. c .kept .ensures ∙ rw e) (c .before .before .before .before .before .loop .inv)
+
+returns : tie.Need-returns Inv-loop μ-loop
+returns c = all-over (search needs) (c .before .loop .inv)
+
+pub add-block-spec : {M : Type 1} → statement M
+add-block-spec =
+    tie.close
+    (tie.spec
+    Inv-loop
+    μ-loop
+    loop-holds
+    element-copy-out-kept
+    mul-kept
+    element-copy-out-kept-2
+    mul-kept-2
+    element-copy-out-kept-3
+    kept-requires
+    mul-r
+    element-write-r
+    add-i
+    loop-less
+    loop-again
+    returns)

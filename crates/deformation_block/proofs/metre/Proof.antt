@@ -1,0 +1,12 @@
+-- `deformation_block::metre` meets its contract. Assumes nothing.
+use Rattle.deformation_block.proofs.metre.Statement.{statement}
+use Rattle.deformation_block.proofs.metre.Tie as tie
+
+returns : tie.Need-returns
+returns c = rw (c .if1 .taken)
+
+returns-2 : tie.Need-returns-2
+returns-2 c = rw (c .if1 .left)
+
+pub metre-spec : {M : Type 1} → statement M
+metre-spec = tie.close (tie.spec returns returns-2)

@@ -1,0 +1,157 @@
+-- `deformation_block::turned_block` meets its contract. Assumes nothing.
+use Prim.Native.Nat.{ℕ, _-_}
+use borrow.Author.Needs.{needs}
+use native.Mathlib.Nat.{le-refl}
+use mathlib.Core.Path.{refl, ap}
+use Rattle.blocks.specs.Each.{UpTo}
+use Rattle.blocks.proofs.Laws.{none-filled, one-more, all-filled}
+use Rattle.tuple.specs.declared.Tuple.{Tuple}
+use Rattle.deformation_block.specs.Places.{turnedAt}
+use Rattle.deformation_block.proofs.Over.{Over, none-over, one-over, all-over}
+use Rattle.deformation_block.proofs.turned_block.Statement.{statement}
+use Rattle.deformation_block.proofs.turned_block.Tie as tie
+
+abbrev Inv-loop : tie.InvT-loop
+Inv-loop op fixed k east north up t slon clat dx₀ dy₀ dz₀ i₀ dx dy dz i =
+    Over i dx₀ dx (λ (j : ℕ). turnedAt op fixed k east north up t slon dz₀ dx₀ clat j .x)
+    × UpTo i dy (λ (j : ℕ). turnedAt op fixed k east north up t slon dz₀ dx₀ clat j .y)
+    × Over i dz₀ dz (λ (j : ℕ). turnedAt op fixed k east north up t slon dz₀ dx₀ clat j .z)
+
+abbrev μ-loop : tie.MeasureT-loop
+μ-loop op fixed k east north up t slon clat dx₀ dy₀ dz₀ i₀ dx dy dz i = 16 - i
+
+loop-holds : tie.Need-loop-holds Inv-loop μ-loop
+loop-holds c = (none-over (c .before .pre .0), none-filled refl, none-over (c .before .pre .1))
+
+mul-turned : tie.Need-mul-turned Inv-loop μ-loop
+mul-turned c = search needs
+
+element-copy-out-turned : tie.Need-element-copy-out-turned Inv-loop μ-loop
+element-copy-out-turned c = search needs
+
+mul-t23 : tie.Need-mul-t23 Inv-loop μ-loop
+mul-t23 c = search needs
+
+element-copy-out-t26 : tie.Need-element-copy-out-t26 Inv-loop μ-loop
+element-copy-out-t26 c = search needs
+
+mul-lasting : tie.Need-mul-lasting Inv-loop μ-loop
+mul-lasting c = search needs
+
+element-copy-out-lasting : tie.Need-element-copy-out-lasting Inv-loop μ-loop
+element-copy-out-lasting c = search needs
+
+mul-lasting-2 : tie.Need-mul-lasting-2 Inv-loop μ-loop
+mul-lasting-2 c = search needs
+
+element-copy-out-lasting-2 : tie.Need-element-copy-out-lasting-2 Inv-loop μ-loop
+element-copy-out-lasting-2 c = search needs
+
+mul-t27 : tie.Need-mul-t27 Inv-loop μ-loop
+mul-t27 c = search needs
+
+element-copy-out-t26-2 : tie.Need-element-copy-out-t26-2 Inv-loop μ-loop
+element-copy-out-t26-2 c = search needs
+
+mul-t23-2 : tie.Need-mul-t23-2 Inv-loop μ-loop
+mul-t23-2 c = search needs
+
+element-copy-out-t26-3 : tie.Need-element-copy-out-t26-3 Inv-loop μ-loop
+element-copy-out-t26-3 c = search needs
+
+mul-lasting-3 : tie.Need-mul-lasting-3 Inv-loop μ-loop
+mul-lasting-3 c = search needs
+
+element-copy-out-lasting-3 : tie.Need-element-copy-out-lasting-3 Inv-loop μ-loop
+element-copy-out-lasting-3 c = search needs
+
+scale-requires : tie.Need-scale-requires Inv-loop μ-loop
+scale-requires c κs = search needs
+
+mul-lasting-4 : tie.Need-mul-lasting-4 Inv-loop μ-loop
+mul-lasting-4 c = search needs
+
+element-copy-out-lasting-4 : tie.Need-element-copy-out-lasting-4 Inv-loop μ-loop
+element-copy-out-lasting-4 c = search needs
+
+lasting-requires : tie.Need-lasting-requires Inv-loop μ-loop
+lasting-requires c κs = search needs
+
+turned-requires : tie.Need-turned-requires Inv-loop μ-loop
+turned-requires c κs = search needs
+
+mul-dx : tie.Need-mul-dx Inv-loop μ-loop
+mul-dx c = search needs
+
+element-write-dx : tie.Need-element-write-dx Inv-loop μ-loop
+element-write-dx c = search needs
+
+mul-dy : tie.Need-mul-dy Inv-loop μ-loop
+mul-dy c = search needs
+
+element-write-dy : tie.Need-element-write-dy Inv-loop μ-loop
+element-write-dy c = search needs
+
+mul-dz : tie.Need-mul-dz Inv-loop μ-loop
+mul-dz c = search needs
+
+element-write-dz : tie.Need-element-write-dz Inv-loop μ-loop
+element-write-dz c = search needs
+
+add-i : tie.Need-add-i Inv-loop μ-loop
+add-i c = search needs
+
+loop-less : tie.Need-loop-less Inv-loop μ-loop
+loop-less c = search needs
+
+loop-again : tie.Need-loop-again Inv-loop μ-loop
+loop-again c =
+    let inv = c .before .before .before .before .before .before .before .before .before .before .before .before .loop .inv in
+    let e = rw (c .before .lasting .ensures, c .before .before .before .scale .ensures) at (c .turned .ensures) in
+    let there = rw (inv .0 .left _ (le-refl _), inv .2 .left _ (le-refl _)) at e in (
+      one-over (search needs) (λ _. ap (λ (r : Tuple). r .x) there) (inv .0),
+      one-more (search needs) (ap (λ (r : Tuple). r .y) there) (inv .1),
+      one-over (search needs) (λ _. ap (λ (r : Tuple). r .z) there) (inv .2),
+    )
+
+returns : tie.Need-returns Inv-loop μ-loop
+returns c =
+    let inv = c .before .loop .inv in
+    (all-over (search needs) (inv .0), all-filled (search needs) (inv .1), all-over (search needs) (inv .2))
+
+pub turned-block-spec : {M : Type 1} → statement M
+turned-block-spec =
+    tie.close
+    (tie.spec
+    Inv-loop
+    μ-loop
+    loop-holds
+    mul-turned
+    element-copy-out-turned
+    mul-t23
+    element-copy-out-t26
+    mul-lasting
+    element-copy-out-lasting
+    mul-lasting-2
+    element-copy-out-lasting-2
+    mul-t27
+    element-copy-out-t26-2
+    mul-t23-2
+    element-copy-out-t26-3
+    mul-lasting-3
+    element-copy-out-lasting-3
+    scale-requires
+    mul-lasting-4
+    element-copy-out-lasting-4
+    lasting-requires
+    turned-requires
+    mul-dx
+    element-write-dx
+    mul-dy
+    element-write-dy
+    mul-dz
+    element-write-dz
+    add-i
+    loop-less
+    loop-again
+    returns)

@@ -1,0 +1,2 @@
+-- What the contracts of `deformation_block` cite.
+pub mod Places

@@ -1,0 +1,60 @@
+-- The step over columns: sixteen velocities, marks and tuples, and what `common` gives at a place of them; and the parts that it is worked out in, one loop each.
+use Prim.Native.Nat.{ℕ}
+use mathlib.Core.Bool.{Bool, cond}
+use mathlib.Core.List.{List}
+use lib.Dec.{eqb}
+use lib.Ieee.{Float, nan, neg}
+use Rattle.floats.specs.Binary64.{_⊖_, bits}
+use Rattle.blocks.specs.Each.{at, wholeAt}
+use Rattle.trig.specs.declared.SinCos.{SinCos}
+use Rattle.tuple.specs.declared.Tuple.{Tuple}
+use Rattle.tuple.specs.declared.Shifted.{Shifted}
+use Rattle.tuple.specs.Columns.{rowOf}
+use Rattle.geocart.specs.Geocart.{geographicOf}
+use Rattle.deformation.specs.declared.Motion.{Motion}
+use Rattle.deformation.specs.declared.Velocity.{Velocity}
+use Rattle.deformation.specs.Step.{durationOf, scaleOf, metresOf, turnedOf, integratedOf, commonOf}
+
+-- the velocity at a place of the columns
+abbrev pub velocityOf : List Float → List Float → List Float → ℕ → Velocity
+velocityOf east north up j = record { east = at east j; north = at north j; up = at up j }
+
+-- the step at a place
+abbrev pub shiftedOf :
+    Motion → Bool → List Float → List Float → List Float → List ℕ → List Float → List Float → List Float → List Float → ℕ → Shifted
+shiftedOf op inverse east north up marks x y z t j =
+    commonOf op inverse (velocityOf east north up j) (wholeAt marks j) (rowOf x y z t j)
+
+-- ---- parts
+
+-- what is added to a tuple, or written in its place
+unfoldable pub correctionOf : Motion → Bool → Velocity → Tuple → Tuple
+correctionOf op inverse v cart =
+    let geo = geographicOf (op .ellps) cart in
+    integratedOf (metresOf inverse v) (geo .x) (geo .y) (durationOf op (cart .t))
+
+-- how long, with what dt is decided: fixed says that it is given
+abbrev pub lastingOf : Motion → Bool → Float → Float
+lastingOf op fixed t = cond fixed (neg (op .dt)) (op .epoch ⊖ t)
+
+-- what a velocity is multiplied by
+abbrev pub metreOf : Bool → Float
+metreOf inverse = cond inverse (bits 0x3f50_624d_d2f1_a9fc) (neg (bits 0x3f50_624d_d2f1_a9fc))
+
+-- sine and cosine at a place
+abbrev pub sinCosAt : List Float → List Float → ℕ → SinCos
+sinCosAt s c j = record { s = at s j; c = at c j }
+
+-- the correction at a place: of the velocity times k, over columns of sines and cosines of longitude and latitude
+abbrev pub turnedAt :
+    Motion → Bool → Float → List Float → List Float → List Float → List Float → List Float → List Float → List Float → List Float → ℕ → Tuple
+turnedAt op fixed k east north up t slon clon slat clat j =
+    turnedOf (scaleOf (velocityOf east north up j) k) (sinCosAt slon clon j) (sinCosAt slat clat j) (lastingOf op fixed (at t j))
+
+-- the correction at a place of its columns
+abbrev pub correctionAt : List Float → List Float → List Float → ℕ → Tuple
+correctionAt dx dy dz j = record { x = at dx j; y = at dy j; z = at dz j; t = bits 0 }
+
+-- mark 1: the number; else NaN
+abbrev pub keptOf : ℕ → Float → Float
+keptOf mark v = cond (eqb mark 1) v nan

@@ -1,0 +1,271 @@
+// Kinematic datum shift by velocities of the ground, sixteen tuples at a time: the step of `deformation` over columns.
+//
+// Each loop is straight arithmetic over the places, so that a compiler makes vectors of it; what depends on the step and not on the tuple is decided before.
+// An absent velocity is worked on like the others, and NaN is written in the end. The columns that the results go to serve for the parts before, so that one
+// column more is enough.
+// Every number is `deformation::common`'s in every bit: proved place by place against the same definition. Used by `deformation_runs`.
+ghost use mathlib.Core.Path.{_≡_};
+ghost use Prim.Native.Nat.{ℕ, _+_, _<_};
+ghost use mathlib.Core.Bool.{cond};
+ghost use lib.Dec.{eqb};
+ghost use lib.ListN.{length};
+ghost use Rattle.floats.specs.Binary64.{_⊕_, bits};
+ghost use Rattle.blocks.specs.Each.{at, wholeAt, Each, countTo};
+ghost use Rattle.root.specs.Sqrt.{sqrtOf};
+ghost use Rattle.tuple.specs.Sums.{dotOf};
+ghost use Rattle.tuple.specs.Columns.{rowOf};
+ghost use Rattle.deformation_block.specs.Places.{velocityOf, shiftedOf, correctionOf, lastingOf, metreOf, turnedAt, correctionAt, keptOf};
+use blocks::WIDTH;
+use deformation::Motion;
+use deformation::Velocity;
+use trig::SinCos;
+use tuple::Tuple;
+
+// How long: a fixed duration, or the difference between the frame epoch and the observation epoch.
+fn lasting(op: Motion, fixed: bool, t: f64) -> f64
+    ensures { λ r. ⌜ r ≡ lastingOf op fixed t ⌝ }
+{
+    if fixed { -op.dt } else { op.epoch - t }
+}
+
+// mm to metres, and the direction.
+fn metre(inverse: bool) -> f64
+    ensures { λ r. ⌜ r ≡ metreOf inverse ⌝ }
+{
+    if inverse { 0.001 } else { -0.001 }
+}
+
+// The velocities, turned and times their durations. k brings them to metres. dx comes with the sines of the latitudes, dz with the cosines of the longitudes.
+fn turned_block(
+    op: Motion,
+    fixed: bool,
+    k: f64,
+    east: &[f64; WIDTH],
+    north: &[f64; WIDTH],
+    up: &[f64; WIDTH],
+    t: &[f64; WIDTH],
+    slon: &[f64; WIDTH],
+    clat: &[f64; WIDTH],
+    dx: &mut [f64; WIDTH],
+    dy: &mut [f64; WIDTH],
+    dz: &mut [f64; WIDTH],
+)
+    requires { ⌜ (length (now dx) ≡ 16) × (length (now dz) ≡ 16) ⌝ }
+    ensures { λ _. ⌜ Each (now (dx .exit)) (λ (j : ℕ). turnedAt op fixed k (now (east .entry)) (now (north .entry)) (now (up .entry)) (now (t .entry)) (now (slon .entry)) (now (dz .entry)) (now (dx .entry)) (now (clat .entry)) j .x)
+        × Each (now (dy .exit)) (λ (j : ℕ). turnedAt op fixed k (now (east .entry)) (now (north .entry)) (now (up .entry)) (now (t .entry)) (now (slon .entry)) (now (dz .entry)) (now (dx .entry)) (now (clat .entry)) j .y)
+        × Each (now (dz .exit)) (λ (j : ℕ). turnedAt op fixed k (now (east .entry)) (now (north .entry)) (now (up .entry)) (now (t .entry)) (now (slon .entry)) (now (dz .entry)) (now (dx .entry)) (now (clat .entry)) j .z) ⌝ }
+{
+    *dy = [0.0; WIDTH];
+    let mut i = 0;
+    while i < WIDTH {
+        let v = Velocity {
+            east: east[i],
+            north: north[i],
+            up: up[i],
+        };
+        let lon = SinCos {
+            s: slon[i],
+            c: dz[i],
+        };
+        let lat = SinCos {
+            s: dx[i],
+            c: clat[i],
+        };
+        let r = deformation::turned(v.scale(k), lon, lat, lasting(op, fixed, t[i]));
+        dx[i] = r.x;
+        dy[i] = r.y;
+        dz[i] = r.z;
+        i += 1;
+    }
+}
+
+// The velocities as corrections of the tuples. slon and clat are room for the parts.
+fn correction_block(
+    op: Motion,
+    inverse: bool,
+    east: &[f64; WIDTH],
+    north: &[f64; WIDTH],
+    up: &[f64; WIDTH],
+    x: &[f64; WIDTH],
+    y: &[f64; WIDTH],
+    z: &[f64; WIDTH],
+    t: &[f64; WIDTH],
+    dx: &mut [f64; WIDTH],
+    dy: &mut [f64; WIDTH],
+    dz: &mut [f64; WIDTH],
+    slon: &mut [f64; WIDTH],
+    clat: &mut [f64; WIDTH],
+)
+    ensures { λ _. ⌜ Each (now (dx .exit)) (λ (j : ℕ). correctionOf op inverse (velocityOf (now (east .entry)) (now (north .entry)) (now (up .entry)) j) (rowOf (now (x .entry)) (now (y .entry)) (now (z .entry)) (now (t .entry)) j) .x)
+        × Each (now (dy .exit)) (λ (j : ℕ). correctionOf op inverse (velocityOf (now (east .entry)) (now (north .entry)) (now (up .entry)) j) (rowOf (now (x .entry)) (now (y .entry)) (now (z .entry)) (now (t .entry)) j) .y)
+        × Each (now (dz .exit)) (λ (j : ℕ). correctionOf op inverse (velocityOf (now (east .entry)) (now (north .entry)) (now (up .entry)) j) (rowOf (now (x .entry)) (now (y .entry)) (now (z .entry)) (now (t .entry)) j) .z) ⌝ }
+{
+    geocart::place_block(op.ellps, x, y, z, t, dx, dy); // longitudes and latitudes
+    trig::sin_cos_block(dx, slon, dz);
+    trig::sin_cos_block(dy, dx, clat);
+    let fixed = floats::is_finite(op.dt);
+    turned_block(
+        op,
+        fixed,
+        metre(inverse),
+        east,
+        north,
+        up,
+        t,
+        slon,
+        clat,
+        dx,
+        dy,
+        dz,
+    );
+}
+
+// The squares of the corrections' lengths.
+fn square_block(dx: &[f64; WIDTH], dy: &[f64; WIDTH], dz: &[f64; WIDTH], q: &mut [f64; WIDTH])
+    ensures { λ _. ⌜ Each (now (q .exit)) (λ (j : ℕ). dotOf (correctionAt (now (dx .entry)) (now (dy .entry)) (now (dz .entry)) j) (correctionAt (now (dx .entry)) (now (dy .entry)) (now (dz .entry)) j)) ⌝ }
+{
+    *q = [0.0; WIDTH];
+    let mut i = 0;
+    while i < WIDTH {
+        let time = 0.0;
+        let d = Tuple {
+            x: dx[i],
+            y: dy[i],
+            z: dz[i],
+            t: time,
+        };
+        q[i] = d.dot(d);
+        i += 1;
+    }
+}
+
+// The corrections' lengths. q is room for the squares.
+fn length_block(
+    dx: &[f64; WIDTH],
+    dy: &[f64; WIDTH],
+    dz: &[f64; WIDTH],
+    q: &mut [f64; WIDTH],
+    r: &mut [f64; WIDTH],
+)
+    ensures { λ _. ⌜ Each (now (r .exit)) (λ (j : ℕ). sqrtOf (dotOf (correctionAt (now (dx .entry)) (now (dy .entry)) (now (dz .entry)) j) (correctionAt (now (dx .entry)) (now (dy .entry)) (now (dz .entry)) j))) ⌝ }
+{
+    square_block(dx, dy, dz, q);
+    root::sqrt_block(q, r);
+}
+
+// A number where there is a velocity, NaN where there is none.
+fn kept(mark: u8, v: f64) -> f64
+    ensures { λ r. ⌜ r ≡ keptOf mark v ⌝ }
+{
+    if mark == 1 { v } else { 0.0 / 0.0 }
+}
+
+// A column kept so.
+fn keep_block(marks: &[u8; WIDTH], r: &mut [f64; WIDTH])
+    requires { ⌜ length (now r) ≡ 16 ⌝ }
+    ensures { λ _. ⌜ Each (now (r .exit)) (λ (j : ℕ). keptOf (wholeAt (now (marks .entry)) j) (at (now (r .entry)) j)) ⌝ }
+{
+    let mut i = 0;
+    while i < WIDTH {
+        r[i] = kept(marks[i], r[i]);
+        i += 1;
+    }
+}
+
+// A column added to corrections, and kept so.
+fn add_block(marks: &[u8; WIDTH], v: &[f64; WIDTH], r: &mut [f64; WIDTH])
+    requires { ⌜ length (now r) ≡ 16 ⌝ }
+    ensures { λ _. ⌜ Each (now (r .exit)) (λ (j : ℕ). keptOf (wholeAt (now (marks .entry)) j) (at (now (v .entry)) j ⊕ at (now (r .entry)) j)) ⌝ }
+{
+    let mut i = 0;
+    while i < WIDTH {
+        r[i] = kept(marks[i], v[i] + r[i]);
+        i += 1;
+    }
+}
+
+// The times: 0.0 is added.
+fn time_block(marks: &[u8; WIDTH], t: &[f64; WIDTH], r: &mut [f64; WIDTH])
+    ensures { λ _. ⌜ Each (now (r .exit)) (λ (j : ℕ). keptOf (wholeAt (now (marks .entry)) j) (at (now (t .entry)) j ⊕ bits 0)) ⌝ }
+{
+    *r = [0.0; WIDTH];
+    let mut i = 0;
+    while i < WIDTH {
+        r[i] = kept(marks[i], t[i] + 0.0);
+        i += 1;
+    }
+}
+
+fn tally(n: usize, counted: bool) -> usize
+    requires { ⌜ n < 18446744073709551615 ⌝ }
+    ensures { λ r. ⌜ r ≡ n + cond counted 1 0 ⌝ }
+{
+    if counted { n + 1 } else { n }
+}
+
+fn count_block(marks: &[u8; WIDTH]) -> usize
+    ensures { λ r. ⌜ r ≡ countTo 16 (λ (j : ℕ). eqb (wholeAt (now (marks .entry)) j) 1) ⌝ }
+{
+    let mut n = 0;
+    let mut i = 0;
+    while i < WIDTH {
+        n = tally(n, marks[i] == 1);
+        i += 1;
+    }
+    n
+}
+
+// Sixteen tuples as columns, each shifted as `common` shifts it, and how many of them count.
+pub fn common_block(
+    op: Motion,
+    inverse: bool,
+    east: &[f64; WIDTH],
+    north: &[f64; WIDTH],
+    up: &[f64; WIDTH],
+    marks: &[u8; WIDTH],
+    x: &[f64; WIDTH],
+    y: &[f64; WIDTH],
+    z: &[f64; WIDTH],
+    t: &[f64; WIDTH],
+    ox: &mut [f64; WIDTH],
+    oy: &mut [f64; WIDTH],
+    oz: &mut [f64; WIDTH],
+    ot: &mut [f64; WIDTH],
+) -> usize
+    ensures { λ r. ⌜ Each (now (ox .exit)) (λ (j : ℕ). shiftedOf op inverse (now (east .entry)) (now (north .entry)) (now (up .entry)) (now (marks .entry)) (now (x .entry)) (now (y .entry)) (now (z .entry)) (now (t .entry)) j .tuple .x)
+        × Each (now (oy .exit)) (λ (j : ℕ). shiftedOf op inverse (now (east .entry)) (now (north .entry)) (now (up .entry)) (now (marks .entry)) (now (x .entry)) (now (y .entry)) (now (z .entry)) (now (t .entry)) j .tuple .y)
+        × Each (now (oz .exit)) (λ (j : ℕ). shiftedOf op inverse (now (east .entry)) (now (north .entry)) (now (up .entry)) (now (marks .entry)) (now (x .entry)) (now (y .entry)) (now (z .entry)) (now (t .entry)) j .tuple .z)
+        × Each (now (ot .exit)) (λ (j : ℕ). shiftedOf op inverse (now (east .entry)) (now (north .entry)) (now (up .entry)) (now (marks .entry)) (now (x .entry)) (now (y .entry)) (now (z .entry)) (now (t .entry)) j .tuple .t)
+        × (r ≡ countTo 16 (λ (j : ℕ). shiftedOf op inverse (now (east .entry)) (now (north .entry)) (now (up .entry)) (now (marks .entry)) (now (x .entry)) (now (y .entry)) (now (z .entry)) (now (t .entry)) j .counted)) ⌝ }
+{
+    let mut spare = [0.0; WIDTH];
+    correction_block(
+        op,
+        inverse,
+        east,
+        north,
+        up,
+        x,
+        y,
+        z,
+        t,
+        ox,
+        oy,
+        oz,
+        ot,
+        &mut spare,
+    );
+    if op.raw {
+        length_block(ox, oy, oz, &mut spare, ot);
+        keep_block(marks, ox);
+        keep_block(marks, oy);
+        keep_block(marks, oz);
+        keep_block(marks, ot);
+        return count_block(marks);
+    }
+    add_block(marks, x, ox);
+    add_block(marks, y, oy);
+    add_block(marks, z, oz);
+    time_block(marks, t, ot);
+    count_block(marks)
+}

@@ -1,0 +1,2 @@
+-- What the contracts of `deformation_runs` cite.
+pub mod Turns
