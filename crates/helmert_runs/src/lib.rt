@@ -6,7 +6,7 @@
 ghost use mathlib.Core.Path.{_≡_};
 ghost use mathlib.Core.Bool.{true, false};
 ghost use Rattle.helmert.specs.Apply.{forwardOf, inverseOf};
-ghost use Rattle.helmert.specs.Modes.{prepareOf, startOf, fixedStepOf, runningOf, ownTimeOf, ownEpochStepOf};
+ghost use Rattle.helmert.specs.Modes.{prepareOf, startOf, fixedStepOf, runningOf, ownEpochStepOf};
 ghost use Rattle.lists.specs.Run.{ranOf, countOf};
 ghost use Rattle.helmert_runs.specs.Turns.{noState, allTurns, steppedTurns, helmertTurns};
 use helmert::Helmert;
@@ -38,39 +38,6 @@ fn helmert_inverse(list: &mut [f64], t: Vec3, s: f64, rotated: bool, m: [[f64; 3
     }
 }
 
-fn own_epoch_forward(list: &mut [f64], shift: Shift)
-    ensures { λ _. ⌜ now (list .exit) ≡ ranOf (allTurns (ownEpochStepOf shift false)) 0 noState (now (list .entry)) ⌝ }
-{
-    let mut i = 0;
-    while 4 <= list.len() - i {
-        let v = helmert::own_epoch_step(shift, false, lists::read4(list, i));
-        lists::write4(list, i, v);
-        i += 4;
-    }
-}
-
-fn own_epoch_inverse(list: &mut [f64], shift: Shift)
-    ensures { λ _. ⌜ now (list .exit) ≡ ranOf (allTurns (ownEpochStepOf shift true)) 0 noState (now (list .entry)) ⌝ }
-{
-    let mut i = 0;
-    while 4 <= list.len() - i {
-        let v = helmert::own_epoch_step(shift, true, lists::read4(list, i));
-        lists::write4(list, i, v);
-        i += 4;
-    }
-}
-
-// A NaN time is read as t_epoch.
-fn own_time(shift: Shift, time: f64) -> f64
-    ensures { λ r. ⌜ r ≡ ownTimeOf shift time ⌝ }
-{
-    if floats::is_nan(time) {
-        shift.epoch
-    } else {
-        time
-    }
-}
-
 // Own-epoch with small angles: a loop for each convention, as in running mode below.
 fn own_epoch_position_vector_forward(list: &mut [f64], shift: Shift)
     requires { ⌜ (shift .rotated ≡ true) × (shift .exact ≡ false) × (shift .«position_vector» ≡ true) ⌝ }
@@ -80,7 +47,7 @@ fn own_epoch_position_vector_forward(list: &mut [f64], shift: Shift)
     let mut i = 0;
     while 4 <= list.len() - i {
         let v = lists::read4(list, i);
-        let dt = own_time(shift, v.t) - shift.epoch;
+        let dt = helmert_turns::own_time(shift, v.t) - shift.epoch;
         let t = helmert::grown(p.t, dt, p.dt);
         let s = helmert::scale_at(p, dt);
         let m = rotation::rotation_matrix(helmert::rotation_at(p, dt), false, true);
@@ -98,7 +65,7 @@ fn own_epoch_position_vector_inverse(list: &mut [f64], shift: Shift)
     let mut i = 0;
     while 4 <= list.len() - i {
         let v = lists::read4(list, i);
-        let dt = own_time(shift, v.t) - shift.epoch;
+        let dt = helmert_turns::own_time(shift, v.t) - shift.epoch;
         let t = helmert::grown(p.t, dt, p.dt);
         let s = helmert::scale_at(p, dt);
         let m = rotation::rotation_matrix(helmert::rotation_at(p, dt), false, true);
@@ -116,7 +83,7 @@ fn own_epoch_coordinate_frame_forward(list: &mut [f64], shift: Shift)
     let mut i = 0;
     while 4 <= list.len() - i {
         let v = lists::read4(list, i);
-        let dt = own_time(shift, v.t) - shift.epoch;
+        let dt = helmert_turns::own_time(shift, v.t) - shift.epoch;
         let t = helmert::grown(p.t, dt, p.dt);
         let s = helmert::scale_at(p, dt);
         let m = rotation::rotation_matrix(helmert::rotation_at(p, dt), false, false);
@@ -134,7 +101,7 @@ fn own_epoch_coordinate_frame_inverse(list: &mut [f64], shift: Shift)
     let mut i = 0;
     while 4 <= list.len() - i {
         let v = lists::read4(list, i);
-        let dt = own_time(shift, v.t) - shift.epoch;
+        let dt = helmert_turns::own_time(shift, v.t) - shift.epoch;
         let t = helmert::grown(p.t, dt, p.dt);
         let s = helmert::scale_at(p, dt);
         let m = rotation::rotation_matrix(helmert::rotation_at(p, dt), false, false);
@@ -307,67 +274,6 @@ fn running_unrotated_inverse(list: &mut [f64], shift: Shift)
     }
 }
 
-// Any shift; for the exact ones.
-fn running_forward(list: &mut [f64], shift: Shift)
-    ensures { λ _. ⌜ now (list .exit) ≡ ranOf (steppedTurns (runningOf shift false)) 0 (startOf shift) (now (list .entry)) ⌝ }
-{
-    let p = shift.parameters;
-    let mut state = helmert::start(shift);
-    let mut s = helmert::scale_at(p, state.last - shift.epoch);
-    let mut m = rotation::rotation_matrix(
-        helmert::rotation_at(p, state.last - shift.epoch),
-        shift.exact,
-        shift.position_vector,
-    );
-    let mut i = 0;
-    while 4 <= list.len() - i {
-        let v = lists::read4(list, i);
-        if v.t != state.last {
-            let dt = v.t - shift.epoch;
-            state = helmert::next(shift, state, v.t);
-            s = helmert::scale_at(p, dt);
-            m = rotation::rotation_matrix(
-                helmert::rotation_at(p, dt),
-                shift.exact,
-                shift.position_vector,
-            );
-        }
-        let w = helmert::forward(state.t, s, shift.rotated, m, v);
-        lists::write4(list, i, w);
-        i += 4;
-    }
-}
-
-fn running_inverse(list: &mut [f64], shift: Shift)
-    ensures { λ _. ⌜ now (list .exit) ≡ ranOf (steppedTurns (runningOf shift true)) 0 (startOf shift) (now (list .entry)) ⌝ }
-{
-    let p = shift.parameters;
-    let mut state = helmert::start(shift);
-    let mut s = helmert::scale_at(p, state.last - shift.epoch);
-    let mut m = rotation::rotation_matrix(
-        helmert::rotation_at(p, state.last - shift.epoch),
-        shift.exact,
-        shift.position_vector,
-    );
-    let mut i = 0;
-    while 4 <= list.len() - i {
-        let v = lists::read4(list, i);
-        if v.t != state.last {
-            let dt = v.t - shift.epoch;
-            state = helmert::next(shift, state, v.t);
-            s = helmert::scale_at(p, dt);
-            m = rotation::rotation_matrix(
-                helmert::rotation_at(p, dt),
-                shift.exact,
-                shift.position_vector,
-            );
-        }
-        let w = helmert::inverse(state.t, s, shift.rotated, m, v);
-        lists::write4(list, i, w);
-        i += 4;
-    }
-}
-
 // A static or fixed shift.
 fn run_fixed(list: &mut [f64], inverse: bool, shift: Shift)
     ensures { λ _. ⌜ now (list .exit) ≡ ranOf (allTurns (fixedStepOf shift inverse)) 0 noState (now (list .entry)) ⌝ }
@@ -403,22 +309,12 @@ fn run_own_epoch_coordinate_frame(list: &mut [f64], inverse: bool, shift: Shift)
     }
 }
 
-fn run_own_epoch_other(list: &mut [f64], inverse: bool, shift: Shift)
-    ensures { λ _. ⌜ now (list .exit) ≡ ranOf (allTurns (ownEpochStepOf shift inverse)) 0 noState (now (list .entry)) ⌝ }
-{
-    if inverse {
-        own_epoch_inverse(list, shift);
-    } else {
-        own_epoch_forward(list, shift);
-    }
-}
-
 fn run_own_epoch(list: &mut [f64], inverse: bool, shift: Shift)
     ensures { λ _. ⌜ now (list .exit) ≡ ranOf (allTurns (ownEpochStepOf shift inverse)) 0 noState (now (list .entry)) ⌝ }
 {
     if shift.rotated {
         if shift.exact {
-            run_own_epoch_other(list, inverse, shift);
+            helmert_exact_runs::run_own_epoch_exact(list, inverse, shift);
         } else {
             if shift.position_vector {
                 run_own_epoch_position_vector(list, inverse, shift);
@@ -427,7 +323,7 @@ fn run_own_epoch(list: &mut [f64], inverse: bool, shift: Shift)
             }
         }
     } else {
-        run_own_epoch_other(list, inverse, shift);
+        helmert_exact_runs::run_own_epoch_exact(list, inverse, shift);
     }
 }
 
@@ -464,23 +360,13 @@ fn run_unrotated(list: &mut [f64], inverse: bool, shift: Shift)
     }
 }
 
-fn run_exact(list: &mut [f64], inverse: bool, shift: Shift)
-    ensures { λ _. ⌜ now (list .exit) ≡ ranOf (steppedTurns (runningOf shift inverse)) 0 (startOf shift) (now (list .entry)) ⌝ }
-{
-    if inverse {
-        running_inverse(list, shift);
-    } else {
-        running_forward(list, shift);
-    }
-}
-
 // Which loop runs is decided here, once a list.
 fn run_running(list: &mut [f64], inverse: bool, shift: Shift)
     ensures { λ _. ⌜ now (list .exit) ≡ ranOf (steppedTurns (runningOf shift inverse)) 0 (startOf shift) (now (list .entry)) ⌝ }
 {
     if shift.rotated {
         if shift.exact {
-            run_exact(list, inverse, shift);
+            helmert_exact_runs::run_exact(list, inverse, shift);
         } else {
             if shift.position_vector {
                 run_position_vector(list, inverse, shift);

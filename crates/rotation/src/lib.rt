@@ -118,11 +118,18 @@ fn rows(position_vector: bool, e: Entries) -> [[f64; 3]; 3]
     ]
 }
 
+// The matrix of three exact angles whose sines and cosines are known.
+pub fn exact_matrix(a: Sines, position_vector: bool) -> [[f64; 3]; 3]
+    ensures { λ m. ⌜ m ≡ rowsOf «position_vector» (secondOrderOf a) ⌝ }
+{
+    rows(position_vector, second_order(a))
+}
+
 pub fn rotation_matrix(r: Vec3, exact: bool, position_vector: bool) -> [[f64; 3]; 3]
     ensures { λ m. ⌜ m ≡ rotationMatrixOf r exact «position_vector» ⌝ }
 {
     if exact {
-        return rows(position_vector, second_order(exact_sines(r)));
+        return exact_matrix(exact_sines(r), position_vector);
     }
     rows(position_vector, first_order(small_sines(r)))
 }

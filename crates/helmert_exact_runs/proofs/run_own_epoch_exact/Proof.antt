@@ -1,7 +1,7 @@
--- `helmert_runs::run_own_epoch_other` meets its contract. Assumes nothing.
+-- `helmert_exact_runs::run_own_epoch_exact` meets its contract. Assumes nothing.
 use borrow.Author.Needs.{needs}
-use Rattle.helmert_runs.proofs.run_own_epoch_other.Statement.{statement}
-use Rattle.helmert_runs.proofs.run_own_epoch_other.Tie as tie
+use Rattle.helmert_exact_runs.proofs.run_own_epoch_exact.Statement.{statement}
+use Rattle.helmert_exact_runs.proofs.run_own_epoch_exact.Tie as tie
 
 own-epoch-inverse-requires : tie.Need-own-epoch-inverse-requires
 own-epoch-inverse-requires c κs = search needs
@@ -21,8 +21,8 @@ same-length-2 c = search needs
 returns-2 : tie.Need-returns-2
 returns-2 c = rw (c .before .before .before .before .if1 .left) (c .before .before .own-epoch-forward .ensures)
 
-pub run-own-epoch-other-spec : {M : Type 1} → statement M
-run-own-epoch-other-spec =
+pub run-own-epoch-exact-spec : {M : Type 1} → statement M
+run-own-epoch-exact-spec =
     tie.close
     (tie.spec
     own-epoch-inverse-requires

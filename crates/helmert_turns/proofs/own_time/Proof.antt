@@ -1,8 +1,8 @@
--- `helmert_runs::own_time` meets its contract. Assumes nothing.
+-- `helmert_turns::own_time` meets its contract. Assumes nothing.
 use Rattle.helmert.specs.Modes.{ownTimeOf}
 use borrow.Author.Needs.{needs}
-use Rattle.helmert_runs.proofs.own_time.Statement.{statement}
-use Rattle.helmert_runs.proofs.own_time.Tie as tie
+use Rattle.helmert_turns.proofs.own_time.Statement.{statement}
+use Rattle.helmert_turns.proofs.own_time.Tie as tie
 
 is-nan-requires : tie.Need-is-nan-requires
 is-nan-requires c κs = search needs

@@ -1,7 +1,7 @@
--- `helmert_runs::run_exact` meets its contract. Assumes nothing.
+-- `helmert_exact_runs::run_exact` meets its contract. Assumes nothing.
 use borrow.Author.Needs.{needs}
-use Rattle.helmert_runs.proofs.run_exact.Statement.{statement}
-use Rattle.helmert_runs.proofs.run_exact.Tie as tie
+use Rattle.helmert_exact_runs.proofs.run_exact.Statement.{statement}
+use Rattle.helmert_exact_runs.proofs.run_exact.Tie as tie
 
 running-inverse-requires : tie.Need-running-inverse-requires
 running-inverse-requires c κs = search needs

@@ -1,4 +1,4 @@
--- `helmert_runs::running_forward` meets its contract. Assumes nothing.
+-- `helmert_exact_runs::running_inverse` meets its contract. Assumes nothing.
 use Prim.Native.Nat.{_+_, _-_, _^_, _≤_, _<_}
 use native.Mathlib.Omega.{arith}
 use borrow.Author.Needs.{needs}
@@ -9,13 +9,13 @@ use mathlib.Core.Path.{_≡_, ap, _∙_}
 use Rattle.helmert.specs.declared.Stepped.{Stepped}
 use Rattle.helmert.specs.Modes.{runningOf}
 use Rattle.lists.proofs.Laws.{Ran, ran-start, ran-again, ran-end}
-use Rattle.helmert_runs.specs.Turns.{steppedTurns}
-use Rattle.helmert_runs.proofs.Held.{Held, met-anew, met-again, held-turn}
-use Rattle.helmert_runs.proofs.running_forward.Statement.{statement}
-use Rattle.helmert_runs.proofs.running_forward.Tie as tie
+use Rattle.helmert_turns.specs.Turns.{steppedTurns}
+use Rattle.helmert_turns.proofs.Held.{Held, met-anew, met-again, held-turn}
+use Rattle.helmert_exact_runs.proofs.running_inverse.Statement.{statement}
+use Rattle.helmert_exact_runs.proofs.running_inverse.Tie as tie
 
 abbrev Inv-loop : tie.InvT-loop
-Inv-loop list₀ shift p state₀ s₀ m₀ i₀ list state s m i = Ran (steppedTurns (runningOf shift false)) state₀ list₀ i state list × Held shift state s m × (length list < 2 ^ 64)
+Inv-loop list₀ shift p state₀ s₀ m₀ i₀ list state s m i = Ran (steppedTurns (runningOf shift true)) state₀ list₀ i state list × Held shift state s m × (length list < 2 ^ 64)
 
 abbrev μ-loop : tie.MeasureT-loop
 μ-loop list₀ shift p state₀ s₀ m₀ i₀ list state s m i = length list₀ - i
@@ -54,8 +54,8 @@ rotation-at-requires-2 c κs = search needs
 rotation-matrix-requires-2 : tie.Need-rotation-matrix-requires-2 Inv-loop μ-loop
 rotation-matrix-requires-2 c κs = search needs
 
-forward-requires : tie.Need-forward-requires Inv-loop μ-loop
-forward-requires c κs = search needs
+inverse-requires : tie.Need-inverse-requires Inv-loop μ-loop
+inverse-requires c κs = search needs
 
 write4-requires : tie.Need-write4-requires Inv-loop μ-loop
 write4-requires c κs = search needs
@@ -75,7 +75,7 @@ loop-again c =
     (λ w. met-anew _ _ _ (w .0 .taken) (w .7 ∙ w .3 .ensures) (w .8 ∙ w .4 .ensures) (rw (w .9, w .6 .ensures, w .5 .ensures)))
     (λ w. met-again _ _ _ (w .0 .left) (w .1) (w .2) (w .3) (l .loop .inv .1))
     (c .before .before .before .before .before .if1 .came) in
-    let e = rw (c .before .before .before .before .before .before .before .before .read4 .ensures) at (held-turn _ false (l .loop .state) (c .before .before .before .before .before .before .before .before .read4 .result) {w = c .before .before .before .before .forward .result} met (c .before .before .before .before .forward .ensures)) in
+    let e = rw (c .before .before .before .before .before .before .before .before .read4 .ensures) at (held-turn _ true (l .loop .state) (c .before .before .before .before .before .before .before .before .read4 .result) {w = c .before .before .before .before .inverse .result} met (c .before .before .before .before .inverse .ensures)) in
     (rw (ap (λ (q : Stepped). q .state) e) (ran-again fits (ap (λ (q : Stepped). q .tuple) e) (c .before .before .write4 .ensures) (l .loop .inv .0)), met .held, search needs)
 
 same-length : tie.Need-same-length Inv-loop μ-loop
@@ -84,8 +84,8 @@ same-length c = search needs
 returns : tie.Need-returns Inv-loop μ-loop
 returns c = ran-end (search needs) (c .before .loop .inv .0) ∙ rw (c .before .before .before .before .before .before .before .before .before .start .ensures)
 
-pub running-forward-spec : {M : Type 1} → statement M
-running-forward-spec =
+pub running-inverse-spec : {M : Type 1} → statement M
+running-inverse-spec =
     tie.close
     (tie.spec
     Inv-loop
@@ -101,7 +101,7 @@ running-forward-spec =
     scale-at-requires-2
     rotation-at-requires-2
     rotation-matrix-requires-2
-    forward-requires
+    inverse-requires
     write4-requires
     add-i
     loop-less

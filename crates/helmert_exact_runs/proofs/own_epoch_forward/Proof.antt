@@ -1,13 +1,13 @@
--- `helmert_runs::own_epoch_forward` meets its contract. Assumes nothing.
+-- `helmert_exact_runs::own_epoch_forward` meets its contract. Assumes nothing.
 use Prim.Native.Nat.{_-_}
 use borrow.Author.Needs.{needs}
 use lib.ListN.{length}
 use mathlib.Core.Bool.{true, false}
 use Rattle.helmert.specs.Modes.{ownEpochStepOf}
 use Rattle.lists.proofs.Laws.{Ran, ran-start, ran-again, ran-end}
-use Rattle.helmert_runs.specs.Turns.{noState, allTurns}
-use Rattle.helmert_runs.proofs.own_epoch_forward.Statement.{statement}
-use Rattle.helmert_runs.proofs.own_epoch_forward.Tie as tie
+use Rattle.helmert_turns.specs.Turns.{noState, allTurns}
+use Rattle.helmert_exact_runs.proofs.own_epoch_forward.Statement.{statement}
+use Rattle.helmert_exact_runs.proofs.own_epoch_forward.Tie as tie
 
 abbrev Inv-loop : tie.InvT-loop
 Inv-loop list₀ shift i₀ list i = Ran (allTurns (ownEpochStepOf shift false)) noState list₀ i noState list
