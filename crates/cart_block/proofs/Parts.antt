@@ -10,8 +10,8 @@ use Rattle.tuple.specs.declared.Shifted.{Shifted}
 use Rattle.tuple.specs.Sums.{anyNanOf}
 use Rattle.ellipsoid.specs.declared.Ellipsoid.{Ellipsoid}
 use Rattle.geocart.specs.Geocart.{cartesianOf}
-use Rattle.geocart.specs.Blocks.{latitudeOf}
-use Rattle.geocart.proofs.Parts.{through, either-way}
+use Rattle.geocart_block.specs.Blocks.{latitudeOf}
+use Rattle.geocart_block.proofs.Parts.{through, either-way}
 use Rattle.cart.specs.declared.Inverse.{Inverse}
 use Rattle.cart.specs.declared.Legs.{Legs}
 use Rattle.cart.specs.Step.{cartFwdOf, meridianOf, heightOf, offAxisOf, onAxisOf, cartInvOf}

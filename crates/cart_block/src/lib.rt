@@ -55,7 +55,7 @@ pub fn cart_fwd_block(
 ) -> usize
     ensures { λ r. ⌜ Each (now (ox .exit)) (λ (j : ℕ). cartFwdOf ellps (rowOf (now (x .entry)) (now (y .entry)) (now (z .entry)) (now (t .entry)) j) .tuple .x) × Each (now (oy .exit)) (λ (j : ℕ). cartFwdOf ellps (rowOf (now (x .entry)) (now (y .entry)) (now (z .entry)) (now (t .entry)) j) .tuple .y) × Each (now (oz .exit)) (λ (j : ℕ). cartFwdOf ellps (rowOf (now (x .entry)) (now (y .entry)) (now (z .entry)) (now (t .entry)) j) .tuple .z) × (r ≡ countTo 16 (λ (j : ℕ). cartFwdOf ellps (rowOf (now (x .entry)) (now (y .entry)) (now (z .entry)) (now (t .entry)) j) .counted)) ⌝ }
 {
-    geocart::cartesian_block(ellps, x, y, z, t, ox, oy, oz);
+    geocart_block::cartesian_block(ellps, x, y, z, t, ox, oy, oz);
     count_block(ox, oy, oz, t)
 }
 
@@ -121,7 +121,7 @@ fn legs_block(
     let mut c0: [f64; WIDTH] = [0.0; WIDTH];
     let mut a: [f64; WIDTH] = [0.0; WIDTH];
     reduced_block(k, p, z, &mut reduced, &mut s0, &mut c0);
-    hypot::hypot_block(&s0, &c0, &mut a);
+    hypot_block::hypot_block(&s0, &c0, &mut a);
     meridian_block(k, &reduced, &s0, &c0, &a, s1, cc);
 }
 
@@ -181,8 +181,8 @@ fn height_block(
     let mut inner: [f64; WIDTH] = [0.0; WIDTH];
     let mut outer: [f64; WIDTH] = [0.0; WIDTH];
     product_block(k, s1, &mut reduced);
-    hypot::hypot_block(cc, &reduced, &mut inner);
-    hypot::hypot_block(cc, s1, &mut outer);
+    hypot_block::hypot_block(cc, &reduced, &mut inner);
+    hypot_block::hypot_block(cc, s1, &mut outer);
     level_block(k, p, z, s1, cc, &inner, &outer, h);
 }
 
@@ -236,11 +236,11 @@ pub fn cart_inv_block(
     let mut s1: [f64; WIDTH] = [0.0; WIDTH];
     let mut cc: [f64; WIDTH] = [0.0; WIDTH];
     let mut phi: [f64; WIDTH] = [0.0; WIDTH];
-    arctan::atan2_block(y, x, ox);
-    hypot::hypot_block(x, y, &mut p);
+    arctan_block::atan2_block(y, x, ox);
+    hypot_block::hypot_block(x, y, &mut p);
     legs_block(k, &p, z, &mut s1, &mut cc);
-    arctan::atan2_block(&s1, &cc, &mut phi);
-    geocart::latitude_block(k.cutoff, &p, z, &phi, oy);
+    arctan_block::atan2_block(&s1, &cc, &mut phi);
+    geocart_block::latitude_block(k.cutoff, &p, z, &phi, oy);
     height_block(k, &p, z, &s1, &cc, oz);
     count_off_axis_block(k, &p, ox, oy, oz, t)
 }

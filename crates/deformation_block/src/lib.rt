@@ -100,9 +100,9 @@ fn correction_block(
         × Each (now (dy .exit)) (λ (j : ℕ). correctionOf op inverse (velocityOf (now (east .entry)) (now (north .entry)) (now (up .entry)) j) (rowOf (now (x .entry)) (now (y .entry)) (now (z .entry)) (now (t .entry)) j) .y)
         × Each (now (dz .exit)) (λ (j : ℕ). correctionOf op inverse (velocityOf (now (east .entry)) (now (north .entry)) (now (up .entry)) j) (rowOf (now (x .entry)) (now (y .entry)) (now (z .entry)) (now (t .entry)) j) .z) ⌝ }
 {
-    geocart::place_block(op.ellps, x, y, z, t, dx, dy); // longitudes and latitudes
-    trig::sin_cos_block(dx, slon, dz);
-    trig::sin_cos_block(dy, dx, clat);
+    geocart_block::place_block(op.ellps, x, y, z, t, dx, dy); // longitudes and latitudes
+    trig_block::sin_cos_block(dx, slon, dz);
+    trig_block::sin_cos_block(dy, dx, clat);
     let fixed = floats::is_finite(op.dt);
     turned_block(
         op,

@@ -11,7 +11,7 @@ ghost use Prim.Native.Nat.{ℕ, _+_, _^_, _<_};
 ghost use Rattle.blocks.specs.Each.{Each, EachWhole};
 ghost use Rattle.lists.specs.Run.{ranOf, countOf};
 ghost use Rattle.lists.specs.Sixteen.{turnedOf, takenOf};
-ghost use Rattle.helmert_runs.specs.Turns.{noState};
+ghost use Rattle.helmert_turns.specs.Turns.{noState};
 ghost use Rattle.deformation_runs.specs.Turns.{velocityAt, markAt, movedTurns, deformationTurns};
 use blocks::WIDTH;
 use deformation::Deformation;

@@ -107,8 +107,8 @@ pub fn cartesian_block(
     let mut coslam: [f64; WIDTH] = [0.0; WIDTH];
     let mut w: [f64; WIDTH] = [0.0; WIDTH];
     let mut rootw: [f64; WIDTH] = [0.0; WIDTH];
-    trig::sin_cos_block(y, &mut sinphi, &mut cosphi);
-    trig::sin_cos_block(x, &mut sinlam, &mut coslam);
+    trig_block::sin_cos_block(y, &mut sinphi, &mut cosphi);
+    trig_block::sin_cos_block(x, &mut sinlam, &mut coslam);
     w_block(ellps, &sinphi, &mut w);
     root::sqrt_block(&w, &mut rootw);
     point_block(

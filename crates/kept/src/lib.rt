@@ -14,7 +14,7 @@ ghost use Rattle.kept.specs.Same.{alikeNumberOf, alikeOf};
 ghost use Rattle.kept.specs.Kept.{trackedOf, heldOf, keptOf, freshOf, redoneOf, redoOf, beforeOf, correctedOf};
 ghost use mathlib.Core.List.{[]};
 ghost use Rattle.helmert.specs.Modes.{prepareOf};
-ghost use Rattle.helmert_runs.specs.Turns.{helmertTurns};
+ghost use Rattle.helmert_turns.specs.Turns.{helmertTurns};
 ghost use Rattle.sheet.specs.Rules.{firstBroken};
 ghost use Rattle.kept.specs.Entries.{refusal12, refusal13, refusal14, keptOrder, keepRefusalOf, keepOf, helmertOf, outcome, correctOf};
 use bodies::Step;

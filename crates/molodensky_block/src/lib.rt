@@ -128,7 +128,7 @@ fn double_sines(phi: &[f64; WIDTH], r: &mut [f64; WIDTH])
     let mut twice = [0.0; WIDTH];
     let mut c = [0.0; WIDTH];
     doubled(phi, &mut twice);
-    trig::sin_cos_block(&twice, r, &mut c);
+    trig_block::sin_cos_block(&twice, r, &mut c);
 }
 
 fn abridged_shifts(
@@ -218,8 +218,8 @@ fn shifts(
     let mut cphi = [0.0; WIDTH];
     let mut w = [0.0; WIDTH];
     let mut q = [0.0; WIDTH];
-    trig::sin_cos_block(x, &mut slam, &mut clam);
-    trig::sin_cos_block(y, &mut sphi, &mut cphi);
+    trig_block::sin_cos_block(x, &mut slam, &mut clam);
+    trig_block::sin_cos_block(y, &mut sphi, &mut cphi);
     ws(op.ellps, &sphi, &mut w);
     root::sqrt_block(&w, &mut q);
     if op.abridged {

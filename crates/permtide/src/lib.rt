@@ -132,10 +132,10 @@ fn sines(ellps: Ellipsoid, phi: &[f64; WIDTH], r: &mut [f64; WIDTH])
     let mut c = [0.0; WIDTH];
     let mut p = [0.0; WIDTH];
     let mut phibar = [0.0; WIDTH];
-    trig::sin_cos_block(phi, &mut s, &mut c);
+    trig_block::sin_cos_block(phi, &mut s, &mut c);
     scaled(1.0 - ellps.es, &s, &mut p);
-    arctan::atan2_block(&p, &c, &mut phibar);
-    trig::sin_cos_block(&phibar, r, &mut c);
+    arctan_block::atan2_block(&p, &c, &mut phibar);
+    trig_block::sin_cos_block(&phibar, r, &mut c);
 }
 
 // ----- F O R W A R D -----------------------------------------------------------------

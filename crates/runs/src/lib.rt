@@ -12,7 +12,7 @@ ghost use Rattle.permtide.specs.Step.{fwdOf, invOf};
 ghost use Rattle.molodensky.specs.Step.{commonOf};
 ghost use Rattle.lists.specs.Run.{ranOf, countOf};
 ghost use Rattle.lists.specs.Sixteen.{turnedOf, takenOf};
-ghost use Rattle.helmert_runs.specs.Turns.{noState, allTurns};
+ghost use Rattle.helmert_turns.specs.Turns.{noState, allTurns};
 ghost use Rattle.runs.specs.Turns.{plainTurns, cartTurns, permtideTurns, molodenskyTurns};
 use blocks::WIDTH;
 use cart::Cart;
@@ -45,7 +45,7 @@ fn cart_forward_sixteen(list: &mut [f64], i: usize, ellps: Ellipsoid) -> usize
     let mut oy = [0.0; WIDTH];
     let mut oz = [0.0; WIDTH];
     lists::read_block(list, i, &mut x, &mut y, &mut z, &mut t);
-    let n = cart::cart_fwd_block(ellps, &x, &y, &z, &t, &mut ox, &mut oy, &mut oz);
+    let n = cart_block::cart_fwd_block(ellps, &x, &y, &z, &t, &mut ox, &mut oy, &mut oz);
     lists::write_block(list, i, &ox, &oy, &oz, &t);
     n
 }
@@ -80,7 +80,7 @@ fn cart_inverse_sixteen(list: &mut [f64], i: usize, k: Inverse) -> usize
     let mut oy = [0.0; WIDTH];
     let mut oz = [0.0; WIDTH];
     lists::read_block(list, i, &mut x, &mut y, &mut z, &mut t);
-    let n = cart::cart_inv_block(k, &x, &y, &z, &t, &mut ox, &mut oy, &mut oz);
+    let n = cart_block::cart_inv_block(k, &x, &y, &z, &t, &mut ox, &mut oy, &mut oz);
     lists::write_block(list, i, &ox, &oy, &oz, &t);
     n
 }
@@ -197,7 +197,7 @@ fn molodensky_sixteen(list: &mut [f64], i: usize, op: Moped, inverse: bool)
     let mut oy = [0.0; WIDTH];
     let mut oz = [0.0; WIDTH];
     lists::read_block(list, i, &mut x, &mut y, &mut z, &mut t);
-    molodensky::common_block(op, inverse, &x, &y, &z, &t, &mut ox, &mut oy, &mut oz);
+    molodensky_block::common_block(op, inverse, &x, &y, &z, &t, &mut ox, &mut oy, &mut oz);
     lists::write_block(list, i, &ox, &oy, &oz, &t);
 }
 

@@ -7,7 +7,7 @@ use lib.ListN.{length}
 use Rattle.helmert.specs.declared.Stepped.{Stepped}
 use Rattle.helmert.specs.Modes.{stepOf}
 use Rattle.kept.specs.Kept.{freshOf, trackedOf}
-use Rattle.helmert_runs.specs.Turns.{helmertTurns}
+use Rattle.helmert_turns.specs.Turns.{helmertTurns}
 use Rattle.kept.proofs.Afresh.{Afresh, afresh-start, afresh-again, afresh-end}
 use Rattle.kept.proofs.fresh.Statement.{statement}
 use Rattle.kept.proofs.fresh.Tie as tie

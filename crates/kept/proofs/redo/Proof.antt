@@ -8,7 +8,7 @@ use Rattle.helmert.specs.declared.Stepped.{Stepped}
 use Rattle.lists.specs.Flat.{tupleAt}
 use Rattle.kept.specs.Same.{alikeOf}
 use Rattle.kept.specs.Kept.{trackedOf}
-use Rattle.helmert_runs.specs.Turns.{helmertTurns}
+use Rattle.helmert_turns.specs.Turns.{helmertTurns}
 use Rattle.kept.proofs.Again.{Redoing, redoing-start, redoing-again, redoing-stop, redoing-end, redoing-results-long, redoing-track-long}
 use Rattle.kept.proofs.Stretch.{again-redoes}
 use Rattle.kept.proofs.redo.Statement.{statement}
