@@ -1,14 +1,14 @@
 // Helmert over a lent flat list, a loop for each mode, convention and direction, written where the list stands.
 //
 // The prepared shift and the matrix of a static or fixed one are worked out once a list. Mode, convention, exactness, rotation and direction are decided before
-// a loop starts. Every function is proved equal, list and count, to the step's own definition from tuple to tuple (specs/Turns.antt over `lists`).
+// a loop starts. Every function is proved equal, list and count, to the step's own definition from tuple to tuple (helmert_turns over `lists`).
 // Exact: no rounding but the step's own. Used by the chain.
 ghost use mathlib.Core.Path.{_≡_};
 ghost use mathlib.Core.Bool.{true, false};
 ghost use Rattle.helmert.specs.Apply.{forwardOf, inverseOf};
 ghost use Rattle.helmert.specs.Modes.{prepareOf, startOf, fixedStepOf, runningOf, ownEpochStepOf};
 ghost use Rattle.lists.specs.Run.{ranOf, countOf};
-ghost use Rattle.helmert_runs.specs.Turns.{noState, allTurns, steppedTurns, helmertTurns};
+ghost use Rattle.helmert_turns.specs.Turns.{noState, allTurns, steppedTurns, helmertTurns};
 use helmert::Helmert;
 use helmert::Shift;
 use rotation::Vec3;
