@@ -10,7 +10,10 @@ ghost use lib.ListN.{length};
 ghost use Rattle.blocks.specs.Each.{at, Each};
 ghost use Rattle.arctan.specs.Arctan.{atan2Of};
 ghost use Rattle.arctan_block.specs.Block.{atMost, atLeast, differenceOf, SizedPoint, SizedUpTo, quickOf, quickAt, mendedOf, mendedAt};
-use arctan::{Cell, LEAST, MOST, Octant};
+use arctan::Cell;
+use arctan::LEAST;
+use arctan::MOST;
+use arctan::Octant;
 use blocks::WIDTH;
 
 // v if it is below m, else m: so a NaN gives m

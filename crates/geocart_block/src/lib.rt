@@ -13,7 +13,8 @@ ghost use Rattle.geocart.specs.Geocart.{cartesianOf, bowringOf, placeOf};
 ghost use Rattle.geocart_block.specs.Blocks.{pointOf, tangentOf, legsOf, latitudeOf};
 use blocks::WIDTH;
 use ellipsoid::Ellipsoid;
-use geocart::{CUTOFF, Legs};
+use geocart::CUTOFF;
+use geocart::Legs;
 
 pub struct Point {
     pub x: f64,
