@@ -14,8 +14,8 @@ use Rattle.geocart_block.specs.Blocks.{latitudeOf}
 use Rattle.geocart_block.proofs.Parts.{through, either-way}
 use Rattle.cart.specs.declared.Inverse.{Inverse}
 use Rattle.cart.specs.declared.Legs.{Legs}
-use Rattle.cart.specs.Step.{cartFwdOf, meridianOf, heightOf, offAxisOf, onAxisOf, cartInvOf}
-use Rattle.cart_block.specs.Blocks.{legsOf, levelOf, eitherHeightOf, countsOf}
+use Rattle.cart.specs.Step.{cartFwdOf, heightOf, offAxisOf, onAxisOf, cartInvOf}
+use Rattle.cart_block.specs.Blocks.{reducedLegsOf, legsOf, levelOf, eitherHeightOf, countsOf}
 
 -- ---- forward
 
@@ -25,9 +25,9 @@ counted-forward e v x y z = rw (x, y, z)
 
 -- ---- inverse
 
-pub legs-are : (k : Inverse) (p Z : Float) {P S0 C0 A : Float} → P ≡ k .ra ⊗ p → S0 ≡ k .ra ⊗ Z → C0 ≡ k .ar ⊗ (k .ra ⊗ p) → A ≡ hypotOf S0 C0 → meridianOf k P S0 C0 A ≡ legsOf k p Z
+pub legs-are : (k : Inverse) (p Z : Float) {S0 C0 A : Float} → S0 ≡ k .ra ⊗ Z → C0 ≡ k .ar ⊗ (k .ra ⊗ p) → A ≡ hypotOf S0 C0 → reducedLegsOf k p Z A ≡ legsOf k p Z
 unfolding legsOf
-legs-are k p Z reduced sine cosine length = rw (length, cosine, sine, reduced)
+legs-are k p Z sine cosine length = rw (length, cosine, sine)
 
 pub height-from : (k : Inverse) (p Z S1 CC : Float) {r inner outer : Float} → r ≡ k .ar ⊗ S1 → inner ≡ hypotOf CC r → outer ≡ hypotOf CC S1 → levelOf k p Z S1 CC inner outer ≡ eitherHeightOf k p Z (record { s1 = S1; cc = CC })
 unfolding levelOf heightOf

@@ -11,13 +11,12 @@ use Rattle.cart.specs.declared.Inverse.{Inverse}
 use Rattle.cart.specs.declared.Legs.{Legs}
 use Rattle.cart.specs.Step.{meridianOf, heightOf}
 
--- S1 and CC of a point of the meridian plane, p from the axis and Z above the equator
+-- S1 and CC of a point of the meridian plane, p from the axis and Z above the equator, given the hypotenuse A of S0 and C0
+abbrev pub reducedLegsOf : Inverse → Float → Float → Float → Legs
+reducedLegsOf k p Z A = meridianOf k (k .ra ⊗ p) (k .ra ⊗ Z) (k .ar ⊗ (k .ra ⊗ p)) A
+
 unfoldable pub legsOf : Inverse → Float → Float → Legs
-legsOf k p Z =
-    let P = k .ra ⊗ p in
-    let S0 = k .ra ⊗ Z in
-    let C0 = k .ar ⊗ P in
-    meridianOf k P S0 C0 (hypotOf S0 C0)
+legsOf k p Z = reducedLegsOf k p Z (hypotOf (k .ra ⊗ Z) (k .ar ⊗ (k .ra ⊗ p)))
 
 -- the height, from S1, CC and the two hypotenuses; within the cutoff of the axis that of a pole
 unfoldable pub levelOf : Inverse → Float → Float → Float → Float → Float → Float → Float

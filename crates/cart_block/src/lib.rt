@@ -10,8 +10,8 @@ ghost use Rattle.floats.specs.Binary64.{_⊗_};
 ghost use Rattle.blocks.specs.Each.{at, Each, countTo};
 ghost use Rattle.tuple.specs.Columns.{rowOf};
 ghost use Rattle.tuple.specs.Sums.{anyNanOf};
-ghost use Rattle.cart.specs.Step.{cartFwdOf, meridianOf, cartInvOf};
-ghost use Rattle.cart_block.specs.Blocks.{legsOf, levelOf, eitherHeightOf, countsOf};
+ghost use Rattle.cart.specs.Step.{cartFwdOf, cartInvOf};
+ghost use Rattle.cart_block.specs.Blocks.{reducedLegsOf, legsOf, levelOf, eitherHeightOf, countsOf};
 use blocks::WIDTH;
 use cart::Inverse;
 use ellipsoid::Ellipsoid;
@@ -55,74 +55,67 @@ pub fn cart_fwd_block(
 ) -> usize
     ensures { λ r. ⌜ Each (now (ox .exit)) (λ (j : ℕ). cartFwdOf ellps (rowOf (now (x .entry)) (now (y .entry)) (now (z .entry)) (now (t .entry)) j) .tuple .x) × Each (now (oy .exit)) (λ (j : ℕ). cartFwdOf ellps (rowOf (now (x .entry)) (now (y .entry)) (now (z .entry)) (now (t .entry)) j) .tuple .y) × Each (now (oz .exit)) (λ (j : ℕ). cartFwdOf ellps (rowOf (now (x .entry)) (now (y .entry)) (now (z .entry)) (now (t .entry)) j) .tuple .z) × (r ≡ countTo 16 (λ (j : ℕ). cartFwdOf ellps (rowOf (now (x .entry)) (now (y .entry)) (now (z .entry)) (now (t .entry)) j) .counted)) ⌝ }
 {
-    geocart_block::cartesian_block(ellps, x, y, z, t, ox, oy, oz);
+    geocart::cartesian_block(ellps, x, y, z, t, ox, oy, oz);
     count_block(ox, oy, oz, t)
 }
 
-// P, S0 and C0 of a block.
+// S0 and C0 of a block.
 fn reduced_block(
     k: Inverse,
     p: &[f64; WIDTH],
     z: &[f64; WIDTH],
-    reduced: &mut [f64; WIDTH],
     s0: &mut [f64; WIDTH],
     c0: &mut [f64; WIDTH],
 )
-    ensures { λ _. ⌜ Each (now (reduced .exit)) (λ (j : ℕ). k .ra ⊗ (at (now (p .entry)) j)) × Each (now (s0 .exit)) (λ (j : ℕ). k .ra ⊗ (at (now (z .entry)) j)) × Each (now (c0 .exit)) (λ (j : ℕ). k .ar ⊗ (k .ra ⊗ (at (now (p .entry)) j))) ⌝ }
+    ensures { λ _. ⌜ Each (now (s0 .exit)) (λ (j : ℕ). k .ra ⊗ (at (now (z .entry)) j)) × Each (now (c0 .exit)) (λ (j : ℕ). k .ar ⊗ (k .ra ⊗ (at (now (p .entry)) j))) ⌝ }
 {
-    *reduced = [0.0; WIDTH];
     *s0 = [0.0; WIDTH];
     *c0 = [0.0; WIDTH];
     let mut i = 0;
     while i < WIDTH {
-        let q = k.ra * p[i];
-        reduced[i] = q;
         s0[i] = k.ra * z[i];
-        c0[i] = k.ar * q;
+        c0[i] = k.ar * (k.ra * p[i]);
         i += 1;
     }
 }
 
-// S1 and CC of a block.
+// S1 and CC of a block, a the hypotenuses. P, S0 and C0 are worked out again: three products cost less than three columns kept.
 fn meridian_block(
     k: Inverse,
     p: &[f64; WIDTH],
-    s0: &[f64; WIDTH],
-    c0: &[f64; WIDTH],
+    z: &[f64; WIDTH],
     a: &[f64; WIDTH],
     s1: &mut [f64; WIDTH],
     cc: &mut [f64; WIDTH],
 )
-    ensures { λ _. ⌜ Each (now (s1 .exit)) (λ (j : ℕ). meridianOf k (at (now (p .entry)) j) (at (now (s0 .entry)) j) (at (now (c0 .entry)) j) (at (now (a .entry)) j) .s1) × Each (now (cc .exit)) (λ (j : ℕ). meridianOf k (at (now (p .entry)) j) (at (now (s0 .entry)) j) (at (now (c0 .entry)) j) (at (now (a .entry)) j) .cc) ⌝ }
+    ensures { λ _. ⌜ Each (now (s1 .exit)) (λ (j : ℕ). reducedLegsOf k (at (now (p .entry)) j) (at (now (z .entry)) j) (at (now (a .entry)) j) .s1) × Each (now (cc .exit)) (λ (j : ℕ). reducedLegsOf k (at (now (p .entry)) j) (at (now (z .entry)) j) (at (now (a .entry)) j) .cc) ⌝ }
 {
     *s1 = [0.0; WIDTH];
     *cc = [0.0; WIDTH];
     let mut i = 0;
     while i < WIDTH {
-        let m = cart::meridian(k, p[i], s0[i], c0[i], a[i]);
+        let q = k.ra * p[i];
+        let m = cart::meridian(k, q, k.ra * z[i], k.ar * q, a[i]);
         s1[i] = m.s1;
         cc[i] = m.cc;
         i += 1;
     }
 }
 
-// The same from p and Z.
+// The same from p and Z. The hypotenuses are laid down in a, S0 and C0 where S1 and CC come.
 fn legs_block(
     k: Inverse,
     p: &[f64; WIDTH],
     z: &[f64; WIDTH],
+    a: &mut [f64; WIDTH],
     s1: &mut [f64; WIDTH],
     cc: &mut [f64; WIDTH],
 )
     ensures { λ _. ⌜ Each (now (s1 .exit)) (λ (j : ℕ). legsOf k (at (now (p .entry)) j) (at (now (z .entry)) j) .s1) × Each (now (cc .exit)) (λ (j : ℕ). legsOf k (at (now (p .entry)) j) (at (now (z .entry)) j) .cc) ⌝ }
 {
-    let mut reduced: [f64; WIDTH] = [0.0; WIDTH];
-    let mut s0: [f64; WIDTH] = [0.0; WIDTH];
-    let mut c0: [f64; WIDTH] = [0.0; WIDTH];
-    let mut a: [f64; WIDTH] = [0.0; WIDTH];
-    reduced_block(k, p, z, &mut reduced, &mut s0, &mut c0);
-    hypot_block::hypot_block(&s0, &c0, &mut a);
-    meridian_block(k, &reduced, &s0, &c0, &a, s1, cc);
+    reduced_block(k, p, z, s1, cc);
+    hypot::hypot_block(s1, cc, a);
+    meridian_block(k, p, z, a, s1, cc);
 }
 
 fn product_block(k: Inverse, s1: &[f64; WIDTH], r: &mut [f64; WIDTH])
@@ -166,24 +159,23 @@ fn level_block(
     }
 }
 
-// The heights of a block: as `height` gives them, or a pole's where p is less than the cutoff.
+// The heights of a block: as `height` gives them, or a pole's where p is less than the cutoff. The hypotenuses are laid down in inner and outer.
 fn height_block(
     k: Inverse,
     p: &[f64; WIDTH],
     z: &[f64; WIDTH],
     s1: &[f64; WIDTH],
     cc: &[f64; WIDTH],
+    inner: &mut [f64; WIDTH],
+    outer: &mut [f64; WIDTH],
     h: &mut [f64; WIDTH],
 )
     ensures { λ _. ⌜ Each (now (h .exit)) (λ (j : ℕ). eitherHeightOf k (at (now (p .entry)) j) (at (now (z .entry)) j) (record { s1 = at (now (s1 .entry)) j; cc = at (now (cc .entry)) j })) ⌝ }
 {
-    let mut reduced: [f64; WIDTH] = [0.0; WIDTH];
-    let mut inner: [f64; WIDTH] = [0.0; WIDTH];
-    let mut outer: [f64; WIDTH] = [0.0; WIDTH];
-    product_block(k, s1, &mut reduced);
-    hypot_block::hypot_block(cc, &reduced, &mut inner);
-    hypot_block::hypot_block(cc, s1, &mut outer);
-    level_block(k, p, z, s1, cc, &inner, &outer, h);
+    product_block(k, s1, h);
+    hypot::hypot_block(cc, h, inner);
+    hypot::hypot_block(cc, s1, outer);
+    level_block(k, p, z, s1, cc, inner, outer, h);
 }
 
 fn counts_at(k: Inverse, p: f64, v: Tuple) -> bool
@@ -235,12 +227,13 @@ pub fn cart_inv_block(
     let mut p: [f64; WIDTH] = [0.0; WIDTH];
     let mut s1: [f64; WIDTH] = [0.0; WIDTH];
     let mut cc: [f64; WIDTH] = [0.0; WIDTH];
+    // the hypotenuses, then the latitudes of points off the axis
     let mut phi: [f64; WIDTH] = [0.0; WIDTH];
-    arctan_block::atan2_block(y, x, ox);
-    hypot_block::hypot_block(x, y, &mut p);
-    legs_block(k, &p, z, &mut s1, &mut cc);
-    arctan_block::atan2_block(&s1, &cc, &mut phi);
-    geocart_block::latitude_block(k.cutoff, &p, z, &phi, oy);
-    height_block(k, &p, z, &s1, &cc, oz);
+    arctan::atan2_block(y, x, ox);
+    hypot::hypot_block(x, y, &mut p);
+    legs_block(k, &p, z, &mut phi, &mut s1, &mut cc);
+    height_block(k, &p, z, &s1, &cc, oy, &mut phi, oz);
+    arctan::atan2_block(&s1, &cc, &mut phi);
+    geocart::latitude_block(k.cutoff, &p, z, &phi, oy);
     count_off_axis_block(k, &p, ox, oy, oz, t)
 }

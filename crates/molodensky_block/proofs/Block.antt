@@ -14,8 +14,8 @@ use Rattle.molodensky.specs.declared.Offsets.the-variants.{Three, Nothing}
 use Rattle.molodensky.specs.Step.{placeOf, abridgedOffsetsOf, fullOffsetsOf, offsetsOf, movedOf, commonOf}
 use Rattle.molodensky_block.specs.Block.{shiftOf, placeWith, abridgedWith}
 
--- a place, given its sines and cosines, w and the root of w
-pub placed : (op : Moped) (lam phi : Float) {slam clam sphi cphi w q : Float} → slam ≡ sinOf lam → clam ≡ cosOf lam → sphi ≡ sinOf phi → cphi ≡ cosOf phi → w ≡ wOf (op .ellps) sphi → q ≡ sqrtOf w → placeWith op slam clam sphi cphi w q ≡ placeOf op lam phi
+-- a place, given its sines and cosines and the root of w
+pub placed : (op : Moped) (lam phi : Float) {slam clam sphi cphi w q : Float} → slam ≡ sinOf lam → clam ≡ cosOf lam → sphi ≡ sinOf phi → cphi ≡ cosOf phi → w ≡ wOf (op .ellps) sphi → q ≡ sqrtOf w → placeWith op slam clam sphi cphi q ≡ placeOf op lam phi
 unfolding placeWith placeOf primeVerticalOf meridianOf
 placed op lam phi sl cl sp cp ew eq = rw (eq, ew, sp, cp, sl, cl)
 

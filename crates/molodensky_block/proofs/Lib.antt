@@ -1,2 +1,3 @@
--- What serves the proofs of the blocks.
+-- What serves the proofs of the blocks, and how a loop writes over what it reads.
 pub mod Block
+pub mod Over

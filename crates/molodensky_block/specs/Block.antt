@@ -5,7 +5,7 @@ use lib.Ieee.{Float, nan, neg}
 use Rattle.floats.specs.Binary64.{_⊕_, _⊖_, _⊗_, _⊘_}
 use Rattle.blocks.specs.Each.{at}
 use Rattle.tuple.specs.Columns.{rowOf}
-use Rattle.ellipsoid.specs.Figure.{one}
+use Rattle.ellipsoid.specs.Figure.{one, wOf}
 use Rattle.molodensky.specs.declared.Moped.{Moped}
 use Rattle.molodensky.specs.declared.Place.{Place}
 use Rattle.molodensky.specs.declared.Offsets.{Offsets}
@@ -18,16 +18,16 @@ abbrev pub shiftOf : Offsets → Shift
 shiftOf (Three dlam dphi dh) = record { dlam = dlam; dphi = dphi; dh = dh }
 shiftOf Nothing = record { dlam = nan; dphi = nan; dh = nan }
 
--- `placeOf`, given the sines and cosines, w and its root q
-unfoldable pub placeWith : Moped → Float → Float → Float → Float → Float → Float → Place
-placeWith op slam clam sphi cphi w q =
+-- `placeOf`, given the sines and cosines and q, the root of w
+unfoldable pub placeWith : Moped → Float → Float → Float → Float → Float → Place
+placeWith op slam clam sphi cphi q =
     record {
       slam = slam;
       clam = clam;
       sphi = sphi;
       cphi = cphi;
       n = op .ellps .a ⊘ q;
-      m = op .ellps .a ⊗ (one ⊖ op .ellps .es) ⊘ (w ⊗ q);
+      m = op .ellps .a ⊗ (one ⊖ op .ellps .es) ⊘ (wOf (op .ellps) sphi ⊗ q);
       fac = op .dx ⊗ clam ⊕ op .dy ⊗ slam;
     }
 
@@ -42,13 +42,13 @@ abridgedWith op q s =
 
 -- ---- at a place of a block
 
-abbrev pub fullAt : Moped → List Float → List Float → List Float → List Float → List Float → List Float → List Float → ℕ → Shift
-fullAt op h slam clam sphi cphi w q j =
-    shiftOf (fullOffsetsOf op (placeWith op (at slam j) (at clam j) (at sphi j) (at cphi j) (at w j) (at q j)) (at h j))
+abbrev pub fullAt : Moped → List Float → List Float → List Float → List Float → List Float → List Float → ℕ → Shift
+fullAt op h slam clam sphi cphi q j =
+    shiftOf (fullOffsetsOf op (placeWith op (at slam j) (at clam j) (at sphi j) (at cphi j) (at q j)) (at h j))
 
-abbrev pub abridgedAt : Moped → List Float → List Float → List Float → List Float → List Float → List Float → List Float → ℕ → Shift
-abridgedAt op s slam clam sphi cphi w q j =
-    shiftOf (abridgedWith op (placeWith op (at slam j) (at clam j) (at sphi j) (at cphi j) (at w j) (at q j)) (at s j))
+abbrev pub abridgedAt : Moped → List Float → List Float → List Float → List Float → List Float → List Float → ℕ → Shift
+abridgedAt op s slam clam sphi cphi q j =
+    shiftOf (abridgedWith op (placeWith op (at slam j) (at clam j) (at sphi j) (at cphi j) (at q j)) (at s j))
 
 -- no offset looks at the time: any column may stand for it
 abbrev pub shiftAt : Moped → List Float → List Float → List Float → ℕ → Shift

@@ -5,6 +5,7 @@
 // three NaNs, which makes the coordinates NaN as `common` does. Used by the loops over a list.
 ghost use mathlib.Core.Path.{_≡_};
 ghost use Prim.Native.Nat.{ℕ};
+ghost use lib.ListN.{length};
 ghost use Rattle.floats.specs.Binary64.{_⊕_, _⊖_, _⊗_};
 ghost use Rattle.trig.specs.Trig.{sinOf};
 ghost use Rattle.ellipsoid.specs.Figure.{two, wOf};
@@ -57,10 +58,17 @@ fn unless_either_zero(d: f64, e: f64, dlam: f64, dphi: f64, dh: f64) -> Shift
     unless_zero(e, dlam, dphi, dh)
 }
 
-// A place, given its sines and cosines, w = 1 - es·sin²φ and its root q.
-fn place_with(op: Moped, slam: f64, clam: f64, sphi: f64, cphi: f64, w: f64, q: f64) -> Place
-    ensures { λ r. ⌜ r ≡ placeWith op slam clam sphi cphi w q ⌝ }
+fn w_at(ellps: Ellipsoid, sphi: f64) -> f64
+    ensures { λ r. ⌜ r ≡ wOf ellps sphi ⌝ }
 {
+    1.0 - floats::square(sphi) * ellps.es
+}
+
+// A place, given its sines and cosines and q, the root of w = 1 - es·sin²φ. That w is worked out again costs less than a column of them.
+fn place_with(op: Moped, slam: f64, clam: f64, sphi: f64, cphi: f64, q: f64) -> Place
+    ensures { λ r. ⌜ r ≡ placeWith op slam clam sphi cphi q ⌝ }
+{
+    let w = w_at(op.ellps, sphi);
     Place {
         slam: slam,
         clam: clam,
@@ -106,7 +114,7 @@ fn ws(ellps: Ellipsoid, sphi: &[f64; WIDTH], w: &mut [f64; WIDTH])
     *w = [0.0; WIDTH];
     let mut i = 0;
     while i < WIDTH {
-        w[i] = 1.0 - floats::square(sphi[i]) * ellps.es;
+        w[i] = w_at(ellps, sphi[i]);
         i += 1;
     }
 }
@@ -122,41 +130,40 @@ fn doubled(x: &[f64; WIDTH], r: &mut [f64; WIDTH])
     }
 }
 
-fn double_sines(phi: &[f64; WIDTH], r: &mut [f64; WIDTH])
+// The sines of 2φ. The angles are laid down in twice, the cosines in c.
+fn double_sines(
+    phi: &[f64; WIDTH],
+    twice: &mut [f64; WIDTH],
+    c: &mut [f64; WIDTH],
+    r: &mut [f64; WIDTH],
+)
     ensures { λ _. ⌜ Each (now (r .exit)) (λ (j : ℕ). sinOf (two ⊗ at (now (phi .entry)) j)) ⌝ }
 {
-    let mut twice = [0.0; WIDTH];
-    let mut c = [0.0; WIDTH];
-    doubled(phi, &mut twice);
-    trig_block::sin_cos_block(&twice, r, &mut c);
+    doubled(phi, twice);
+    trig::sin_cos_block(twice, r, c);
 }
 
+// The offsets of a block over the columns that hold the sines and cosines of the longitudes and the sines of 2φ.
 fn abridged_shifts(
     op: Moped,
-    sin2phi: &[f64; WIDTH],
-    slam: &[f64; WIDTH],
-    clam: &[f64; WIDTH],
     sphi: &[f64; WIDTH],
     cphi: &[f64; WIDTH],
-    w: &[f64; WIDTH],
     q: &[f64; WIDTH],
     dlam: &mut [f64; WIDTH],
     dphi: &mut [f64; WIDTH],
     dh: &mut [f64; WIDTH],
 )
+    requires { ⌜ (length (now dlam) ≡ 16) × (length (now dphi) ≡ 16) × (length (now dh) ≡ 16) ⌝ }
     ensures { λ _. ⌜
-        Each (now (dlam .exit)) (λ (j : ℕ). abridgedAt op (now (sin2phi .entry)) (now (slam .entry)) (now (clam .entry)) (now (sphi .entry)) (now (cphi .entry)) (now (w .entry)) (now (q .entry)) j .dlam)
-        × Each (now (dphi .exit)) (λ (j : ℕ). abridgedAt op (now (sin2phi .entry)) (now (slam .entry)) (now (clam .entry)) (now (sphi .entry)) (now (cphi .entry)) (now (w .entry)) (now (q .entry)) j .dphi)
-        × Each (now (dh .exit)) (λ (j : ℕ). abridgedAt op (now (sin2phi .entry)) (now (slam .entry)) (now (clam .entry)) (now (sphi .entry)) (now (cphi .entry)) (now (w .entry)) (now (q .entry)) j .dh)
+        Each (now (dlam .exit)) (λ (j : ℕ). abridgedAt op (now (dh .entry)) (now (dlam .entry)) (now (dphi .entry)) (now (sphi .entry)) (now (cphi .entry)) (now (q .entry)) j .dlam)
+        × Each (now (dphi .exit)) (λ (j : ℕ). abridgedAt op (now (dh .entry)) (now (dlam .entry)) (now (dphi .entry)) (now (sphi .entry)) (now (cphi .entry)) (now (q .entry)) j .dphi)
+        × Each (now (dh .exit)) (λ (j : ℕ). abridgedAt op (now (dh .entry)) (now (dlam .entry)) (now (dphi .entry)) (now (sphi .entry)) (now (cphi .entry)) (now (q .entry)) j .dh)
         ⌝ }
 {
-    *dlam = [0.0; WIDTH];
-    *dphi = [0.0; WIDTH];
-    *dh = [0.0; WIDTH];
     let mut i = 0;
     while i < WIDTH {
-        let p = place_with(op, slam[i], clam[i], sphi[i], cphi[i], w[i], q[i]);
-        let shift = abridged_shift(op, p, sin2phi[i]);
+        let p = place_with(op, dlam[i], dphi[i], sphi[i], cphi[i], q[i]);
+        let shift = abridged_shift(op, p, dh[i]);
         dlam[i] = shift.dlam;
         dphi[i] = shift.dphi;
         dh[i] = shift.dh;
@@ -164,31 +171,28 @@ fn abridged_shifts(
     }
 }
 
+// The offsets of a block over the columns that hold the sines and cosines of the longitudes.
 fn full_shifts(
     op: Moped,
     h: &[f64; WIDTH],
-    slam: &[f64; WIDTH],
-    clam: &[f64; WIDTH],
     sphi: &[f64; WIDTH],
     cphi: &[f64; WIDTH],
-    w: &[f64; WIDTH],
     q: &[f64; WIDTH],
     dlam: &mut [f64; WIDTH],
     dphi: &mut [f64; WIDTH],
     dh: &mut [f64; WIDTH],
 )
+    requires { ⌜ (length (now dlam) ≡ 16) × (length (now dphi) ≡ 16) ⌝ }
     ensures { λ _. ⌜
-        Each (now (dlam .exit)) (λ (j : ℕ). fullAt op (now (h .entry)) (now (slam .entry)) (now (clam .entry)) (now (sphi .entry)) (now (cphi .entry)) (now (w .entry)) (now (q .entry)) j .dlam)
-        × Each (now (dphi .exit)) (λ (j : ℕ). fullAt op (now (h .entry)) (now (slam .entry)) (now (clam .entry)) (now (sphi .entry)) (now (cphi .entry)) (now (w .entry)) (now (q .entry)) j .dphi)
-        × Each (now (dh .exit)) (λ (j : ℕ). fullAt op (now (h .entry)) (now (slam .entry)) (now (clam .entry)) (now (sphi .entry)) (now (cphi .entry)) (now (w .entry)) (now (q .entry)) j .dh)
+        Each (now (dlam .exit)) (λ (j : ℕ). fullAt op (now (h .entry)) (now (dlam .entry)) (now (dphi .entry)) (now (sphi .entry)) (now (cphi .entry)) (now (q .entry)) j .dlam)
+        × Each (now (dphi .exit)) (λ (j : ℕ). fullAt op (now (h .entry)) (now (dlam .entry)) (now (dphi .entry)) (now (sphi .entry)) (now (cphi .entry)) (now (q .entry)) j .dphi)
+        × Each (now (dh .exit)) (λ (j : ℕ). fullAt op (now (h .entry)) (now (dlam .entry)) (now (dphi .entry)) (now (sphi .entry)) (now (cphi .entry)) (now (q .entry)) j .dh)
         ⌝ }
 {
-    *dlam = [0.0; WIDTH];
-    *dphi = [0.0; WIDTH];
     *dh = [0.0; WIDTH];
     let mut i = 0;
     while i < WIDTH {
-        let p = place_with(op, slam[i], clam[i], sphi[i], cphi[i], w[i], q[i]);
+        let p = place_with(op, dlam[i], dphi[i], sphi[i], cphi[i], q[i]);
         let shift = full_shift(op, p, h[i]);
         dlam[i] = shift.dlam;
         dphi[i] = shift.dphi;
@@ -197,6 +201,7 @@ fn full_shifts(
     }
 }
 
+// The offsets of a block. What is needed on the way is laid down in the columns that the offsets come in, as far as they reach.
 fn shifts(
     op: Moped,
     x: &[f64; WIDTH],
@@ -212,55 +217,41 @@ fn shifts(
         × Each (now (dh .exit)) (λ (j : ℕ). shiftAt op (now (x .entry)) (now (y .entry)) (now (z .entry)) j .dh)
         ⌝ }
 {
-    let mut slam = [0.0; WIDTH];
-    let mut clam = [0.0; WIDTH];
     let mut sphi = [0.0; WIDTH];
     let mut cphi = [0.0; WIDTH];
-    let mut w = [0.0; WIDTH];
     let mut q = [0.0; WIDTH];
-    trig_block::sin_cos_block(x, &mut slam, &mut clam);
-    trig_block::sin_cos_block(y, &mut sphi, &mut cphi);
-    ws(op.ellps, &sphi, &mut w);
-    root::sqrt_block(&w, &mut q);
+    trig::sin_cos_block(y, &mut sphi, &mut cphi);
+    ws(op.ellps, &sphi, dlam);
+    root::sqrt_block(dlam, &mut q);
     if op.abridged {
-        let mut sin2phi = [0.0; WIDTH];
-        double_sines(y, &mut sin2phi);
-        abridged_shifts(
-            op,
-            &sin2phi,
-            &slam,
-            &clam,
-            &sphi,
-            &cphi,
-            &w,
-            &q,
-            dlam,
-            dphi,
-            dh,
-        );
+        double_sines(y, dlam, dphi, dh);
+        trig::sin_cos_block(x, dlam, dphi);
+        abridged_shifts(op, &sphi, &cphi, &q, dlam, dphi, dh);
     } else {
-        full_shifts(op, z, &slam, &clam, &sphi, &cphi, &w, &q, dlam, dphi, dh);
+        trig::sin_cos_block(x, dlam, dphi);
+        full_shifts(op, z, &sphi, &cphi, &q, dlam, dphi, dh);
     }
 }
 
-fn plus(x: &[f64; WIDTH], d: &[f64; WIDTH], r: &mut [f64; WIDTH])
-    ensures { λ _. ⌜ Each (now (r .exit)) (λ (j : ℕ). at (now (x .entry)) j ⊕ at (now (d .entry)) j) ⌝ }
+// A coordinate with the offsets added, over the offsets.
+fn plus(x: &[f64; WIDTH], d: &mut [f64; WIDTH])
+    requires { ⌜ length (now d) ≡ 16 ⌝ }
+    ensures { λ _. ⌜ Each (now (d .exit)) (λ (j : ℕ). at (now (x .entry)) j ⊕ at (now (d .entry)) j) ⌝ }
 {
-    *r = [0.0; WIDTH];
     let mut i = 0;
     while i < WIDTH {
-        r[i] = x[i] + d[i];
+        d[i] = x[i] + d[i];
         i += 1;
     }
 }
 
-fn minus(x: &[f64; WIDTH], d: &[f64; WIDTH], r: &mut [f64; WIDTH])
-    ensures { λ _. ⌜ Each (now (r .exit)) (λ (j : ℕ). at (now (x .entry)) j ⊖ at (now (d .entry)) j) ⌝ }
+fn minus(x: &[f64; WIDTH], d: &mut [f64; WIDTH])
+    requires { ⌜ length (now d) ≡ 16 ⌝ }
+    ensures { λ _. ⌜ Each (now (d .exit)) (λ (j : ℕ). at (now (x .entry)) j ⊖ at (now (d .entry)) j) ⌝ }
 {
-    *r = [0.0; WIDTH];
     let mut i = 0;
     while i < WIDTH {
-        r[i] = x[i] - d[i];
+        d[i] = x[i] - d[i];
         i += 1;
     }
 }
@@ -283,17 +274,14 @@ pub fn common_block(
         × Each (now (oz .exit)) (λ (j : ℕ). commonOf op inverse (rowOf (now (x .entry)) (now (y .entry)) (now (z .entry)) (now (t .entry)) j) .z)
         ⌝ }
 {
-    let mut dlam = [0.0; WIDTH];
-    let mut dphi = [0.0; WIDTH];
-    let mut dh = [0.0; WIDTH];
-    shifts(op, x, y, z, &mut dlam, &mut dphi, &mut dh);
+    shifts(op, x, y, z, ox, oy, oz);
     if inverse {
-        minus(x, &dlam, ox);
-        minus(y, &dphi, oy);
-        minus(z, &dh, oz);
+        minus(x, ox);
+        minus(y, oy);
+        minus(z, oz);
     } else {
-        plus(x, &dlam, ox);
-        plus(y, &dphi, oy);
-        plus(z, &dh, oz);
+        plus(x, ox);
+        plus(y, oy);
+        plus(z, oz);
     }
 }

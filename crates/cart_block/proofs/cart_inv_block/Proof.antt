@@ -16,27 +16,27 @@ hypot-block-requires c κs = search needs
 legs-block-requires : tie.Need-legs-block-requires
 legs-block-requires c κs = search needs
 
+height-block-requires : tie.Need-height-block-requires
+height-block-requires c κs = search needs
+
 atan2-block-requires-2 : tie.Need-atan2-block-requires-2
 atan2-block-requires-2 c κs = search needs
 
 latitude-block-requires : tie.Need-latitude-block-requires
 latitude-block-requires c κs = search needs
 
-height-block-requires : tie.Need-height-block-requires
-height-block-requires c κs = search needs
-
 count-off-axis-block-requires : tie.Need-count-off-axis-block-requires
 count-off-axis-block-requires c κs = search needs
 
 returns : tie.Need-returns
 returns c =
-    let lam = c .before .before .before .before .before .before .before .before .before .before .before .before .before .before .before .before .before .before .before .before .before .before .before .before .atan2-block .ensures in
-    let length = c .before .before .before .before .before .before .before .before .before .before .before .before .before .before .before .before .before .before .before .before .before .before .hypot-block .ensures in
-    let legs = c .before .before .before .before .before .before .before .before .before .before .before .before .before .before .before .before .before .before .legs-block .ensures in
-    let angle = c .before .before .before .before .before .before .before .before .before .before .before .before .before .before .atan2-block2 .ensures in
+    let lam = c .before .before .before .before .before .before .before .before .before .before .before .before .before .before .before .before .before .before .before .before .before .before .before .before .before .before .before .atan2-block .ensures in
+    let length = c .before .before .before .before .before .before .before .before .before .before .before .before .before .before .before .before .before .before .before .before .before .before .before .before .before .hypot-block .ensures in
+    let legs = c .before .before .before .before .before .before .before .before .before .before .before .before .before .before .before .before .before .before .before .before .legs-block .ensures in
+    let angle = c .before .before .before .before .before .before .before .before .before .atan2-block2 .ensures in
     let x = told (λ j k. longitude-is _ _) lam in
-    let y = told (λ j k. latitude-is _ _ (length .held j k) (legs .0 .held j k) (legs .1 .held j k) (angle .held j k)) (c .before .before .before .before .before .before .before .before .before .before .latitude-block .ensures) in
-    let z = told (λ j k. height-is _ _ (length .held j k) (legs .0 .held j k) (legs .1 .held j k)) (c .before .before .before .before .before .height-block .ensures) in (
+    let y = told (λ j k. latitude-is _ _ (length .held j k) (legs .0 .held j k) (legs .1 .held j k) (angle .held j k)) (c .before .before .before .before .before .latitude-block .ensures) in
+    let z = told (λ j k. height-is _ _ (length .held j k) (legs .0 .held j k) (legs .1 .held j k)) (c .before .before .before .before .before .before .before .before .before .before .before .before .before .height-block .ensures) in (
       x,
       y,
       z,
@@ -50,8 +50,8 @@ cart-inv-block-spec =
     atan2-block-requires
     hypot-block-requires
     legs-block-requires
+    height-block-requires
     atan2-block-requires-2
     latitude-block-requires
-    height-block-requires
     count-off-axis-block-requires
     returns)

@@ -18,11 +18,11 @@ meridian-block-requires c κs = search needs
 
 returns : tie.Need-returns
 returns c =
-    let reduced = c .before .before .before .before .before .before .before .before .before .before .before .reduced-block .ensures in
-    let length = c .before .before .before .before .before .before .before .hypot-block .ensures in
+    let reduced = c .before .before .before .before .before .before .before .before .reduced-block .ensures in
+    let length = c .before .before .before .before .hypot-block .ensures in
     let legs = c .meridian-block .ensures in (
-      told (λ j k. ap (λ (m : Legs). m .s1) (legs-are _ _ _ (reduced .0 .held j k) (reduced .1 .held j k) (reduced .2 .held j k) (length .held j k))) (legs .0),
-      told (λ j k. ap (λ (m : Legs). m .cc) (legs-are _ _ _ (reduced .0 .held j k) (reduced .1 .held j k) (reduced .2 .held j k) (length .held j k))) (legs .1),
+      told (λ j k. ap (λ (m : Legs). m .s1) (legs-are _ _ _ (reduced .0 .held j k) (reduced .1 .held j k) (length .held j k))) (legs .0),
+      told (λ j k. ap (λ (m : Legs). m .cc) (legs-are _ _ _ (reduced .0 .held j k) (reduced .1 .held j k) (length .held j k))) (legs .1),
     )
 
 pub legs-block-spec : {M : Type 1} → statement M

@@ -4,21 +4,27 @@ use mathlib.Core.Path.{refl, ap}
 use Rattle.blocks.specs.Each.{at, UpTo}
 use Rattle.blocks.proofs.Laws.{none-filled, one-more, all-filled}
 use Rattle.cart.specs.declared.Legs.{Legs}
-use Rattle.cart.specs.Step.{meridianOf}
+use Rattle.cart_block.specs.Blocks.{reducedLegsOf}
 use borrow.Author.Needs.{needs}
 use Rattle.cart_block.proofs.meridian_block.Statement.{statement}
 use Rattle.cart_block.proofs.meridian_block.Tie as tie
 
 abbrev Inv-loop : tie.InvT-loop
-Inv-loop k p s0 c0 a s1₀ cc₀ i₀ s1 cc i =
-    UpTo i s1 (λ (j : ℕ). meridianOf k (at p j) (at s0 j) (at c0 j) (at a j) .s1)
-    × UpTo i cc (λ (j : ℕ). meridianOf k (at p j) (at s0 j) (at c0 j) (at a j) .cc)
+Inv-loop k p z a s1₀ cc₀ i₀ s1 cc i =
+    UpTo i s1 (λ (j : ℕ). reducedLegsOf k (at p j) (at z j) (at a j) .s1)
+    × UpTo i cc (λ (j : ℕ). reducedLegsOf k (at p j) (at z j) (at a j) .cc)
 
 abbrev μ-loop : tie.MeasureT-loop
-μ-loop k p s0 c0 a s1₀ cc₀ i₀ s1 cc i = 16 - i
+μ-loop k p z a s1₀ cc₀ i₀ s1 cc i = 16 - i
 
 loop-holds : tie.Need-loop-holds Inv-loop μ-loop
 loop-holds c = (none-filled refl, none-filled refl)
+
+mul-q : tie.Need-mul-q Inv-loop μ-loop
+mul-q c = search needs
+
+element-copy-out-q : tie.Need-element-copy-out-q Inv-loop μ-loop
+element-copy-out-q c = search needs
 
 mul-meridian : tie.Need-mul-meridian Inv-loop μ-loop
 mul-meridian c = search needs
@@ -31,18 +37,6 @@ mul-meridian-2 c = search needs
 
 element-copy-out-meridian-2 : tie.Need-element-copy-out-meridian-2 Inv-loop μ-loop
 element-copy-out-meridian-2 c = search needs
-
-mul-meridian-3 : tie.Need-mul-meridian-3 Inv-loop μ-loop
-mul-meridian-3 c = search needs
-
-element-copy-out-meridian-3 : tie.Need-element-copy-out-meridian-3 Inv-loop μ-loop
-element-copy-out-meridian-3 c = search needs
-
-mul-meridian-4 : tie.Need-mul-meridian-4 Inv-loop μ-loop
-mul-meridian-4 c = search needs
-
-element-copy-out-meridian-4 : tie.Need-element-copy-out-meridian-4 Inv-loop μ-loop
-element-copy-out-meridian-4 c = search needs
 
 meridian-requires : tie.Need-meridian-requires Inv-loop μ-loop
 meridian-requires c κs = search needs
@@ -67,7 +61,7 @@ loop-less c = search needs
 
 loop-again : tie.Need-loop-again Inv-loop μ-loop
 loop-again c =
-    let l = c .before .before .before .before .before .before .loop in
+    let l = c .before .before .before .before .before .before .before .before .loop in
     (one-more (search needs) (ap (λ (m : Legs). m .s1) (c .meridian .ensures)) (l .inv .0), one-more (search needs) (ap (λ (m : Legs). m .cc) (c .meridian .ensures)) (l .inv .1))
 
 returns : tie.Need-returns Inv-loop μ-loop
@@ -80,14 +74,12 @@ meridian-block-spec =
     Inv-loop
     μ-loop
     loop-holds
+    mul-q
+    element-copy-out-q
     mul-meridian
     element-copy-out-meridian
     mul-meridian-2
     element-copy-out-meridian-2
-    mul-meridian-3
-    element-copy-out-meridian-3
-    mul-meridian-4
-    element-copy-out-meridian-4
     meridian-requires
     mul-s1
     element-write-s1

@@ -1,6 +1,6 @@
 -- `cart_block::reduced_block` meets its contract. Assumes nothing.
 use Prim.Native.Nat.{ℕ, _-_}
-use mathlib.Core.Path.{refl, ap}
+use mathlib.Core.Path.{refl}
 use Rattle.blocks.specs.Each.{at, UpTo}
 use Rattle.blocks.proofs.Laws.{none-filled, one-more, all-filled}
 use Rattle.floats.specs.Binary64.{_⊗_}
@@ -9,28 +9,15 @@ use Rattle.cart_block.proofs.reduced_block.Statement.{statement}
 use Rattle.cart_block.proofs.reduced_block.Tie as tie
 
 abbrev Inv-loop : tie.InvT-loop
-Inv-loop k p z reduced₀ s0₀ c0₀ i₀ reduced s0 c0 i =
-    UpTo i reduced (λ (j : ℕ). k .ra ⊗ at p j)
-    × UpTo i s0 (λ (j : ℕ). k .ra ⊗ at z j)
+Inv-loop k p z s0₀ c0₀ i₀ s0 c0 i =
+    UpTo i s0 (λ (j : ℕ). k .ra ⊗ at z j)
     × UpTo i c0 (λ (j : ℕ). k .ar ⊗ (k .ra ⊗ at p j))
 
 abbrev μ-loop : tie.MeasureT-loop
-μ-loop k p z reduced₀ s0₀ c0₀ i₀ reduced s0 c0 i = 16 - i
+μ-loop k p z s0₀ c0₀ i₀ s0 c0 i = 16 - i
 
 loop-holds : tie.Need-loop-holds Inv-loop μ-loop
-loop-holds c = (none-filled refl, none-filled refl, none-filled refl)
-
-mul-q : tie.Need-mul-q Inv-loop μ-loop
-mul-q c = search needs
-
-element-copy-out-q : tie.Need-element-copy-out-q Inv-loop μ-loop
-element-copy-out-q c = search needs
-
-mul-reduced : tie.Need-mul-reduced Inv-loop μ-loop
-mul-reduced c = search needs
-
-element-write-reduced : tie.Need-element-write-reduced Inv-loop μ-loop
-element-write-reduced c = search needs
+loop-holds c = (none-filled refl, none-filled refl)
 
 mul-s0 : tie.Need-mul-s0 Inv-loop μ-loop
 mul-s0 c = search needs
@@ -47,6 +34,12 @@ element-write-s0 c = search needs
 mul-c0 : tie.Need-mul-c0 Inv-loop μ-loop
 mul-c0 c = search needs
 
+element-copy-out-c0 : tie.Need-element-copy-out-c0 Inv-loop μ-loop
+element-copy-out-c0 c = search needs
+
+mul-c0-2 : tie.Need-mul-c0-2 Inv-loop μ-loop
+mul-c0-2 c = search needs
+
 element-write-c0 : tie.Need-element-write-c0 Inv-loop μ-loop
 element-write-c0 c = search needs
 
@@ -59,10 +52,10 @@ loop-less c = search needs
 loop-again : tie.Need-loop-again Inv-loop μ-loop
 loop-again c =
     let l = c .before .before .before .before .before .before .loop in
-    (one-more (search needs) (refl) (l .inv .0), one-more (search needs) (refl) (l .inv .1), one-more (search needs) (refl) (l .inv .2))
+    (one-more (search needs) refl (l .inv .0), one-more (search needs) refl (l .inv .1))
 
 returns : tie.Need-returns Inv-loop μ-loop
-returns c = (all-filled (search needs) (c .before .loop .inv .0), all-filled (search needs) (c .before .loop .inv .1), all-filled (search needs) (c .before .loop .inv .2))
+returns c = (all-filled (search needs) (c .before .loop .inv .0), all-filled (search needs) (c .before .loop .inv .1))
 
 pub reduced-block-spec : {M : Type 1} → statement M
 reduced-block-spec =
@@ -71,15 +64,13 @@ reduced-block-spec =
     Inv-loop
     μ-loop
     loop-holds
-    mul-q
-    element-copy-out-q
-    mul-reduced
-    element-write-reduced
     mul-s0
     element-copy-out-s0
     mul-s0-2
     element-write-s0
     mul-c0
+    element-copy-out-c0
+    mul-c0-2
     element-write-c0
     add-i
     loop-less

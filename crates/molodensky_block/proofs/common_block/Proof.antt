@@ -30,19 +30,19 @@ plus-requires-3 c κs = search needs
 
 returns : tie.Need-returns
 returns c =
-    let mode = c .before .before .before .before .before .before .before .before .before in
+    let mode = c .before .before .before .before .before .before in
     let d = mode .before .shifts .ensures in (
-      told (λ j k. rw (d .0 .held j k, mode .if1 .taken) (ap (λ (v : Tuple). v .x) (subtracted _ _ _))) (c .before .before .before .before .before .before .minus .ensures),
-      told (λ j k. rw (d .1 .held j k, mode .if1 .taken) (ap (λ (v : Tuple). v .y) (subtracted _ _ _))) (c .before .before .before .minus2 .ensures),
+      told (λ j k. rw (d .0 .held j k, mode .if1 .taken) (ap (λ (v : Tuple). v .x) (subtracted _ _ _))) (c .before .before .before .before .minus .ensures),
+      told (λ j k. rw (d .1 .held j k, mode .if1 .taken) (ap (λ (v : Tuple). v .y) (subtracted _ _ _))) (c .before .before .minus2 .ensures),
       told (λ j k. rw (d .2 .held j k, mode .if1 .taken) (ap (λ (v : Tuple). v .z) (subtracted _ _ _))) (c .minus3 .ensures),
     )
 
 returns-2 : tie.Need-returns-2
 returns-2 c =
-    let mode = c .before .before .before .before .before .before .before .before .before in
+    let mode = c .before .before .before .before .before .before in
     let d = mode .before .shifts .ensures in (
-      told (λ j k. rw (d .0 .held j k, mode .if1 .left) (ap (λ (v : Tuple). v .x) (added _ _ _))) (c .before .before .before .before .before .before .plus .ensures),
-      told (λ j k. rw (d .1 .held j k, mode .if1 .left) (ap (λ (v : Tuple). v .y) (added _ _ _))) (c .before .before .before .plus2 .ensures),
+      told (λ j k. rw (d .0 .held j k, mode .if1 .left) (ap (λ (v : Tuple). v .x) (added _ _ _))) (c .before .before .before .before .plus .ensures),
+      told (λ j k. rw (d .1 .held j k, mode .if1 .left) (ap (λ (v : Tuple). v .y) (added _ _ _))) (c .before .before .plus2 .ensures),
       told (λ j k. rw (d .2 .held j k, mode .if1 .left) (ap (λ (v : Tuple). v .z) (added _ _ _))) (c .plus3 .ensures),
     )
 

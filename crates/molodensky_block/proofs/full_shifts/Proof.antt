@@ -5,20 +5,21 @@ use mathlib.Core.Path.{refl}
 use Rattle.blocks.specs.Each.{UpTo}
 use Rattle.blocks.proofs.Laws.{none-filled, one-more, all-filled}
 use Rattle.molodensky_block.specs.Block.{fullAt}
+use Rattle.molodensky_block.proofs.Over.{Over, none-over, still, one-more-over}
 use Rattle.molodensky_block.proofs.full_shifts.Statement.{statement}
 use Rattle.molodensky_block.proofs.full_shifts.Tie as tie
 
 abbrev Inv-loop : tie.InvT-loop
-Inv-loop op h slam clam sphi cphi w q dlam₀ dphi₀ dh₀ i₀ dlam dphi dh i =
-    UpTo i dlam (λ (j : ℕ). fullAt op h slam clam sphi cphi w q j .dlam)
-    × UpTo i dphi (λ (j : ℕ). fullAt op h slam clam sphi cphi w q j .dphi)
-    × UpTo i dh (λ (j : ℕ). fullAt op h slam clam sphi cphi w q j .dh)
+Inv-loop op h sphi cphi q dlam₀ dphi₀ dh₀ i₀ dlam dphi dh i =
+    Over i dlam₀ dlam (λ (j : ℕ). fullAt op h dlam₀ dphi₀ sphi cphi q j .dlam)
+    × Over i dphi₀ dphi (λ (j : ℕ). fullAt op h dlam₀ dphi₀ sphi cphi q j .dphi)
+    × UpTo i dh (λ (j : ℕ). fullAt op h dlam₀ dphi₀ sphi cphi q j .dh)
 
 abbrev μ-loop : tie.MeasureT-loop
-μ-loop op h slam clam sphi cphi w q dlam₀ dphi₀ dh₀ i₀ dlam dphi dh i = 16 - i
+μ-loop op h sphi cphi q dlam₀ dphi₀ dh₀ i₀ dlam dphi dh i = 16 - i
 
 loop-holds : tie.Need-loop-holds Inv-loop μ-loop
-loop-holds c = (none-filled refl, none-filled refl, none-filled refl)
+loop-holds c = (none-over (c .before .pre .0), none-over (c .before .pre .1), none-filled refl)
 
 mul-place-with : tie.Need-mul-place-with Inv-loop μ-loop
 mul-place-with c = search needs
@@ -49,12 +50,6 @@ mul-place-with-5 c = search needs
 
 element-copy-out-place-with-5 : tie.Need-element-copy-out-place-with-5 Inv-loop μ-loop
 element-copy-out-place-with-5 c = search needs
-
-mul-place-with-6 : tie.Need-mul-place-with-6 Inv-loop μ-loop
-mul-place-with-6 c = search needs
-
-element-copy-out-place-with-6 : tie.Need-element-copy-out-place-with-6 Inv-loop μ-loop
-element-copy-out-place-with-6 c = search needs
 
 place-with-requires : tie.Need-place-with-requires Inv-loop μ-loop
 place-with-requires c κs = search needs
@@ -94,16 +89,16 @@ loop-less c = search needs
 
 loop-again : tie.Need-loop-again Inv-loop μ-loop
 loop-again c =
-    let u = c .before .before .before .before .before .before .before .before .before .before .loop .inv in (
-      one-more (search needs) (rw (c .full-shift .ensures, c .before .before .place-with .ensures)) (u .0),
-      one-more (search needs) (rw (c .full-shift .ensures, c .before .before .place-with .ensures)) (u .1),
-      one-more (search needs) (rw (c .full-shift .ensures, c .before .before .place-with .ensures)) (u .2),
+    let u = c .before .before .before .before .before .before .before .before .before .loop .inv in (
+      one-more-over (search needs) (rw (c .full-shift .ensures, c .before .before .place-with .ensures, still (u .0), still (u .1))) (u .0),
+      one-more-over (search needs) (rw (c .full-shift .ensures, c .before .before .place-with .ensures, still (u .0), still (u .1))) (u .1),
+      one-more (search needs) (rw (c .full-shift .ensures, c .before .before .place-with .ensures, still (u .0), still (u .1))) (u .2),
     )
 
 returns : tie.Need-returns Inv-loop μ-loop
 returns c =
     let u = c .before .loop .inv in
-    (all-filled (search needs) (u .0), all-filled (search needs) (u .1), all-filled (search needs) (u .2))
+    (all-filled (search needs) (u .0 .filled), all-filled (search needs) (u .1 .filled), all-filled (search needs) (u .2))
 
 pub full-shifts-spec : {M : Type 1} → statement M
 full-shifts-spec =
@@ -122,8 +117,6 @@ full-shifts-spec =
     element-copy-out-place-with-4
     mul-place-with-5
     element-copy-out-place-with-5
-    mul-place-with-6
-    element-copy-out-place-with-6
     place-with-requires
     mul-full-shift
     element-copy-out-full-shift

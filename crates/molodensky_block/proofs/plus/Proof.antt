@@ -1,39 +1,39 @@
 -- `molodensky_block::plus` meets its contract. Assumes nothing.
 use Prim.Native.Nat.{ℕ, _-_}
 use borrow.Author.Needs.{needs}
-use mathlib.Core.Path.{refl}
 use Rattle.floats.specs.Binary64.{_⊕_}
-use Rattle.blocks.specs.Each.{at, UpTo}
-use Rattle.blocks.proofs.Laws.{none-filled, one-more, all-filled}
+use Rattle.blocks.specs.Each.{at}
+use Rattle.blocks.proofs.Laws.{all-filled}
+use Rattle.molodensky_block.proofs.Over.{Over, none-over, still, one-more-over}
 use Rattle.molodensky_block.proofs.plus.Statement.{statement}
 use Rattle.molodensky_block.proofs.plus.Tie as tie
 
 abbrev Inv-loop : tie.InvT-loop
-Inv-loop x d r₀ i₀ r i = UpTo i r (λ (j : ℕ). at x j ⊕ at d j)
+Inv-loop x d₀ i₀ d i = Over i d₀ d (λ (j : ℕ). at x j ⊕ at d₀ j)
 
 abbrev μ-loop : tie.MeasureT-loop
-μ-loop x d r₀ i₀ r i = 16 - i
+μ-loop x d₀ i₀ d i = 16 - i
 
 loop-holds : tie.Need-loop-holds Inv-loop μ-loop
-loop-holds c = none-filled refl
+loop-holds c = none-over (c .pre)
 
-mul-r : tie.Need-mul-r Inv-loop μ-loop
-mul-r c = search needs
+mul-d : tie.Need-mul-d Inv-loop μ-loop
+mul-d c = search needs
 
-element-copy-out-r : tie.Need-element-copy-out-r Inv-loop μ-loop
-element-copy-out-r c = search needs
+element-copy-out-d : tie.Need-element-copy-out-d Inv-loop μ-loop
+element-copy-out-d c = search needs
 
-mul-r-2 : tie.Need-mul-r-2 Inv-loop μ-loop
-mul-r-2 c = search needs
+mul-d-2 : tie.Need-mul-d-2 Inv-loop μ-loop
+mul-d-2 c = search needs
 
-element-copy-out-r-2 : tie.Need-element-copy-out-r-2 Inv-loop μ-loop
-element-copy-out-r-2 c = search needs
+element-copy-out-d-2 : tie.Need-element-copy-out-d-2 Inv-loop μ-loop
+element-copy-out-d-2 c = search needs
 
-mul-r-3 : tie.Need-mul-r-3 Inv-loop μ-loop
-mul-r-3 c = search needs
+mul-d-3 : tie.Need-mul-d-3 Inv-loop μ-loop
+mul-d-3 c = search needs
 
-element-write-r : tie.Need-element-write-r Inv-loop μ-loop
-element-write-r c = search needs
+element-write-d : tie.Need-element-write-d Inv-loop μ-loop
+element-write-d c = search needs
 
 add-i : tie.Need-add-i Inv-loop μ-loop
 add-i c = search needs
@@ -42,10 +42,12 @@ loop-less : tie.Need-loop-less Inv-loop μ-loop
 loop-less c = search needs
 
 loop-again : tie.Need-loop-again Inv-loop μ-loop
-loop-again c = one-more (search needs) refl (c .before .before .before .loop .inv)
+loop-again c =
+    let u = c .before .before .before .loop .inv in
+    one-more-over (search needs) (rw (still u)) u
 
 returns : tie.Need-returns Inv-loop μ-loop
-returns c = all-filled (search needs) (c .before .loop .inv)
+returns c = all-filled (search needs) (c .before .loop .inv .filled)
 
 pub plus-spec : {M : Type 1} → statement M
 plus-spec =
@@ -54,12 +56,12 @@ plus-spec =
     Inv-loop
     μ-loop
     loop-holds
-    mul-r
-    element-copy-out-r
-    mul-r-2
-    element-copy-out-r-2
-    mul-r-3
-    element-write-r
+    mul-d
+    element-copy-out-d
+    mul-d-2
+    element-copy-out-d-2
+    mul-d-3
+    element-write-d
     add-i
     loop-less
     loop-again

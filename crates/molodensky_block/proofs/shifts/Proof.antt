@@ -10,9 +10,6 @@ use Rattle.molodensky_block.proofs.shifts.Tie as tie
 sin-cos-block-requires : tie.Need-sin-cos-block-requires
 sin-cos-block-requires c κs = search needs
 
-sin-cos-block-requires-2 : tie.Need-sin-cos-block-requires-2
-sin-cos-block-requires-2 c κs = search needs
-
 ws-requires : tie.Need-ws-requires
 ws-requires c κs = search needs
 
@@ -22,103 +19,70 @@ sqrt-block-requires c κs = search needs
 double-sines-requires : tie.Need-double-sines-requires
 double-sines-requires c κs = search needs
 
+sin-cos-block-requires-2 : tie.Need-sin-cos-block-requires-2
+sin-cos-block-requires-2 c κs = search needs
+
 abridged-shifts-requires : tie.Need-abridged-shifts-requires
 abridged-shifts-requires c κs = search needs
+
+sin-cos-block-requires-3 : tie.Need-sin-cos-block-requires-3
+sin-cos-block-requires-3 c κs = search needs
 
 full-shifts-requires : tie.Need-full-shifts-requires
 full-shifts-requires c κs = search needs
 
 returns : tie.Need-returns
 returns c =
-    let twice = c .before .before .before .before .before .before .before .before .before .before .before in
-    let mode = twice .before .before in
-    let root = mode .before in
-    let w = root .before .before .before in
-    let lat = w .before .before .before in
-    let lon = lat .before .before .before in (
+    let lon = c .before .before .before .before .before .before .before .sin-cos-block2 .ensures in
+    let twice = c .before .before .before .before .before .before .before .before .before .before .double-sines .ensures in
+    let mode = c .before .before .before .before .before .before .before .before .before .before .before .before .before .before in
+    let root = mode .before .sqrt-block .ensures in
+    let w = mode .before .before .before .before .ws .ensures in
+    let lat = mode .before .before .before .before .before .before .before .sin-cos-block .ensures in (
       told
           (λ j k.
           ap (λ (s : Shift). s .dlam)
           (abridged _ _ (mode .if1 .taken)
-          (placed _ _ _
-          (lon .sin-cos-block .ensures .0 .held j k)
-          (lon .sin-cos-block .ensures .1 .held j k)
-          (lat .sin-cos-block2 .ensures .0 .held j k)
-          (lat .sin-cos-block2 .ensures .1 .held j k)
-          (w .ws .ensures .held j k)
-          (root .sqrt-block .ensures .held j k))
-          (twice .double-sines .ensures .held j k)))
+          (placed _ _ _ (lon .0 .held j k) (lon .1 .held j k) (lat .0 .held j k) (lat .1 .held j k) (w .held j k) (root .held j k)) (twice .held j k)))
           (c .abridged-shifts .ensures .0),
       told
           (λ j k.
           ap (λ (s : Shift). s .dphi)
           (abridged _ _ (mode .if1 .taken)
-          (placed _ _ _
-          (lon .sin-cos-block .ensures .0 .held j k)
-          (lon .sin-cos-block .ensures .1 .held j k)
-          (lat .sin-cos-block2 .ensures .0 .held j k)
-          (lat .sin-cos-block2 .ensures .1 .held j k)
-          (w .ws .ensures .held j k)
-          (root .sqrt-block .ensures .held j k))
-          (twice .double-sines .ensures .held j k)))
+          (placed _ _ _ (lon .0 .held j k) (lon .1 .held j k) (lat .0 .held j k) (lat .1 .held j k) (w .held j k) (root .held j k)) (twice .held j k)))
           (c .abridged-shifts .ensures .1),
       told
           (λ j k.
           ap (λ (s : Shift). s .dh)
           (abridged _ _ (mode .if1 .taken)
-          (placed _ _ _
-          (lon .sin-cos-block .ensures .0 .held j k)
-          (lon .sin-cos-block .ensures .1 .held j k)
-          (lat .sin-cos-block2 .ensures .0 .held j k)
-          (lat .sin-cos-block2 .ensures .1 .held j k)
-          (w .ws .ensures .held j k)
-          (root .sqrt-block .ensures .held j k))
-          (twice .double-sines .ensures .held j k)))
+          (placed _ _ _ (lon .0 .held j k) (lon .1 .held j k) (lat .0 .held j k) (lat .1 .held j k) (w .held j k) (root .held j k)) (twice .held j k)))
           (c .abridged-shifts .ensures .2),
     )
 
 returns-2 : tie.Need-returns-2
 returns-2 c =
+    let lon = c .before .before .before .before .before .before .before .sin-cos-block3 .ensures in
     let mode = c .before .before .before .before .before .before .before .before .before .before in
-    let root = mode .before in
-    let w = root .before .before .before in
-    let lat = w .before .before .before in
-    let lon = lat .before .before .before in (
+    let root = mode .before .sqrt-block .ensures in
+    let w = mode .before .before .before .before .ws .ensures in
+    let lat = mode .before .before .before .before .before .before .before .sin-cos-block .ensures in (
       told
           (λ j k.
           ap (λ (s : Shift). s .dlam)
           (full _ _ (mode .if1 .left)
-          (placed _ _ _
-          (lon .sin-cos-block .ensures .0 .held j k)
-          (lon .sin-cos-block .ensures .1 .held j k)
-          (lat .sin-cos-block2 .ensures .0 .held j k)
-          (lat .sin-cos-block2 .ensures .1 .held j k)
-          (w .ws .ensures .held j k)
-          (root .sqrt-block .ensures .held j k))))
+          (placed _ _ _ (lon .0 .held j k) (lon .1 .held j k) (lat .0 .held j k) (lat .1 .held j k) (w .held j k) (root .held j k))))
           (c .full-shifts .ensures .0),
       told
           (λ j k.
           ap (λ (s : Shift). s .dphi)
           (full _ _ (mode .if1 .left)
-          (placed _ _ _
-          (lon .sin-cos-block .ensures .0 .held j k)
-          (lon .sin-cos-block .ensures .1 .held j k)
-          (lat .sin-cos-block2 .ensures .0 .held j k)
-          (lat .sin-cos-block2 .ensures .1 .held j k)
-          (w .ws .ensures .held j k)
-          (root .sqrt-block .ensures .held j k))))
+          (placed _ _ _ (lon .0 .held j k) (lon .1 .held j k) (lat .0 .held j k) (lat .1 .held j k) (w .held j k) (root .held j k))))
           (c .full-shifts .ensures .1),
       told
           (λ j k.
           ap (λ (s : Shift). s .dh)
           (full _ _ (mode .if1 .left)
-          (placed _ _ _
-          (lon .sin-cos-block .ensures .0 .held j k)
-          (lon .sin-cos-block .ensures .1 .held j k)
-          (lat .sin-cos-block2 .ensures .0 .held j k)
-          (lat .sin-cos-block2 .ensures .1 .held j k)
-          (w .ws .ensures .held j k)
-          (root .sqrt-block .ensures .held j k))))
+          (placed _ _ _ (lon .0 .held j k) (lon .1 .held j k) (lat .0 .held j k) (lat .1 .held j k) (w .held j k) (root .held j k))))
           (c .full-shifts .ensures .2),
     )
 
@@ -127,11 +91,12 @@ shifts-spec =
     tie.close
     (tie.spec
     sin-cos-block-requires
-    sin-cos-block-requires-2
     ws-requires
     sqrt-block-requires
     double-sines-requires
+    sin-cos-block-requires-2
     abridged-shifts-requires
+    sin-cos-block-requires-3
     full-shifts-requires
     returns
     returns-2)

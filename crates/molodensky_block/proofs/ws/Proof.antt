@@ -17,14 +17,14 @@ abbrev μ-loop : tie.MeasureT-loop
 loop-holds : tie.Need-loop-holds Inv-loop μ-loop
 loop-holds c = none-filled refl
 
-mul-square : tie.Need-mul-square Inv-loop μ-loop
-mul-square c = search needs
+mul-w-at : tie.Need-mul-w-at Inv-loop μ-loop
+mul-w-at c = search needs
 
-element-copy-out-square : tie.Need-element-copy-out-square Inv-loop μ-loop
-element-copy-out-square c = search needs
+element-copy-out-w-at : tie.Need-element-copy-out-w-at Inv-loop μ-loop
+element-copy-out-w-at c = search needs
 
-square-requires : tie.Need-square-requires Inv-loop μ-loop
-square-requires c κs = search needs
+w-at-requires : tie.Need-w-at-requires Inv-loop μ-loop
+w-at-requires c κs = search needs
 
 mul-w : tie.Need-mul-w Inv-loop μ-loop
 mul-w c = search needs
@@ -39,8 +39,7 @@ loop-less : tie.Need-loop-less Inv-loop μ-loop
 loop-less c = search needs
 
 loop-again : tie.Need-loop-again Inv-loop μ-loop
-unfolding wOf
-loop-again c = one-more (search needs) (rw (c .before .square .ensures)) (c .before .before .before .before .loop .inv)
+loop-again c = one-more (search needs) (c .w-at .ensures) (c .before .before .before .loop .inv)
 
 returns : tie.Need-returns Inv-loop μ-loop
 returns c = all-filled (search needs) (c .before .loop .inv)
@@ -52,9 +51,9 @@ ws-spec =
     Inv-loop
     μ-loop
     loop-holds
-    mul-square
-    element-copy-out-square
-    square-requires
+    mul-w-at
+    element-copy-out-w-at
+    w-at-requires
     mul-w
     element-write-w
     add-i
