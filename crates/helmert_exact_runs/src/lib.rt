@@ -1,21 +1,194 @@
 // Helmert over a lent flat list where the rotation is exact: running and own-epoch, a loop for each direction, written where the list stands.
 //
-// Every function is proved equal to the step's own definition from tuple to tuple (helmert_turns/specs/Turns.antt over `lists`), for any shift; exact ones
-// are what `helmert_runs` sends here. Exact: no rounding but the step's own.
+// Three sines and cosines a fix are what such a shift costs. R goes by a fix's own time, so where one time follows another they are taken ahead, for
+// sixteen fixes at a time (`trig::sin_cos_block`); T is carried on from fix to fix as it must be. Where times stay for a while, or fewer than sixteen fixes are
+// left, a fix's sines are taken when its turn comes.
+// Every function is proved equal to the step's own definition from tuple to tuple (helmert_turns/specs/Turns.antt over `lists`), for any shift; what
+// `helmert_runs` sends here are the exact ones, and of own-epoch those that are not rotated. Exact: no rounding but the step's own.
 ghost use mathlib.Core.Path.{_≡_};
 ghost use mathlib.Core.Bool.{true, false};
-ghost use Rattle.helmert.specs.Modes.{startOf, runningOf, ownEpochStepOf};
+ghost use Prim.Native.Nat.{ℕ, _+_, _-_, _*_, _≤_};
+ghost use lib.ListN.{length};
+ghost use Rattle.floats.specs.Binary64.{_⊕_, _⊗_};
+ghost use Rattle.blocks.specs.Each.{at, Each};
+ghost use Rattle.rotation.specs.Matrix.{rotationMatrixOf};
+ghost use Rattle.helmert.specs.Modes.{startOf, rotationAtOf, runningOf, ownEpochStepOf};
+ghost use Rattle.lists.specs.Flat.{tupleAt};
 ghost use Rattle.lists.specs.Run.{ranOf};
 ghost use Rattle.helmert_turns.specs.Turns.{noState, allTurns, steppedTurns};
+ghost use Rattle.helmert_exact_runs.specs.Ahead.{lapseOf, Ahead, Here};
+use blocks::WIDTH;
 use helmert::Shift;
+use rotation::Sines;
+
+// ----- sines taken ahead -------------------------------------------------------------------
+
+// From t_epoch to the time that a fix goes by.
+fn lapse(own: bool, shift: Shift, t: f64) -> f64
+    ensures { λ r. ⌜ r ≡ lapseOf own shift t ⌝ }
+{
+    if own {
+        return helmert_turns::own_time(shift, t) - shift.epoch;
+    }
+    t - shift.epoch
+}
+
+// The same of sixteen fixes.
+fn lapses(list: &[f64], i: usize, own: bool, shift: Shift, dt: &mut [f64; WIDTH])
+    requires { ⌜ i + 64 ≤ length (now list) ⌝ }
+    ensures { λ _. ⌜ Each (now (dt .exit)) (λ (j : ℕ). lapseOf own shift (tupleAt (now (list .entry)) (i + 4 * j) .t)) ⌝ }
+{
+    *dt = [0.0; WIDTH];
+    let mut j = 0;
+    while j < WIDTH {
+        let v = lists::read4(list, i + 4 * j);
+        dt[j] = lapse(own, shift, v.t);
+        j += 1;
+    }
+}
+
+// One of R's angles at each.
+fn turned(r: f64, rate: f64, dt: &[f64; WIDTH], a: &mut [f64; WIDTH])
+    ensures { λ _. ⌜ Each (now (a .exit)) (λ (j : ℕ). r ⊕ at (now (dt .entry)) j ⊗ rate) ⌝ }
+{
+    *a = [0.0; WIDTH];
+    let mut j = 0;
+    while j < WIDTH {
+        a[j] = r + dt[j] * rate;
+        j += 1;
+    }
+}
+
+// The sines and cosines of sixteen fixes.
+fn fill(
+    list: &[f64],
+    i: usize,
+    own: bool,
+    shift: Shift,
+    sx: &mut [f64; WIDTH],
+    cx: &mut [f64; WIDTH],
+    sy: &mut [f64; WIDTH],
+    cy: &mut [f64; WIDTH],
+    sz: &mut [f64; WIDTH],
+    cz: &mut [f64; WIDTH],
+)
+    requires { ⌜ (shift .exact ≡ true) × (i + 64 ≤ length (now list)) ⌝ }
+    ensures { λ _. ⌜ Ahead own shift (now (list .entry)) i 16 (now (sx .exit)) (now (cx .exit)) (now (sy .exit)) (now (cy .exit)) (now (sz .exit)) (now (cz .exit)) ⌝ }
+{
+    let p = shift.parameters;
+    let r = p.r;
+    let rate = p.dr;
+    let mut dt = [0.0; WIDTH];
+    let mut a = [0.0; WIDTH];
+    lapses(list, i, own, shift, &mut dt);
+    turned(r.x, rate.x, &dt, &mut a);
+    trig::sin_cos_block(&a, sx, cx);
+    turned(r.y, rate.y, &dt, &mut a);
+    trig::sin_cos_block(&a, sy, cy);
+    turned(r.z, rate.z, &dt, &mut a);
+    trig::sin_cos_block(&a, sz, cz);
+}
+
+// Whether sixteen are worth taking: sixteen fixes are left, and in running mode the next has another time.
+fn worth(list: &[f64], i: usize, own: bool, shift: Shift) -> bool
+    requires { ⌜ i ≤ length (now list) ⌝ }
+    ensures { λ r. ⌜ (r ≡ true → (shift .exact ≡ true) × (i + 64 ≤ length (now (list .entry)))) ⌝ }
+{
+    if list.len() - i < 64 {
+        return false;
+    }
+    if shift.exact {
+        if own {
+            return shift.rotated;
+        }
+        let v = lists::read4(list, i);
+        let w = lists::read4(list, i + 4);
+        return w.t != v.t;
+    }
+    false
+}
+
+// How many of the columns' places hold what is ahead, once more is taken where none is left.
+fn ahead(
+    list: &[f64],
+    i: usize,
+    own: bool,
+    shift: Shift,
+    left: usize,
+    sx: &mut [f64; WIDTH],
+    cx: &mut [f64; WIDTH],
+    sy: &mut [f64; WIDTH],
+    cy: &mut [f64; WIDTH],
+    sz: &mut [f64; WIDTH],
+    cz: &mut [f64; WIDTH],
+) -> usize
+    requires { ⌜ Ahead own shift (now list) i left (now sx) (now cx) (now sy) (now cy) (now sz) (now cz) ⌝ }
+    ensures { λ r. ⌜ Ahead own shift (now (list .entry)) i r (now (sx .exit)) (now (cx .exit)) (now (sy .exit)) (now (cy .exit)) (now (sz .exit)) (now (cz .exit)) ⌝ }
+{
+    if left > 0 {
+        return left;
+    }
+    if worth(list, i, own, shift) {
+        fill(list, i, own, shift, sx, cx, sy, cy, sz, cz);
+        return WIDTH;
+    }
+    0
+}
+
+// The matrix of R at a fix, from what was taken ahead where there is any.
+fn matrix_at(
+    shift: Shift,
+    dt: f64,
+    left: usize,
+    sx: &[f64; WIDTH],
+    cx: &[f64; WIDTH],
+    sy: &[f64; WIDTH],
+    cy: &[f64; WIDTH],
+    sz: &[f64; WIDTH],
+    cz: &[f64; WIDTH],
+) -> [[f64; 3]; 3]
+    requires { ⌜ Here shift (rotationAtOf (shift .parameters) dt) left (now sx) (now cx) (now sy) (now cy) (now sz) (now cz) ⌝ }
+    ensures { λ m. ⌜ m ≡ rotationMatrixOf (rotationAtOf (shift .parameters) dt) (shift .exact) (shift .«position_vector») ⌝ }
+{
+    if left > 0 {
+        let j = WIDTH - left;
+        let a = Sines {
+            sx: sx[j],
+            cx: cx[j],
+            sy: sy[j],
+            cy: cy[j],
+            sz: sz[j],
+            cz: cz[j],
+        };
+        return rotation::exact_matrix(a, shift.position_vector);
+    }
+    rotation::rotation_matrix(
+        helmert::rotation_at(shift.parameters, dt),
+        shift.exact,
+        shift.position_vector,
+    )
+}
+
+// One fewer, if there are any.
+fn less(n: usize) -> usize
+    ensures { λ r. ⌜ r ≡ n - 1 ⌝ }
+{
+    if n > 0 { n - 1 } else { 0 }
+}
 
 // ----- running ---------------------------------------------------------------------------
 
-// Any shift; for the exact ones.
 fn running_forward(list: &mut [f64], shift: Shift)
     ensures { λ _. ⌜ now (list .exit) ≡ ranOf (steppedTurns (runningOf shift false)) 0 (startOf shift) (now (list .entry)) ⌝ }
 {
     let p = shift.parameters;
+    let mut sx = [0.0; WIDTH];
+    let mut cx = [0.0; WIDTH];
+    let mut sy = [0.0; WIDTH];
+    let mut cy = [0.0; WIDTH];
+    let mut sz = [0.0; WIDTH];
+    let mut cz = [0.0; WIDTH];
+    let mut left = 0;
     let mut state = helmert::start(shift);
     let mut s = helmert::scale_at(p, state.last - shift.epoch);
     let mut m = rotation::rotation_matrix(
@@ -30,14 +203,24 @@ fn running_forward(list: &mut [f64], shift: Shift)
             let dt = v.t - shift.epoch;
             state = helmert::next(shift, state, v.t);
             s = helmert::scale_at(p, dt);
-            m = rotation::rotation_matrix(
-                helmert::rotation_at(p, dt),
-                shift.exact,
-                shift.position_vector,
+            left = ahead(
+                list,
+                i,
+                false,
+                shift,
+                left,
+                &mut sx,
+                &mut cx,
+                &mut sy,
+                &mut cy,
+                &mut sz,
+                &mut cz,
             );
+            m = matrix_at(shift, dt, left, &sx, &cx, &sy, &cy, &sz, &cz);
         }
         let w = helmert::forward(state.t, s, shift.rotated, m, v);
         lists::write4(list, i, w);
+        left = less(left);
         i += 4;
     }
 }
@@ -46,6 +229,13 @@ fn running_inverse(list: &mut [f64], shift: Shift)
     ensures { λ _. ⌜ now (list .exit) ≡ ranOf (steppedTurns (runningOf shift true)) 0 (startOf shift) (now (list .entry)) ⌝ }
 {
     let p = shift.parameters;
+    let mut sx = [0.0; WIDTH];
+    let mut cx = [0.0; WIDTH];
+    let mut sy = [0.0; WIDTH];
+    let mut cy = [0.0; WIDTH];
+    let mut sz = [0.0; WIDTH];
+    let mut cz = [0.0; WIDTH];
+    let mut left = 0;
     let mut state = helmert::start(shift);
     let mut s = helmert::scale_at(p, state.last - shift.epoch);
     let mut m = rotation::rotation_matrix(
@@ -60,14 +250,24 @@ fn running_inverse(list: &mut [f64], shift: Shift)
             let dt = v.t - shift.epoch;
             state = helmert::next(shift, state, v.t);
             s = helmert::scale_at(p, dt);
-            m = rotation::rotation_matrix(
-                helmert::rotation_at(p, dt),
-                shift.exact,
-                shift.position_vector,
+            left = ahead(
+                list,
+                i,
+                false,
+                shift,
+                left,
+                &mut sx,
+                &mut cx,
+                &mut sy,
+                &mut cy,
+                &mut sz,
+                &mut cz,
             );
+            m = matrix_at(shift, dt, left, &sx, &cx, &sy, &cy, &sz, &cz);
         }
         let w = helmert::inverse(state.t, s, shift.rotated, m, v);
         lists::write4(list, i, w);
+        left = less(left);
         i += 4;
     }
 }
@@ -87,10 +287,37 @@ pub fn run_exact(list: &mut [f64], inverse: bool, shift: Shift)
 fn own_epoch_forward(list: &mut [f64], shift: Shift)
     ensures { λ _. ⌜ now (list .exit) ≡ ranOf (allTurns (ownEpochStepOf shift false)) 0 noState (now (list .entry)) ⌝ }
 {
+    let p = shift.parameters;
+    let mut sx = [0.0; WIDTH];
+    let mut cx = [0.0; WIDTH];
+    let mut sy = [0.0; WIDTH];
+    let mut cy = [0.0; WIDTH];
+    let mut sz = [0.0; WIDTH];
+    let mut cz = [0.0; WIDTH];
+    let mut left = 0;
     let mut i = 0;
     while 4 <= list.len() - i {
-        let v = helmert::own_epoch_step(shift, false, lists::read4(list, i));
-        lists::write4(list, i, v);
+        let v = lists::read4(list, i);
+        let dt = lapse(true, shift, v.t);
+        let t = helmert::grown(p.t, dt, p.dt);
+        let s = helmert::scale_at(p, dt);
+        left = ahead(
+            list,
+            i,
+            true,
+            shift,
+            left,
+            &mut sx,
+            &mut cx,
+            &mut sy,
+            &mut cy,
+            &mut sz,
+            &mut cz,
+        );
+        let m = matrix_at(shift, dt, left, &sx, &cx, &sy, &cy, &sz, &cz);
+        let w = helmert::forward(t, s, shift.rotated, m, v);
+        lists::write4(list, i, w);
+        left = less(left);
         i += 4;
     }
 }
@@ -98,10 +325,37 @@ fn own_epoch_forward(list: &mut [f64], shift: Shift)
 fn own_epoch_inverse(list: &mut [f64], shift: Shift)
     ensures { λ _. ⌜ now (list .exit) ≡ ranOf (allTurns (ownEpochStepOf shift true)) 0 noState (now (list .entry)) ⌝ }
 {
+    let p = shift.parameters;
+    let mut sx = [0.0; WIDTH];
+    let mut cx = [0.0; WIDTH];
+    let mut sy = [0.0; WIDTH];
+    let mut cy = [0.0; WIDTH];
+    let mut sz = [0.0; WIDTH];
+    let mut cz = [0.0; WIDTH];
+    let mut left = 0;
     let mut i = 0;
     while 4 <= list.len() - i {
-        let v = helmert::own_epoch_step(shift, true, lists::read4(list, i));
-        lists::write4(list, i, v);
+        let v = lists::read4(list, i);
+        let dt = lapse(true, shift, v.t);
+        let t = helmert::grown(p.t, dt, p.dt);
+        let s = helmert::scale_at(p, dt);
+        left = ahead(
+            list,
+            i,
+            true,
+            shift,
+            left,
+            &mut sx,
+            &mut cx,
+            &mut sy,
+            &mut cy,
+            &mut sz,
+            &mut cz,
+        );
+        let m = matrix_at(shift, dt, left, &sx, &cx, &sy, &cy, &sz, &cz);
+        let w = helmert::inverse(t, s, shift.rotated, m, v);
+        lists::write4(list, i, w);
+        left = less(left);
         i += 4;
     }
 }

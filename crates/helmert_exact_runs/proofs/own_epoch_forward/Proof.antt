@@ -1,50 +1,81 @@
 -- `helmert_exact_runs::own_epoch_forward` meets its contract. Assumes nothing.
-use Prim.Native.Nat.{_-_}
+use Prim.Native.Nat.{_+_, _-_, _^_, _≤_, _<_}
+use native.Mathlib.Omega.{arith}
 use borrow.Author.Needs.{needs}
 use lib.ListN.{length}
 use mathlib.Core.Bool.{true, false}
-use Rattle.helmert.specs.Modes.{ownEpochStepOf}
+use mathlib.Core.Path.{_≡_, refl}
+use Rattle.helmert.specs.Modes.{ownTimeOf, ownEpochStepOf}
 use Rattle.lists.proofs.Laws.{Ran, ran-start, ran-again, ran-end}
 use Rattle.helmert_turns.specs.Turns.{noState, allTurns}
+use Rattle.helmert_turns.proofs.Held.{own-epoch-turn}
+use Rattle.helmert_exact_runs.specs.Ahead.{Ahead}
+use Rattle.helmert_exact_runs.proofs.Laws.{none-ahead, ahead-here, ahead-on}
 use Rattle.helmert_exact_runs.proofs.own_epoch_forward.Statement.{statement}
 use Rattle.helmert_exact_runs.proofs.own_epoch_forward.Tie as tie
 
 abbrev Inv-loop : tie.InvT-loop
-Inv-loop list₀ shift i₀ list i = Ran (allTurns (ownEpochStepOf shift false)) noState list₀ i noState list
+Inv-loop list₀ shift p sx₀ cx₀ sy₀ cy₀ sz₀ cz₀ left₀ i₀ list sx cx sy cy sz cz left i =
+    Ran (allTurns (ownEpochStepOf shift false)) noState list₀ i noState list × (length list < 2 ^ 64) × Ahead true shift list i left sx cx sy cy sz cz
 
 abbrev μ-loop : tie.MeasureT-loop
-μ-loop list₀ shift i₀ list i = length list₀ - i
+μ-loop list₀ shift p sx₀ cx₀ sy₀ cy₀ sz₀ cz₀ left₀ i₀ list sx cx sy cy sz cz left i = length list₀ - i
 
 loop-holds : tie.Need-loop-holds Inv-loop μ-loop
-loop-holds c = ran-start _ _ _
+loop-holds c = (ran-start _ _ _, search needs, none-ahead (omega arith))
 
 sub-loop : tie.Need-sub-loop Inv-loop μ-loop
-sub-loop c = search needs
+sub-loop c = search (needs, c .loop .inv .0 .within)
 
 read4-requires : tie.Need-read4-requires Inv-loop μ-loop
 read4-requires c κs = search needs
 
-own-epoch-step-requires : tie.Need-own-epoch-step-requires Inv-loop μ-loop
-own-epoch-step-requires c κs = search needs
+lapse-requires : tie.Need-lapse-requires Inv-loop μ-loop
+lapse-requires c κs = search needs
+
+grown-requires : tie.Need-grown-requires Inv-loop μ-loop
+grown-requires c κs = search needs
+
+scale-at-requires : tie.Need-scale-at-requires Inv-loop μ-loop
+scale-at-requires c κs = search needs
+
+ahead-requires : tie.Need-ahead-requires Inv-loop μ-loop
+ahead-requires c κs = c .before .before .before .before .before .before .before .before .before .before .before .before .before .loop .inv .2
+
+matrix-at-requires : tie.Need-matrix-at-requires Inv-loop μ-loop
+matrix-at-requires c κs = ahead-here (c .before .before .before .before .before .before .before .before .before .before .before .before .before .before .before .before .before .read4 .ensures) (c .before .before .before .before .before .before .before .before .before .before .before .before .before .before .before .before .lapse .ensures) (c .before .before .before .before .before .before .ahead .ensures)
+
+forward-requires : tie.Need-forward-requires Inv-loop μ-loop
+forward-requires c κs = search needs
 
 write4-requires : tie.Need-write4-requires Inv-loop μ-loop
 write4-requires c κs = search needs
 
+less-requires : tie.Need-less-requires Inv-loop μ-loop
+less-requires c κs = search needs
+
 add-i : tie.Need-add-i Inv-loop μ-loop
-add-i c = search needs
+add-i c = search (needs, c .before .before .before .before .before .before .before .before .before .before .before .before .before .before .before .before .before .before .before .before .before .before .before .before .before .before .loop-test .taken, c .before .before .before .before .before .before .before .before .before .before .before .before .before .before .before .before .before .before .before .before .before .before .before .before .before .before .before .loop .inv .0 .within, c .before .before .before .before .before .before .before .before .before .before .before .before .before .before .before .before .before .before .before .before .before .before .before .before .before .before .before .loop .inv .0 .long, c .before .before .before .before .before .before .before .before .before .before .before .before .before .before .before .before .before .before .before .before .before .before .before .before .before .before .before .loop .inv .1)
 
 loop-less : tie.Need-loop-less Inv-loop μ-loop
-loop-less c = search needs
+loop-less c = omega (arith, c .before .before .before .before .before .before .before .before .before .before .before .before .before .before .before .before .before .before .before .before .before .before .before .before .before .before .loop-test .taken, c .before .before .before .before .before .before .before .before .before .before .before .before .before .before .before .before .before .before .before .before .before .before .before .before .before .before .before .loop .inv .0 .within, c .before .before .before .before .before .before .before .before .before .before .before .before .before .before .before .before .before .before .before .before .before .before .before .before .before .before .before .loop .inv .0 .long)
 
 loop-again : tie.Need-loop-again Inv-loop μ-loop
 loop-again c =
-    ran-again (search needs) (rw (c .before .before .before .before .before .read4 .ensures) at (c .before .before .before .before .own-epoch-step .ensures)) (c .before .before .write4 .ensures) (c .before .before .before .before .before .before .before .before .loop .inv)
+    let l = c .before .before .before .before .before .before .before .before .before .before .before .before .before .before .before .before .before .before .before .before .before .before .before .before .before .before .before in
+    let v = c .before .before .before .before .before .before .before .before .before .before .before .before .before .before .before .before .before .before .before .before .before .before .before .before .read4 in
+    let w = c .before .before .before .before .before .forward in
+    let a = l .before .before .before .args in
+    let fits : l .loop .i + 4 ≤ length (l .loop .list) = omega (arith, c .before .before .before .before .before .before .before .before .before .before .before .before .before .before .before .before .before .before .before .before .before .before .before .before .before .before .loop-test .taken) in
+    let turn = own-epoch-turn (a .shift) false (v .result) {w = w .result} (ownTimeOf (a .shift) (v .result .t)) refl
+    (rw (w .ensures, c .before .before .before .before .before .before .matrix-at .ensures, c .before .before .before .before .before .before .before .before .before .before .before .before .before .before .before .before .before .before .before .before .before .scale-at .ensures, c .before .before .before .before .before .before .before .before .before .before .before .before .before .before .before .before .before .before .before .before .before .before .grown .ensures, c .before .before .before .before .before .before .before .before .before .before .before .before .before .before .before .before .before .before .before .before .before .before .before .lapse .ensures)) in
+    (ran-again fits (rw (v .ensures) at turn) (c .before .before .before .write4 .ensures) (l .loop .inv .0), search needs, ahead-on fits _ (c .before .before .before .write4 .ensures) (c .less .ensures) (c .before .before .before .before .before .before .before .before .before .before .before .before .before .ahead .ensures))
 
 same-length : tie.Need-same-length Inv-loop μ-loop
-same-length c = search needs
+same-length c = search (needs, c .before .loop .inv .0 .long)
 
 returns : tie.Need-returns Inv-loop μ-loop
-returns c = ran-end (search needs) (c .before .loop .inv)
+returns c = ran-end (search (needs, c .loop-test .left)) (c .before .loop .inv .0)
 
 pub own-epoch-forward-spec : {M : Type 1} → statement M
 own-epoch-forward-spec =
@@ -55,8 +86,14 @@ own-epoch-forward-spec =
     loop-holds
     sub-loop
     read4-requires
-    own-epoch-step-requires
+    lapse-requires
+    grown-requires
+    scale-at-requires
+    ahead-requires
+    matrix-at-requires
+    forward-requires
     write4-requires
+    less-requires
     add-i
     loop-less
     loop-again

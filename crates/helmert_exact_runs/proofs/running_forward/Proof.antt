@@ -5,20 +5,23 @@ use borrow.Author.Needs.{needs}
 use lib.ListN.{length}
 use mathlib.Core.Bool.{true, false}
 use mathlib.Core.Logic.{⊎-elim}
-use mathlib.Core.Path.{_≡_, ap, _∙_}
+use mathlib.Core.Path.{_≡_, refl, ap, _∙_}
 use Rattle.helmert.specs.declared.Stepped.{Stepped}
 use Rattle.helmert.specs.Modes.{runningOf}
 use Rattle.lists.proofs.Laws.{Ran, ran-start, ran-again, ran-end}
 use Rattle.helmert_turns.specs.Turns.{steppedTurns}
 use Rattle.helmert_turns.proofs.Held.{Held, met-anew, met-again, held-turn}
+use Rattle.helmert_exact_runs.specs.Ahead.{Ahead}
+use Rattle.helmert_exact_runs.proofs.Laws.{none-ahead, same-ahead, ahead-here, ahead-on}
 use Rattle.helmert_exact_runs.proofs.running_forward.Statement.{statement}
 use Rattle.helmert_exact_runs.proofs.running_forward.Tie as tie
 
 abbrev Inv-loop : tie.InvT-loop
-Inv-loop list₀ shift p state₀ s₀ m₀ i₀ list state s m i = Ran (steppedTurns (runningOf shift false)) state₀ list₀ i state list × Held shift state s m × (length list < 2 ^ 64)
+Inv-loop list₀ shift p sx₀ cx₀ sy₀ cy₀ sz₀ cz₀ left₀ state₀ s₀ m₀ i₀ list sx cx sy cy sz cz left state s m i =
+    Ran (steppedTurns (runningOf shift false)) state₀ list₀ i state list × Held shift state s m × (length list < 2 ^ 64) × Ahead false shift list i left sx cx sy cy sz cz
 
 abbrev μ-loop : tie.MeasureT-loop
-μ-loop list₀ shift p state₀ s₀ m₀ i₀ list state s m i = length list₀ - i
+μ-loop list₀ shift p sx₀ cx₀ sy₀ cy₀ sz₀ cz₀ left₀ state₀ s₀ m₀ i₀ list sx cx sy cy sz cz left state s m i = length list₀ - i
 
 start-requires : tie.Need-start-requires Inv-loop μ-loop
 start-requires c κs = search needs
@@ -33,11 +36,10 @@ rotation-matrix-requires : tie.Need-rotation-matrix-requires Inv-loop μ-loop
 rotation-matrix-requires c κs = search needs
 
 loop-holds : tie.Need-loop-holds Inv-loop μ-loop
-loop-holds c =
-    (ran-start _ _ _, record { scale = c .before .before .before .before .scale-at .ensures; matrix = rw (c .rotation-matrix .ensures, c .before .rotation-at .ensures) }, search needs)
+loop-holds c = (ran-start _ _ _, record { scale = c .before .before .before .before .scale-at .ensures; matrix = rw (c .rotation-matrix .ensures, c .before .rotation-at .ensures) }, search needs, none-ahead (omega arith))
 
 sub-loop : tie.Need-sub-loop Inv-loop μ-loop
-sub-loop c = search needs
+sub-loop c = search (needs, c .loop .inv .0 .within)
 
 read4-requires : tie.Need-read4-requires Inv-loop μ-loop
 read4-requires c κs = search needs
@@ -48,11 +50,11 @@ next-requires c κs = search needs
 scale-at-requires-2 : tie.Need-scale-at-requires-2 Inv-loop μ-loop
 scale-at-requires-2 c κs = search needs
 
-rotation-at-requires-2 : tie.Need-rotation-at-requires-2 Inv-loop μ-loop
-rotation-at-requires-2 c κs = search needs
+ahead-requires : tie.Need-ahead-requires Inv-loop μ-loop
+ahead-requires c κs = c .before .before .before .before .before .before .before .before .before .before .before .before .before .before .before .before .before .loop .inv .3
 
-rotation-matrix-requires-2 : tie.Need-rotation-matrix-requires-2 Inv-loop μ-loop
-rotation-matrix-requires-2 c κs = search needs
+matrix-at-requires : tie.Need-matrix-at-requires Inv-loop μ-loop
+matrix-at-requires c κs = ahead-here (c .before .before .before .before .before .before .before .before .before .before .before .before .before .before .before .before .before .before .before .before .before .read4 .ensures) refl (c .before .before .before .before .before .before .ahead .ensures)
 
 forward-requires : tie.Need-forward-requires Inv-loop μ-loop
 forward-requires c κs = search needs
@@ -60,29 +62,37 @@ forward-requires c κs = search needs
 write4-requires : tie.Need-write4-requires Inv-loop μ-loop
 write4-requires c κs = search needs
 
+less-requires : tie.Need-less-requires Inv-loop μ-loop
+less-requires c κs = search needs
+
 add-i : tie.Need-add-i Inv-loop μ-loop
-add-i c = search needs
+add-i c = search (needs, c .before .before .before .before .before .before .before .before .before .before .before .loop-test .taken, c .before .before .before .before .before .before .before .before .before .before .before .before .loop .inv .0 .within, c .before .before .before .before .before .before .before .before .before .before .before .before .loop .inv .0 .long, c .before .before .before .before .before .before .before .before .before .before .before .before .loop .inv .2)
 
 loop-less : tie.Need-loop-less Inv-loop μ-loop
-loop-less c = search needs
+loop-less c = omega (arith, c .before .before .before .before .before .before .before .before .before .before .before .loop-test .taken, c .before .before .before .before .before .before .before .before .before .before .before .before .loop .inv .0 .within, c .before .before .before .before .before .before .before .before .before .before .before .before .loop .inv .0 .long)
 
 loop-again : tie.Need-loop-again Inv-loop μ-loop
 loop-again c =
-    let l = c .before .before .before .before .before .before .before .before .before .before .before in
-    let o = l .before .before .before .before .before .before .before .before .before .before .before in
-    let fits : l .loop .i + 4 ≤ length (l .loop .list) = omega (arith, c .before .before .before .before .before .before .before .before .before .before .loop-test .taken) in
+    let l = c .before .before .before .before .before .before .before .before .before .before .before .before in
+    let v = c .before .before .before .before .before .before .before .before .before .read4 in
+    let w = c .before .before .before .before .before .forward in
+    let fits : l .loop .i + 4 ≤ length (l .loop .list) = omega (arith, c .before .before .before .before .before .before .before .before .before .before .before .loop-test .taken) in
     let met = ⊎-elim
-    (λ w. met-anew _ _ _ (w .0 .taken) (w .7 ∙ w .3 .ensures) (w .8 ∙ w .4 .ensures) (rw (w .9, w .6 .ensures, w .5 .ensures)))
-    (λ w. met-again _ _ _ (w .0 .left) (w .1) (w .2) (w .3) (l .loop .inv .1))
-    (c .before .before .before .before .before .if1 .came) in
-    let e = rw (c .before .before .before .before .before .before .before .before .read4 .ensures) at (held-turn _ false (l .loop .state) (c .before .before .before .before .before .before .before .before .read4 .result) {w = c .before .before .before .before .forward .result} met (c .before .before .before .before .forward .ensures)) in
-    (rw (ap (λ (q : Stepped). q .state) e) (ran-again fits (ap (λ (q : Stepped). q .tuple) e) (c .before .before .write4 .ensures) (l .loop .inv .0)), met .held, search needs)
+    (λ u. met-anew _ _ _ (u .0 .taken) (u .27 ∙ u .3 .ensures) (u .28 ∙ u .4 .ensures) (u .29 ∙ u .19 .ensures))
+    (λ u. met-again _ _ _ (u .0 .left) (u .8) (u .9) (u .10) (l .loop .inv .1))
+    (c .before .before .before .before .before .before .if1 .came) in
+    let sines = ⊎-elim
+    (λ u. same-ahead (u .20) (u .21) (u .22) (u .23) (u .24) (u .25) (u .26) (u .12 .ensures))
+    (λ u. same-ahead (u .1) (u .2) (u .3) (u .4) (u .5) (u .6) (u .7) (l .loop .inv .3))
+    (c .before .before .before .before .before .before .if1 .came) in
+    let e = rw (v .ensures) at (held-turn _ false (l .loop .state) (v .result) {w = w .result} met (w .ensures)) in
+    (rw (ap (λ (q : Stepped). q .state) e) (ran-again fits (ap (λ (q : Stepped). q .tuple) e) (c .before .before .before .write4 .ensures) (l .loop .inv .0)), met .held, search needs, ahead-on fits _ (c .before .before .before .write4 .ensures) (c .less .ensures) sines)
 
 same-length : tie.Need-same-length Inv-loop μ-loop
-same-length c = search needs
+same-length c = search (needs, c .before .loop .inv .0 .long)
 
 returns : tie.Need-returns Inv-loop μ-loop
-returns c = ran-end (search needs) (c .before .loop .inv .0) ∙ rw (c .before .before .before .before .before .before .before .before .before .start .ensures)
+returns c = ran-end (search (needs, c .loop-test .left)) (c .before .loop .inv .0) ∙ rw (c .before .before .before .before .before .before .before .before .before .start .ensures)
 
 pub running-forward-spec : {M : Type 1} → statement M
 running-forward-spec =
@@ -99,10 +109,11 @@ running-forward-spec =
     read4-requires
     next-requires
     scale-at-requires-2
-    rotation-at-requires-2
-    rotation-matrix-requires-2
+    ahead-requires
+    matrix-at-requires
     forward-requires
     write4-requires
+    less-requires
     add-i
     loop-less
     loop-again

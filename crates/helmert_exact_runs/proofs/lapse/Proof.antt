@@ -1,0 +1,16 @@
+-- `helmert_exact_runs::lapse` meets its contract. Assumes nothing.
+use borrow.Author.Needs.{needs}
+use Rattle.helmert_exact_runs.proofs.lapse.Statement.{statement}
+use Rattle.helmert_exact_runs.proofs.lapse.Tie as tie
+
+own-time-requires : tie.Need-own-time-requires
+own-time-requires c κs = search needs
+
+returns : tie.Need-returns
+returns c = rw (c .before .own-time .ensures, c .before .before .if1 .taken)
+
+returns-2 : tie.Need-returns-2
+returns-2 c = rw (c .before .if1 .left)
+
+pub lapse-spec : {M : Type 1} → statement M
+lapse-spec = tie.close (tie.spec own-time-requires returns returns-2)
