@@ -9,7 +9,8 @@ use lib.Ieee.{Float}
 use Rattle.sheet.specs.declared.Entry.{Entry}
 use Rattle.sheet.specs.declared.Refusal.{Refusal}
 use Rattle.sheet.specs.declared.Sheet.{Sheet}
-use Rattle.sheet.specs.Rules.{ofSheet, firstBroken, writerRefusalOf, writerOrder, refusal3}
+use Rattle.sheet.specs.Rules.{ofSheet, firstBroken, refusal3}
+use Rattle.sheet_writer.specs.Rules.{writerRefusalOf, writerOrder}
 use Rattle.sheet.proofs.Order.{not-zero, count-kept}
 use Rattle.chain.specs.Chain.{chainOf}
 use Rattle.chain.specs.Rules.{refusal9, refusal10, shiftRefusalOf, outcome, refusedAnswer, ranOutcome, outcomeOf}

@@ -8,8 +8,7 @@ ghost use mathlib.Core.Path.{_≡_};
 ghost use mathlib.Core.Bool.{true, false};
 ghost use Prim.Native.Nat.{_*_, _≤_, _<_};
 ghost use lib.ListN.{length};
-ghost use Rattle.sheet.specs.Layout.{stepCountOf as headerCountOf, kindAt, entryAt};
-ghost use Rattle.sheet.specs.Bytes.{entryOf, kindIn};
+ghost use Rattle.sheet.specs.Layout.{stepCountOf as headerCountOf, kindAt, entryAt, entryOf, kindIn};
 ghost use Rattle.sheet.specs.Rules.{ofSheet, deformationBefore};
 ghost use Rattle.chain.specs.Chain.{turnedOf, stepListOf, stepCountOf, forwardOf, inverseOf, placesOf, entriesOf};
 ghost use Rattle.chain.specs.Rules.{refusal9, overOne, lentFor, refusal10, refusedAnswer, ranAnswer, outcome, shiftOf, shiftRecordOf};
@@ -302,7 +301,7 @@ pub fn shift_record(
 ) -> Answer
     ensures { λ r. ⌜ outcome r (now (list .exit)) ≡ shiftRecordOf inverse kept (now (list .entry)) (now (velocities .entry)) (now (marks .entry)) ⌝ }
 {
-    let own = sheet::check_record(kept, 4240);
+    let own = sheet_writer::check_record(kept, 4240);
     if own.number != 0 {
         return refused(own);
     }

@@ -19,7 +19,7 @@ use Rattle.sheet.specs.Layout.{stepCountOf, kindAt, bodyAt, lengthAt, offsetAt,
 use Rattle.sheet.specs.Rules.{refusalOf}
 use Rattle.sheet.proofs.Accepted.{accepted-keeps}
 use Rattle.sheet.proofs.Back.{bytes-part, entry-same, step-same, record-count}
-use Rattle.sheet.proofs.Laws.{HeldSheet}
+use Rattle.sheet_writer.proofs.Laws.{HeldSheet}
 use Rattle.making.proofs.Longer.{Tidy}
 
 module _ (b : List ℕ) (bytes : Bytes b) where

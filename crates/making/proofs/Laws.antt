@@ -20,14 +20,15 @@ use Rattle.sheet.specs.declared.Sheet.{Sheet}
 use Rattle.sheet.specs.declared.Refusal.{Refusal}
 use Rattle.sheet.specs.declared.Reading.{Reading}
 use Rattle.sheet.specs.Layout.{totalLengthOf, recordOf, blankSheet}
-use Rattle.sheet.specs.Bytes.{sheetLength, sheetBytesOf}
-use Rattle.sheet.specs.Rules.{accepted, ofSheet, refusalOf, readingOf, writerRefusalOf, writtenOf}
+use Rattle.sheet_writer.specs.Bytes.{sheetLength, sheetBytesOf}
+use Rattle.sheet.specs.Rules.{accepted, ofSheet, refusalOf, readingOf}
+use Rattle.sheet_writer.specs.Rules.{writerRefusalOf, writtenOf}
 use Rattle.sheet.proofs.Accepted.{Accepted, accepted-keeps}
 use Rattle.sheet.proofs.Back.{bytes-part}
-use Rattle.sheet.proofs.Forth.{taken}
-use Rattle.sheet.proofs.Writing.{sheet-bytes-length}
-use Rattle.sheet.proofs.WriterOrder.{accepted-record}
-use Rattle.sheet.proofs.Laws.{HeldSheet, SameSheet, written-then-read, room-starts-with-the-sheet}
+use Rattle.sheet_writer.proofs.Forth.{taken}
+use Rattle.sheet_writer.proofs.Writing.{sheet-bytes-length}
+use Rattle.sheet_writer.proofs.WriterOrder.{accepted-record}
+use Rattle.sheet_writer.proofs.Laws.{HeldSheet, SameSheet, written-then-read, room-starts-with-the-sheet}
 use Rattle.making.specs.Adding.{readingAs, standingOf, withStepOf, Outcome, outcome, addedAs, writtenAs, addedOf}
 use Rattle.making.proofs.Longer.{Tidy, tidy-same, blank-is-tidy, blank-is-held, more-is-tidy, more-is-held, Begins, begins-itself, begins-on, begins-more, taken-before, shorter, writer-takes}
 use Rattle.making.proofs.FromBytes.{read-is-held, read-is-tidy}

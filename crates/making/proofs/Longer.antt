@@ -13,13 +13,14 @@ use Rattle.bodies.specs.Kinds.{kindOf, lengthOf}
 use Rattle.bodies.specs.Held.{Held}
 use Rattle.sheet.specs.declared.Entry.{Entry}
 use Rattle.sheet.specs.declared.Sheet.{Sheet}
-use Rattle.sheet.specs.Layout.{blankEntry, blankSheet}
-use Rattle.sheet.specs.Bytes.{entryOf, stepIn, kindIn, bodyStart, sheetLength}
-use Rattle.sheet.specs.Rules.{accepted, refusal3, recordRefusal4, recordRefusal5, refusal15, invertedBrokenIn, fiveToEight, elevens, writerOrder, writerRefusalOf}
+use Rattle.sheet.specs.Layout.{blankEntry, blankSheet, entryOf, stepIn, kindIn}
+use Rattle.sheet_writer.specs.Bytes.{bodyStart, sheetLength}
+use Rattle.sheet.specs.Rules.{accepted, refusal3, fiveToEight, elevens}
+use Rattle.sheet_writer.specs.Rules.{recordRefusal4, recordRefusal5, refusal15, invertedBrokenIn, writerOrder, writerRefusalOf}
 use Rattle.sheet.proofs.Order.{Kept, none-broken, kept-append}
 use Rattle.sheet.proofs.Each.{every-step, every-eleven, every-kept, eleven-same}
-use Rattle.sheet.proofs.Forth.{Taken}
-use Rattle.sheet.proofs.Laws.{HeldSheet, SameSheet}
+use Rattle.sheet_writer.proofs.Forth.{Taken}
+use Rattle.sheet_writer.proofs.Laws.{HeldSheet, SameSheet}
 use Rattle.making.specs.Adding.{entryAs, withStepOf}
 
 -- ---- a record as it is read or begun: sixteen entries, blank past its step count

@@ -10,7 +10,8 @@ use Rattle.sheet.specs.declared.Sheet.{Sheet}
 use Rattle.sheet.specs.declared.Refusal.{Refusal}
 use Rattle.sheet.specs.declared.Reading.{Reading}
 use Rattle.sheet.specs.Layout.{totalLengthOf, blankSheet}
-use Rattle.sheet.specs.Rules.{accepted, ofSheet, readingOf, writerRefusalOf, writtenOf}
+use Rattle.sheet.specs.Rules.{accepted, ofSheet, readingOf}
+use Rattle.sheet_writer.specs.Rules.{writerRefusalOf, writtenOf}
 use Rattle.making.specs.declared.Added.{Added}
 
 -- ---- what stands there

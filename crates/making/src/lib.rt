@@ -1,7 +1,7 @@
 // Making a sheet step by step, in lent room.
 //
 // A box-builder has bytes and no record: each call takes the sheet that stands at the room's start, or nothing yet, and puts one step more at its end. The
-// record is the reader's (`sheet::read`), the rules are the reader's and the writer's, and the bytes are the writer's (`sheet::write`); nothing here places a
+// record is the reader's (`sheet::read`), the rules are the reader's and the writer's, and the bytes are the writer's (`sheet_writer::write`); nothing here places a
 // byte. What is answered and what the room holds afterwards is specs/Adding.antt's for every input (proved). Proved besides: an accepted result is a sheet
 // that `sheet::check` accepts, and steps added one after another to nothing give the bytes that the writer gives for the record of those steps. No rounding:
 // every bit of every number stays. A sheet's record is 4 kB, so this is for whoever makes a sheet, not for whoever runs one. Used by the exported library.
@@ -72,7 +72,7 @@ fn wide(x: u32) -> usize
 fn written(sheet: Sheet, room: &mut [u8], len: usize) -> Added
     ensures { λ r. ⌜ outcome r (now (room .exit)) ≡ writtenAs sheet (now (room .entry)) len ⌝ }
 {
-    let refusal = sheet::write(sheet, room);
+    let refusal = sheet_writer::write(sheet, room);
     if refusal.number != 0 {
         return Added {
             refusal: refusal,

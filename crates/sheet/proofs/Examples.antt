@@ -12,8 +12,7 @@ use Rattle.helmert.specs.Rules.{fieldsInRuleOf, vectorsFiniteOf, scalesFiniteOf
 use Rattle.helmert.specs.Units.{parametersOf, winnerOf, lengthsOf, anglesOf}
 use lib.Ieee.{ofBits, isNan, ne, mul, div}
 use Rattle.sheet.specs.Layout.{bodyAt}
-use Rattle.sheet.specs.Rules.{refusal1, refusal2, refusal3, refusal4, refusal5, endBefore, placeBroken, someFrom, deformationBefore, refusal11, rulesOfStep, fiveToEight, elevens, readerOrder, firstBroken}
-use Rattle.sheet.specs.Rules.{accepted, ofSheet, ofStep, refusalOf}
+use Rattle.sheet.specs.Rules.{refusal1, refusal2, refusal3, refusal4, refusal5, endBefore, placeBroken, someFrom, deformationBefore, refusal11, rulesOfStep, fiveToEight, elevens, readerOrder, firstBroken, accepted, ofSheet, ofStep, refusalOf}
 
 -- a sheet's bytes, given as words
 bytes : List ℕ → List ℕ

@@ -4,9 +4,11 @@ use Prim.Native.Nat.{ℕ, zero, suc, _+_, _*_}
 use mathlib.Core.List.{List, [], _∷_}
 use mathlib.Core.Bool.{cond}
 use lib.Dec.{ltb}
-use lib.ListN.{take, drop, replicate}
+use lib.ListN.{take, drop, replicate, getD}
 use Rattle.words.specs.Words.{word32}
 use Rattle.bodies.specs.declared.Step.{Step}
+use Rattle.bodies.specs.declared.Step.the-variants.{Cart}
+use Rattle.bodies.specs.Kinds.{kindOf}
 use Rattle.bodies.specs.Read.{stepOf, blankStep}
 use Rattle.sheet.specs.declared.Entry.{Entry}
 use Rattle.sheet.specs.declared.Sheet.{Sheet}
@@ -75,3 +77,13 @@ entriesFrom s (suc k) i = entryAt s i ∷ entriesFrom s k (i + 1)
 -- the record that a sheet stands for
 unfoldable pub recordOf : List ℕ → Sheet
 recordOf s = record { count = stepCountOf s; entries = entriesFrom s 16 0 }
+
+-- step i of a record; past the sixteen, where no step count in rule reaches, zeros
+abbrev pub entryOf : Sheet → ℕ → Entry
+entryOf sheet i = getD (sheet .entries) i (record { inverted = 0; step = Cart (record { ellipsoid = 0 }) })
+
+abbrev pub stepIn : Sheet → ℕ → Step
+stepIn sheet i = entryOf sheet i .step
+
+abbrev pub kindIn : Sheet → ℕ → ℕ
+kindIn sheet i = kindOf (stepIn sheet i)

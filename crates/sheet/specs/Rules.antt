@@ -1,19 +1,16 @@
 -- The rules of the sheet by document 01's numbers. `refusalN` says when refusal N is given: its rule is broken.
--- The order in which they are asked stands in `readerOrder`, and the writer's in `writerOrder`; an answer is the first that is broken.
-use Prim.Native.Nat.{ℕ, zero, suc, _+_, _*_}
+-- The order in which they are asked stands in `readerOrder`; an answer is the first that is broken. A record's rules and the writer's order stand in sheet_writer.
+use Prim.Native.Nat.{ℕ, zero, suc, _+_}
 use mathlib.Core.List.{List, [], _∷_, _++_}
 use mathlib.Core.Bool.{Bool, false, not, cond, _&&_, _||_}
 use lib.Dec.{eqb, ltb}
 use lib.ListN.{length}
-use Rattle.words.specs.Words.{put}
 use Rattle.bodies.specs.declared.Step.{Step}
 use Rattle.bodies.specs.Kinds.{lengthOf}
-use Rattle.bodies.specs.Rules.{bodyInRule, stepInRule, lacksConvention, lacksEpoch, lacksDuration}
+use Rattle.bodies.specs.Rules.{bodyInRule, lacksConvention, lacksEpoch, lacksDuration}
 use Rattle.sheet.specs.declared.Refusal.{Refusal}
 use Rattle.sheet.specs.declared.Reading.{Reading}
-use Rattle.sheet.specs.declared.Sheet.{Sheet}
 use Rattle.sheet.specs.Layout.{formOf, totalLengthOf, stepCountOf, directoryOffsetOf, kindAt, invertedAt, offsetAt, lengthAt, directoryEnd, bodyAt, stepAt, recordOf, blankSheet}
-use Rattle.sheet.specs.Bytes.{entryOf, stepIn, kindIn, sheetLength, sheetBytesOf}
 
 -- ---- the sheet as a whole
 
@@ -59,13 +56,6 @@ refusal4 s =
     || someFrom (placeBroken s) (stepCountOf s) 0
     || not (eqb (endBefore s (stepCountOf s)) (totalLengthOf s))
 
-abbrev pub invertedBrokenIn : Sheet → ℕ → Bool
-invertedBrokenIn sheet i = invertedBroken (entryOf sheet i .inverted)
-
--- the writer's 4: an inverted word outside its rule (a record has no kind outside it)
-unfoldable pub recordRefusal4 : Sheet → Bool
-recordRefusal4 sheet = someFrom (invertedBrokenIn sheet) (sheet .count) 0
-
 -- ---- a step
 
 -- a body field outside its rule
@@ -75,10 +65,6 @@ refusal5 kind body = not (bodyInRule kind body)
 -- the same at step i of a sheet
 abbrev pub refusal5At : List ℕ → ℕ → Bool
 refusal5At s i = refusal5 (kindAt s i) (bodyAt s i)
-
--- the writer's 5, on the fields of step i of a record
-unfoldable pub recordRefusal5 : Sheet → ℕ → Bool
-recordRefusal5 sheet i = not (stepInRule (stepIn sheet i))
 
 -- rotated, convention none
 abbrev pub refusal6 : Step → Bool
@@ -100,10 +86,6 @@ deformationBefore kind (suc i) = deformationBefore kind i || eqb (kind i) 5
 -- second deformation step: a deformation step after another; the first such is the second one
 unfoldable pub refusal11 : (ℕ → ℕ) → ℕ → Bool
 refusal11 kind i = eqb (kind i) 5 && deformationBefore kind i
-
--- writer: room too short
-unfoldable pub refusal15 : Sheet → ℕ → Bool
-refusal15 sheet room = ltb room (sheetLength sheet)
 
 -- ---- the order
 
@@ -152,15 +134,6 @@ readerOrder s =
     ∷ (fiveToEight (refusal5At s) (stepAt s) (stepCountOf s) 0
     ++ elevens (kindAt s) (stepCountOf s) 0)
 
--- the writer's order: 3; inverted words by 4; then step by step 5 to 8; 11; then 15
-unfoldable pub writerOrder : Sheet → ℕ → List Rule
-writerOrder sheet room =
-    rule (ofSheet 3) (refusal3 (sheet .count))
-    ∷ rule (ofSheet 4) (recordRefusal4 sheet)
-    ∷ (fiveToEight (recordRefusal5 sheet) (stepIn sheet) (sheet .count) 0
-    ++ (elevens (kindIn sheet) (sheet .count) 0
-    ++ (rule (ofSheet 15) (refusal15 sheet room) ∷ [])))
-
 -- ---- the answers
 
 -- the first rule that is broken
@@ -175,11 +148,3 @@ refusalOf s = firstBroken (readerOrder s)
 -- the record, or the refusal with a blank sheet
 unfoldable pub readingOf : List ℕ → Reading
 readingOf s = record { refusal = refusalOf s; sheet = cond (eqb (refusalOf s .number) 0) (recordOf s) blankSheet }
-
--- the writer's refusal, of a record and a room's length
-unfoldable pub writerRefusalOf : Sheet → ℕ → Refusal
-writerRefusalOf sheet room = firstBroken (writerOrder sheet room)
-
--- the room afterwards: the sheet's bytes at its start and nothing after them touched; on refusal what it held
-unfoldable pub writtenOf : Sheet → List ℕ → List ℕ
-writtenOf sheet room = cond (eqb (writerRefusalOf sheet (length room) .number) 0) (put room 0 (sheetBytesOf sheet)) room

@@ -1,20 +1,14 @@
-// The sheet: the bytes by which two boxes hand each other their parameters, read where they lie and written into lent room.
+// The sheet: the bytes by which two boxes hand each other their parameters, read where they lie.
 //
 // The layout and the rules are document 01's, "The sheet" and "Numbers of refusal". Every refusal is one named definition under its number in specs/Rules.antt,
-// and the order in which they are asked stands there once. Every function answers for every input exactly as its definition says (proved). Proved besides, over
-// whole sheets of any kinds: what is read and written again is the same bytes, what is written and read is the same record, and no two sheets read alike.
-// `check` and `entry_at` leave the sheet where it lies and decode one body at a time: whoever runs a sheet uses these. `read` and `write` are for whoever
-// makes, keeps or hands on a record; it is 4 kB, so pass it on once.
+// and the order in which they are asked stands there once. Every function answers for every input exactly as its definition says (proved). What is proved of
+// whole sheets read and written again stands in sheet_writer. `check` and `entry_at` leave the sheet where it lies and decode one body at a time: whoever runs
+// a sheet uses these. `read` is for whoever makes, keeps or hands on a record; it is 4 kB, so pass it on once.
 ghost use mathlib.Core.Path.{_≡_};
-ghost use mathlib.Core.Bool.{not};
 ghost use Prim.Native.Nat.{_+_, _*_, _<_, _≤_};
 ghost use lib.ListN.{length, take, drop};
-ghost use mathlib.Core.List.{_++_};
-ghost use Rattle.words.specs.Words.{le32, put};
-ghost use Rattle.bodies.specs.Write.{bytesOf};
 ghost use Rattle.sheet.specs.Layout.{stepCountOf, kindAt, bodyAt, stepAt, blankEntry, blankSheet, entryAt, recordOf};
-ghost use Rattle.sheet.specs.Bytes.{entryOf, stepIn, kindIn, lengthIn, bodyStart, sheetLength, placeBytes, directoryBytes, bodiesBytes, sheetBytesOf};
-ghost use Rattle.sheet.specs.Rules.{refusal1, refusal3, refusal4, refusal5At, recordRefusal4, recordRefusal5, invertedBrokenIn, someFrom, endBefore, placeBroken, ofSheet, ofStep, rulesOfStep, fiveToEight, elevens, accepted, firstBroken, refusalOf, readingOf, writerRefusalOf, writtenOf};
+ghost use Rattle.sheet.specs.Rules.{refusal1, refusal3, refusal4, refusal5At, endBefore, placeBroken, ofSheet, ofStep, rulesOfStep, fiveToEight, elevens, accepted, firstBroken, refusalOf, readingOf};
 use bodies::Step;
 
 // ----- records ---------------------------------------------------------------------------
@@ -78,7 +72,7 @@ impl Refusal {
     }
 
     // Of the sheet as a whole.
-    fn of_sheet(number: u32) -> Self
+    pub fn of_sheet(number: u32) -> Self
         ensures { λ r. ⌜ r ≡ ofSheet number ⌝ }
     {
         Refusal {
@@ -165,7 +159,7 @@ fn length_broken(s: &[u8]) -> bool
 }
 
 // Rule 3: the step count.
-fn count_broken(n: usize) -> bool
+pub fn count_broken(n: usize) -> bool
     ensures { λ r. ⌜ r ≡ refusal3 n ⌝ }
 {
     (n == 0) | (16 < n)
@@ -216,26 +210,6 @@ fn directory_broken(s: &[u8], n: usize) -> bool
     end != wide(words::read32(s, 4))
 }
 
-// Rules 5 to 8 of one step, `five` being whether it breaks 5.
-fn check_step(i: usize, five: bool, step: Step) -> Refusal
-    requires { ⌜ i < 16 ⌝ }
-    ensures { λ r. ⌜ r ≡ firstBroken (rulesOfStep i five step) ⌝ }
-{
-    if five {
-        return Refusal::of_step(5, i);
-    }
-    if bodies::lacks_convention(step) {
-        return Refusal::of_step(6, i);
-    }
-    if bodies::lacks_epoch(step) {
-        return Refusal::of_step(7, i);
-    }
-    if bodies::lacks_duration(step) {
-        return Refusal::of_step(8, i);
-    }
-    Refusal::none()
-}
-
 // Rules 5 to 8 of the step at index i of a sheet.
 fn check_body(s: &[u8], i: usize) -> Refusal
     requires { ⌜ i < 16 ⌝ }
@@ -243,11 +217,11 @@ fn check_body(s: &[u8], i: usize) -> Refusal
 {
     let kind = words::read32(s, 16 + 16 * i);
     let body = body_at(s, i);
-    check_step(
-        i,
-        !bodies::body_in_rule(kind, body),
-        bodies::read_body(kind, body),
-    )
+    let number = bodies::lowest_broken(kind, body);
+    if number == 0 {
+        return Refusal::none();
+    }
+    Refusal::of_step(number, i)
 }
 
 // Step by step 5 to 8.
@@ -345,218 +319,4 @@ pub fn read(s: &[u8]) -> Reading
         refusal: refusal,
         sheet: sheet,
     }
-}
-
-// ----- the rules of a record ---------------------------------------------------------------------
-
-// The entry at index i.
-fn entry_in(sheet: Sheet, i: usize) -> Entry
-    requires { ⌜ i < 16 ⌝ }
-    ensures { λ r. ⌜ r ≡ entryOf sheet i ⌝ }
-{
-    sheet.entries[i]
-}
-
-// Rule 4 of a record: the inverted words.
-fn inverted_broken(sheet: Sheet, n: usize) -> bool
-    requires { ⌜ n ≤ 16 ⌝ }
-    ensures { λ r. ⌜ r ≡ someFrom (invertedBrokenIn sheet) n 0 ⌝ }
-{
-    let mut i = 0;
-    while i < n {
-        let entry = entry_in(sheet, i);
-        if 1 < entry.inverted {
-            return true;
-        }
-        i += 1;
-    }
-    false
-}
-
-// Rules 5 to 8 of the step at index i of a record.
-fn check_entry(sheet: Sheet, i: usize) -> Refusal
-    requires { ⌜ i < 16 ⌝ }
-    ensures { λ r. ⌜ r ≡ firstBroken (rulesOfStep i (recordRefusal5 sheet i) (stepIn sheet i)) ⌝ }
-{
-    let entry = entry_in(sheet, i);
-    let step = entry.step;
-    check_step(i, !bodies::step_in_rule(step), step)
-}
-
-// Step by step 5 to 8.
-fn check_entries(sheet: Sheet, n: usize) -> Refusal
-    requires { ⌜ n ≤ 16 ⌝ }
-    ensures { λ r. ⌜ r ≡ firstBroken (fiveToEight (recordRefusal5 sheet) (stepIn sheet) n 0) ⌝ }
-{
-    let mut i = 0;
-    while i < n {
-        let refusal = check_entry(sheet, i);
-        if refusal.number != 0 {
-            return refusal;
-        }
-        i += 1;
-    }
-    Refusal::none()
-}
-
-fn kind_in(sheet: Sheet, i: usize) -> u32
-    requires { ⌜ i < 16 ⌝ }
-    ensures { λ r. ⌜ r ≡ kindIn sheet i ⌝ }
-{
-    let entry = entry_in(sheet, i);
-    let step = entry.step;
-    bodies::kind_of(step)
-}
-
-// Rule 11 of a record: a second deformation step.
-fn check_steps(sheet: Sheet, n: usize) -> Refusal
-    requires { ⌜ n ≤ 16 ⌝ }
-    ensures { λ r. ⌜ r ≡ firstBroken (elevens (kindIn sheet) n 0) ⌝ }
-{
-    let mut before = false;
-    let mut i = 0;
-    while i < n {
-        let deformation = kind_in(sheet, i) == 5;
-        if deformation & before {
-            return Refusal::of_step(11, i);
-        }
-        before = before | deformation;
-        i += 1;
-    }
-    Refusal::none()
-}
-
-// The length of the body of the step at index i.
-fn length_in(sheet: Sheet, i: usize) -> usize
-    requires { ⌜ i < 16 ⌝ }
-    ensures { λ r. ⌜ (r ≡ lengthIn sheet i) × (r ≤ 248) ⌝ }
-{
-    wide(bodies::length_of(kind_in(sheet, i)))
-}
-
-// Where the last body ends.
-fn sheet_length(sheet: Sheet, n: usize) -> usize
-    requires { ⌜ (n ≤ 16) × (n ≡ sheet .count) ⌝ }
-    ensures { λ r. ⌜ (r ≡ sheetLength sheet) × (r ≤ 4240) ⌝ }
-{
-    let mut end = 16 + 16 * n;
-    let mut i = 0;
-    while i < n {
-        end = end + length_in(sheet, i);
-        i += 1;
-    }
-    end
-}
-
-// The first rule that a record breaks, in the writer's order.
-pub fn check_record(sheet: Sheet, room: usize) -> Refusal
-    ensures { λ r. ⌜ r ≡ writerRefusalOf sheet room ⌝ }
-{
-    let n = wide(sheet.count);
-    if count_broken(n) {
-        return Refusal::of_sheet(3);
-    }
-    if inverted_broken(sheet, n) {
-        return Refusal::of_sheet(4);
-    }
-    let refusal = check_entries(sheet, n);
-    if refusal.number != 0 {
-        return refusal;
-    }
-    let second = check_steps(sheet, n);
-    if second.number != 0 {
-        return second;
-    }
-    if room < sheet_length(sheet, n) {
-        return Refusal::of_sheet(15);
-    }
-    Refusal::none()
-}
-
-// ----- the writer ------------------------------------------------------------------------------
-
-// Four words: the header, or a place of the directory.
-fn put_words(room: &mut [u8], at: usize, a: u32, b: u32, c: u32, d: u32)
-    requires { ⌜ at + 16 ≤ length (now room) ⌝ }
-    ensures { λ _. ⌜ now (room .exit) ≡ put (now (room .entry)) at (le32 a ++ le32 b ++ le32 c ++ le32 d) ⌝ }
-{
-    words::put32(room, at, a);
-    words::put32(room, at + 4, b);
-    words::put32(room, at + 8, c);
-    words::put32(room, at + 12, d);
-}
-
-// The place of the step at index i, its body starting at `start`.
-fn put_place(room: &mut [u8], sheet: Sheet, i: usize, start: usize)
-    requires { ⌜ (i < 16) × ((start ≡ bodyStart sheet i) × ((start ≤ 4240) × (32 + 16 * i ≤ length (now room)))) ⌝ }
-    ensures { λ _. ⌜ now (room .exit) ≡ put (now (room .entry)) (16 + 16 * i) (placeBytes sheet i) ⌝ }
-{
-    let entry = entry_in(sheet, i);
-    let kind = kind_in(sheet, i);
-    put_words(
-        room,
-        16 + 16 * i,
-        kind,
-        entry.inverted,
-        start as u32,
-        bodies::length_of(kind),
-    );
-}
-
-fn put_directory(room: &mut [u8], sheet: Sheet, n: usize)
-    requires { ⌜ (n ≤ 16) × ((n ≡ sheet .count) × (16 + 16 * n ≤ length (now room))) ⌝ }
-    ensures { λ _. ⌜ now (room .exit) ≡ put (now (room .entry)) 16 (directoryBytes sheet n) ⌝ }
-{
-    let mut start = 16 + 16 * n;
-    let mut i = 0;
-    while i < n {
-        put_place(room, sheet, i, start);
-        start = start + length_in(sheet, i);
-        i += 1;
-    }
-}
-
-fn put_body(room: &mut [u8], sheet: Sheet, i: usize, start: usize)
-    requires { ⌜ (i < 16) × (start + lengthIn sheet i ≤ length (now room)) ⌝ }
-    ensures { λ _. ⌜ now (room .exit) ≡ put (now (room .entry)) start (bytesOf (stepIn sheet i)) ⌝ }
-{
-    let entry = entry_in(sheet, i);
-    let step = entry.step;
-    bodies::write_body(room, start, step);
-}
-
-fn put_bodies(room: &mut [u8], sheet: Sheet, n: usize)
-    requires { ⌜ (n ≤ 16) × ((n ≡ sheet .count) × (sheetLength sheet ≤ length (now room))) ⌝ }
-    ensures { λ _. ⌜ now (room .exit) ≡ put (now (room .entry)) (16 + 16 * n) (bodiesBytes sheet n) ⌝ }
-{
-    let mut start = 16 + 16 * n;
-    let mut i = 0;
-    while i < n {
-        put_body(room, sheet, i, start);
-        start = start + length_in(sheet, i);
-        i += 1;
-    }
-}
-
-fn put_sheet(room: &mut [u8], sheet: Sheet)
-    requires { ⌜ (sheet .count ≤ 16) × (sheetLength sheet ≤ length (now room)) ⌝ }
-    ensures { λ _. ⌜ now (room .exit) ≡ put (now (room .entry)) 0 (sheetBytesOf sheet) ⌝ }
-{
-    let n = wide(sheet.count);
-    let total = sheet_length(sheet, n);
-    put_words(room, 0, 1, total as u32, sheet.count, 16);
-    put_directory(room, sheet, n);
-    put_bodies(room, sheet, n);
-}
-
-// Writes the sheet's bytes at the room's start and nothing after them. On refusal the room holds what it held.
-pub fn write(sheet: Sheet, room: &mut [u8]) -> Refusal
-    ensures { λ r. ⌜ (r ≡ writerRefusalOf sheet (length (now (room .entry)))) × (now (room .exit) ≡ writtenOf sheet (now (room .entry))) ⌝ }
-{
-    let refusal = check_record(sheet, room.len());
-    if refusal.number != 0 {
-        return refusal;
-    }
-    put_sheet(room, sheet);
-    refusal
 }

@@ -12,9 +12,9 @@ use Rattle.bodies.specs.declared.Step.{Step}
 use Rattle.sheet.specs.declared.Sheet.{Sheet}
 use Rattle.sheet.specs.declared.Entry.{Entry}
 use Rattle.sheet.specs.declared.Refusal.{Refusal}
-use Rattle.sheet.specs.Layout.{stepCountOf, kindAt, entryAt, stepAt, blankSheet}
-use Rattle.sheet.specs.Bytes.{stepIn, kindIn}
-use Rattle.sheet.specs.Rules.{Rule, accepted, ofSheet, ofStep, refusal1, refusal2, refusal3, refusal4, recordRefusal4, recordRefusal5, refusal5At, rulesOfStep, fiveToEight, elevens, readerOrder, writerOrder, deformationBefore, firstBroken, refusalOf, readingOf, writerRefusalOf}
+use Rattle.sheet.specs.Layout.{stepCountOf, kindAt, entryAt, stepAt, blankSheet, stepIn, kindIn}
+use Rattle.sheet.specs.Rules.{Rule, accepted, ofSheet, ofStep, refusal1, refusal2, refusal3, refusal4, refusal5At, rulesOfStep, fiveToEight, elevens, readerOrder, deformationBefore, firstBroken, refusalOf, readingOf}
+use Rattle.sheet_writer.specs.Rules.{recordRefusal4, recordRefusal5, writerOrder, writerRefusalOf}
 use Rattle.sheet.proofs.Order.{count-kept}
 use Rattle.chain.specs.Chain.{entriesOf}
 use Rattle.chain.specs.Rules.{shiftRefusalOf, outcomeOf, shiftOf}

@@ -3,7 +3,7 @@ use borrow.Author.Needs.{needs}
 use native.Mathlib.Omega.{arith}
 use Prim.Native.Nat.{_-_, _≤_}
 use mathlib.Core.Path.{_≡_, refl}
-use Rattle.sheet.specs.Bytes.{kindIn}
+use Rattle.sheet.specs.Layout.{kindIn}
 use Rattle.sheet.specs.Rules.{deformationBefore}
 use Rattle.sheet.proofs.Order.{before-next}
 use Rattle.chain.proofs.deforms_record.Statement.{statement}

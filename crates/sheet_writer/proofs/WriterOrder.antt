@@ -1,0 +1,96 @@
+-- The writer's order, as `check_record` goes through it. Assumes nothing.
+use mathlib.Core.Path.{_≡_, sym, ap, _∙_}
+use Prim.Native.Nat.{ℕ, _≤_}
+use mathlib.Core.List.{List, [], _∷_, _++_}
+use mathlib.Core.Bool.{true, false}
+use borrow.Author.Tests.{ltb-false}
+use Rattle.sheet.specs.declared.Refusal.{Refusal}
+use Rattle.sheet.specs.declared.Sheet.{Sheet}
+use Rattle.sheet.specs.Layout.{stepIn, kindIn}
+use Rattle.sheet_writer.specs.Bytes.{sheetLength}
+use Rattle.sheet.specs.Rules.{Rule, rule, ofSheet, accepted, firstBroken, fiveToEight, elevens, refusal3}
+use Rattle.sheet_writer.specs.Rules.{recordRefusal4, recordRefusal5, refusal15, writerOrder, writerRefusalOf}
+use Rattle.sheet.proofs.Order.{Numbered, not-zero, numbered-append, numbered-steps, numbered-elevens, kept-then, broken-first, Kept, all-kept, kept-right, count-kept}
+
+-- after step by step 5 to 8 and 11: 15
+abbrev pub last : Sheet → ℕ → List Rule
+last sheet room = rule (ofSheet 15) (refusal15 sheet room) ∷ []
+
+-- 5 to 8 of n steps, 11, then 15
+abbrev pub after : Sheet → ℕ → ℕ → List Rule
+after sheet room n = fiveToEight (recordRefusal5 sheet) (stepIn sheet) n 0 ++ (elevens (kindIn sheet) n 0 ++ last sheet room)
+
+module _ (sheet : Sheet) (room : ℕ) where
+  pub writer-three : refusal3 (sheet .count) ≡ true → writerRefusalOf sheet room ≡ ofSheet 3
+  unfolding writerRefusalOf writerOrder firstBroken
+  writer-three e = rw e
+
+  pub writer-four : refusal3 (sheet .count) ≡ false → recordRefusal4 sheet ≡ true → writerRefusalOf sheet room ≡ ofSheet 4
+  unfolding writerRefusalOf writerOrder firstBroken
+  writer-four e h = rw (e, h)
+
+  pub numbered-writer : Numbered (writerOrder sheet room)
+  unfolding writerOrder
+  numbered-writer =
+      Numbered.next (not-zero 2) (Numbered.next (not-zero 3)
+      (numbered-append (numbered-steps (recordRefusal5 sheet) (stepIn sheet) (sheet .count) 0)
+      (numbered-append (numbered-elevens (kindIn sheet) (sheet .count) 0) (Numbered.next (not-zero 14) Numbered.none))))
+
+  module _ (kept3 : refusal3 (sheet .count) ≡ false) (kept4 : recordRefusal4 sheet ≡ false) (n : ℕ) (count : n ≡ sheet .count) where
+    passed : writerRefusalOf sheet room ≡ firstBroken (after sheet room (sheet .count))
+    unfolding writerRefusalOf writerOrder firstBroken
+    passed = rw (kept3, kept4)
+
+    on-n : writerRefusalOf sheet room ≡ firstBroken (after sheet room n)
+    on-n = passed ∙ ap (λ (k : ℕ). firstBroken (after sheet room k)) (sym count)
+
+    module _ (r : Refusal) (answer : r ≡ firstBroken (fiveToEight (recordRefusal5 sheet) (stepIn sheet) n 0)) where
+      pub writer-step : (r .number ≡ 0 → ⊥) → writerRefusalOf sheet room ≡ r
+      writer-step h =
+          on-n
+          ∙ broken-first (fiveToEight (recordRefusal5 sheet) (stepIn sheet) n 0) (elevens (kindIn sheet) n 0 ++ last sheet room) (rw answer at h)
+          ∙ sym answer
+
+      module _ (h : r .number ≡ 0) where
+        steps-kept : writerRefusalOf sheet room ≡ firstBroken (elevens (kindIn sheet) n 0 ++ last sheet room)
+        steps-kept =
+            on-n
+            ∙ kept-then (fiveToEight (recordRefusal5 sheet) (stepIn sheet) n 0) (elevens (kindIn sheet) n 0 ++ last sheet room)
+            (numbered-steps (recordRefusal5 sheet) (stepIn sheet) n 0) (rw answer at h)
+
+        module _ (q : Refusal) (second : q ≡ firstBroken (elevens (kindIn sheet) n 0)) where
+          pub writer-eleven : (q .number ≡ 0 → ⊥) → writerRefusalOf sheet room ≡ q
+          writer-eleven g =
+              steps-kept ∙ broken-first (elevens (kindIn sheet) n 0) (last sheet room) (rw second at g) ∙ sym second
+
+          elevens-kept : q .number ≡ 0 → writerRefusalOf sheet room ≡ firstBroken (last sheet room)
+          elevens-kept g =
+              steps-kept ∙ kept-then (elevens (kindIn sheet) n 0) (last sheet room) (numbered-elevens (kindIn sheet) n 0) (rw second at g)
+
+          pub writer-short : q .number ≡ 0 → refusal15 sheet room ≡ true → writerRefusalOf sheet room ≡ ofSheet 15
+          unfolding firstBroken
+          writer-short g e = elevens-kept g ∙ rw e
+
+          pub writer-accepts : q .number ≡ 0 → refusal15 sheet room ≡ false → writerRefusalOf sheet room ≡ accepted
+          unfolding firstBroken
+          writer-accepts g e = elevens-kept g ∙ rw e
+
+kept-three : (sheet : Sheet) (room : ℕ) → Kept (writerOrder sheet room) → refusal3 (sheet .count) ≡ false
+unfolding writerOrder
+kept-three sheet room (Kept.next a k) = a
+
+only : {r : Rule} → Kept (r ∷ []) → r .broken ≡ false
+only (Kept.next a k) = a
+
+kept-last : (sheet : Sheet) (room : ℕ) → Kept (writerOrder sheet room) → refusal15 sheet room ≡ false
+unfolding writerOrder
+kept-last sheet room (Kept.next a (Kept.next b k)) =
+    only (kept-right (elevens (kindIn sheet) (sheet .count) 0) (last sheet room)
+    (kept-right (fiveToEight (recordRefusal5 sheet) (stepIn sheet) (sheet .count) 0) (elevens (kindIn sheet) (sheet .count) 0 ++ last sheet room) k))
+
+-- a record that the writer accepts has at most 16 steps, and the room holds its sheet
+pub accepted-record : (sheet : Sheet) (room : ℕ) → writerRefusalOf sheet room .number ≡ 0 → (sheet .count ≤ 16) × (sheetLength sheet ≤ room)
+unfolding writerRefusalOf refusal15
+accepted-record sheet room e =
+    let k = all-kept (writerOrder sheet room) (numbered-writer sheet room) e in
+    (count-kept (sheet .count) (kept-three sheet room k) .1, ltb-false room (sheetLength sheet) (kept-last sheet room k))

@@ -1,0 +1,72 @@
+-- `sheet_writer::check_steps` meets its contract. Assumes nothing.
+use borrow.Author.Needs.{needs}
+use native.Mathlib.Omega.{arith}
+use mathlib.Core.Path.{_≡_, refl, sym, ap, _∙_}
+use Prim.Native.Nat.{suc, _+_, _*_, _-_, _≤_, _<_}
+use native.Mathlib.Nat.{sub-zero}
+use mathlib.Core.Bool.{true, false}
+use Rattle.sheet.specs.Rules.{refusal11, deformationBefore, elevens, firstBroken}
+use Rattle.sheet.specs.Layout.{kindIn}
+use Rattle.sheet.proofs.Order.{elevens-on, elevens-off, elevens-end, before-next}
+use Rattle.sheet_writer.proofs.check_steps.Statement.{statement}
+use Rattle.sheet_writer.proofs.check_steps.Tie as tie
+
+abbrev Inv-loop : tie.InvT-loop
+Inv-loop sheet n before₀ i₀ before i = (i ≤ n) × ((before ≡ deformationBefore (kindIn sheet) i) × (firstBroken (elevens (kindIn sheet) n 0) ≡ firstBroken (elevens (kindIn sheet) (n - i) i)))
+
+abbrev μ-loop : tie.MeasureT-loop
+μ-loop sheet n before₀ i₀ before i = n - i
+
+loop-holds : tie.Need-loop-holds Inv-loop μ-loop
+unfolding deformationBefore
+loop-holds c = (omega arith, (refl, rw sub-zero))
+
+kind-in-requires : tie.Need-kind-in-requires Inv-loop μ-loop
+kind-in-requires c κs = search needs
+
+of-step-requires : tie.Need-of-step-requires Inv-loop μ-loop
+of-step-requires c κs = search needs
+
+returns : tie.Need-returns Inv-loop μ-loop
+unfolding refusal11
+returns c = let l = c .before .before .before .before in
+    let a = l .before .args in
+    let left : a .n - l .loop .i ≡ suc (a .n - (l .loop .i + 1)) = omega arith in
+    let second : refusal11 (kindIn (a .sheet)) (l .loop .i) ≡ true = rw (← c .before .before .kind-in .ensures, ← l .loop .inv .1 .0) (c .before .if1 .taken) in
+    rw (c .of-step .ensures) (sym (l .loop .inv .1 .1 ∙ elevens-off _ _ _ _ left second))
+
+add-i : tie.Need-add-i Inv-loop μ-loop
+add-i c = search needs
+
+loop-less : tie.Need-loop-less Inv-loop μ-loop
+loop-less c = search needs
+
+loop-again : tie.Need-loop-again Inv-loop μ-loop
+unfolding refusal11
+loop-again c = let l = c .before .before .before in
+    let a = l .before .args in
+    let left : a .n - l .loop .i ≡ suc (a .n - (l .loop .i + 1)) = omega arith in
+    let alone : refusal11 (kindIn (a .sheet)) (l .loop .i) ≡ false = rw (← c .before .kind-in .ensures, ← l .loop .inv .1 .0) (c .if1 .left) in
+    (omega arith, (rw (before-next, ← c .before .kind-in .ensures, ← l .loop .inv .1 .0), l .loop .inv .1 .1 ∙ elevens-on _ _ _ _ left alone))
+
+none-requires : tie.Need-none-requires Inv-loop μ-loop
+none-requires c κs = search needs
+
+returns-2 : tie.Need-returns-2 Inv-loop μ-loop
+returns-2 c = rw (c .none .ensures) (sym (c .before .before .loop .inv .1 .1 ∙ elevens-end _ _ _ (omega arith)))
+
+pub check-steps-spec : {M : Type 1} → statement M
+check-steps-spec =
+    tie.close
+    (tie.spec
+    Inv-loop
+    μ-loop
+    loop-holds
+    kind-in-requires
+    of-step-requires
+    returns
+    add-i
+    loop-less
+    loop-again
+    none-requires
+    returns-2)

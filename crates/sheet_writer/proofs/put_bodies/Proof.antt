@@ -1,0 +1,84 @@
+-- `sheet_writer::put_bodies` meets its contract. Assumes nothing.
+use borrow.Author.Needs.{needs}
+use native.Mathlib.Omega.{arith}
+use mathlib.Core.Path.{_≡_, refl, sym, ap, _∙_}
+use Prim.Native.Nat.{ℕ, suc, _+_, _*_, _-_, _≤_, _<_}
+use native.Mathlib.Nat.{sub-zero}
+use Rattle.sheet_writer.specs.Bytes.{bodyStart, bodiesBytes}
+use Rattle.sheet_writer.proofs.Writing.{start-next, bodies-next, ends-within}
+use lib.ListN.{length}
+use Rattle.words.specs.Words.{put}
+use Rattle.words.proofs.Laws.{put-none}
+use Rattle.sheet_writer.proofs.put_bodies.Statement.{statement}
+use Rattle.sheet_writer.proofs.put_bodies.Tie as tie
+
+abbrev Inv-loop : tie.InvT-loop
+Inv-loop room₀ sheet n start₀ i₀ room start i = (i ≤ n) × ((start ≡ bodyStart sheet i) × ((start ≤ 16 + 16 * n + 248 * i) × ((length room ≡ length room₀) × (room ≡ put room₀ (16 + 16 * n) (bodiesBytes sheet i)))))
+
+abbrev μ-loop : tie.MeasureT-loop
+μ-loop room₀ sheet n start₀ i₀ room start i = n - i
+
+mul-start : tie.Need-mul-start Inv-loop μ-loop
+mul-start c = search needs
+
+add-start : tie.Need-add-start Inv-loop μ-loop
+add-start c = search needs
+
+loop-holds : tie.Need-loop-holds Inv-loop μ-loop
+unfolding bodyStart bodiesBytes
+loop-holds c = (omega arith, (omega arith, (omega arith, (refl, sym (put-none _ _)))))
+
+put-body-requires : tie.Need-put-body-requires Inv-loop μ-loop
+put-body-requires c κs =
+    let l = c .before .before in
+    let a = l .before .before .args in
+    (omega arith, omega (arith, ends-within (a .sheet) (l .loop .i) (a .sheet .count) (omega arith)))
+
+length-in-requires : tie.Need-length-in-requires Inv-loop μ-loop
+length-in-requires c κs = search needs
+
+add-start-2 : tie.Need-add-start-2 Inv-loop μ-loop
+add-start-2 c = search needs
+
+add-i : tie.Need-add-i Inv-loop μ-loop
+add-i c = search needs
+
+loop-less : tie.Need-loop-less Inv-loop μ-loop
+loop-less c = search needs
+
+loop-again : tie.Need-loop-again Inv-loop μ-loop
+loop-again c =
+    let l = c .before .before .before .before .before .before in
+    let o = l .before .before in
+    let a = o .args in
+    let p = c .before .before .before .put-body in
+    let fits : bodyStart (a .sheet) (l .loop .i) ≤ length (a .room .now) = omega (arith, ends-within (a .sheet) (l .loop .i) (a .sheet .count) (omega arith)) in
+    (omega arith, (omega (arith, start-next (a .sheet) (l .loop .i)), (omega arith, (omega arith, rw (p .ensures, l .loop .inv .1 .1 .1 .1, l .loop .inv .1 .0, o .pre .1 .0) (bodies-next _ _ _ (fits))))))
+
+same-length : tie.Need-same-length Inv-loop μ-loop
+same-length c = search needs
+
+returns : tie.Need-returns Inv-loop μ-loop
+returns c =
+    let l = c .before in
+    let a = l .before .before .args in
+    let all : l .loop .i ≡ a .n = omega arith in
+    l .loop .inv .1 .1 .1 .1 ∙ ap (λ (k : ℕ). put (a .room .now) (16 + 16 * a .n) (bodiesBytes (a .sheet) k)) all
+
+pub put-bodies-spec : {M : Type 1} → statement M
+put-bodies-spec =
+    tie.close
+    (tie.spec
+    Inv-loop
+    μ-loop
+    mul-start
+    add-start
+    loop-holds
+    put-body-requires
+    length-in-requires
+    add-start-2
+    add-i
+    loop-less
+    loop-again
+    same-length
+    returns)

@@ -1,0 +1,63 @@
+-- `sheet_writer::sheet_length` meets its contract. Assumes nothing.
+use borrow.Author.Needs.{needs}
+use native.Mathlib.Omega.{arith}
+use mathlib.Core.Path.{_≡_, refl, sym, ap, _∙_}
+use Prim.Native.Nat.{suc, _+_, _*_, _-_, _≤_, _<_}
+use native.Mathlib.Nat.{sub-zero}
+use Rattle.sheet_writer.specs.Bytes.{bodyStart}
+use Rattle.sheet_writer.proofs.Writing.{start-next}
+use Rattle.sheet_writer.proofs.sheet_length.Statement.{statement}
+use Rattle.sheet_writer.proofs.sheet_length.Tie as tie
+
+abbrev Inv-loop : tie.InvT-loop
+Inv-loop sheet n end₀ i₀ end i = (i ≤ n) × ((end ≡ bodyStart sheet i) × (end ≤ 16 + 16 * n + 248 * i))
+
+abbrev μ-loop : tie.MeasureT-loop
+μ-loop sheet n end₀ i₀ end i = n - i
+
+mul-end : tie.Need-mul-end Inv-loop μ-loop
+mul-end c = search needs
+
+add-end : tie.Need-add-end Inv-loop μ-loop
+add-end c = search needs
+
+loop-holds : tie.Need-loop-holds Inv-loop μ-loop
+unfolding bodyStart
+loop-holds c = (omega arith, (rw (c .pre .1), omega arith))
+
+length-in-requires : tie.Need-length-in-requires Inv-loop μ-loop
+length-in-requires c κs = search needs
+
+add-end-2 : tie.Need-add-end-2 Inv-loop μ-loop
+add-end-2 c = search needs
+
+add-i : tie.Need-add-i Inv-loop μ-loop
+add-i c = search needs
+
+loop-less : tie.Need-loop-less Inv-loop μ-loop
+loop-less c = search needs
+
+loop-again : tie.Need-loop-again Inv-loop μ-loop
+loop-again c = let l = c .before .before in
+    (omega arith, (omega (arith, start-next (l .before .args .sheet) (l .loop .i)), omega arith))
+
+returns : tie.Need-returns Inv-loop μ-loop
+returns c = let l = c .before in
+    let all : l .loop .i ≡ l .before .args .sheet .count = omega arith in
+    (l .loop .inv .1 .0 ∙ ap (bodyStart (l .before .args .sheet)) all, omega arith)
+
+pub sheet-length-spec : {M : Type 1} → statement M
+sheet-length-spec =
+    tie.close
+    (tie.spec
+    Inv-loop
+    μ-loop
+    mul-end
+    add-end
+    loop-holds
+    length-in-requires
+    add-end-2
+    add-i
+    loop-less
+    loop-again
+    returns)
