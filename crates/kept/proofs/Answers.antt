@@ -12,7 +12,7 @@ use Rattle.sheet.specs.declared.Refusal.{Refusal}
 use Rattle.sheet.specs.Rules.{rule, accepted, ofSheet, firstBroken, refusalOf}
 use Rattle.sheet.proofs.Order.{neither}
 use Rattle.chain.specs.Rules.{refusal9}
-use Rattle.kept.specs.Kept.{Kept, Redone, freshOf, correctedOf}
+use Rattle.stretch.specs.Kept.{Kept, Redone, freshOf, correctedOf}
 use Rattle.kept.specs.Entries.{refusal12, refusal13, refusal14, keptOrder, keepRefusalOf, correctRefusalOf, shiftIn, turnedIn, keepOf, outcome, answerOf, correctOf}
 
 -- ---- the order

@@ -1,12 +1,3 @@
-pub mod Data
-pub mod Flat
-pub mod Again
-pub mod Stretch
-pub mod Meeting
-pub mod Words
-pub mod Start
-pub mod Laws
-pub mod Afresh
 pub mod Answers
 pub mod Promises
 pub mod MarkedPoints

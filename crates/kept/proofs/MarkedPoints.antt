@@ -21,10 +21,10 @@ use Rattle.sheet.specs.Rules.{accepted, refusal1, refusal2, refusal3, refusal4,
 use Rattle.lists.specs.Flat.{fourOf, tupleAt, putAt}
 use Rattle.chain.specs.Rules.{refusal9}
 use Rattle.chain.proofs.MarkedPoints.{bytes, helmertSheet, fixes, xs, one, y2001, y2002, OfTheChain, marked-points}
-use Rattle.kept.specs.Same.{alikeNumberOf, alikeOf}
+use Rattle.stretch.specs.Same.{alikeNumberOf, alikeOf}
 use Rattle.tuple.specs.declared.Tuple.{Tuple}
 use Rattle.kept.specs.declared.Corrected.{Corrected}
-use Rattle.kept.specs.Kept.{Kept, keptOf, keptAt, putFix, Stretch, freshOf, meetsOf, stretchFrom, stretchOf, redoOf, beforeOf, correctedOf}
+use Rattle.stretch.specs.Kept.{Kept, keptOf, keptAt, putFix, Stretch, freshOf, meetsOf, stretchFrom, stretchOf, redoOf, beforeOf, correctedOf}
 use Rattle.kept.specs.Entries.{refusal12, refusal13, refusal14, keepRefusalOf, correctRefusalOf, keepOf, Outcome, answerOf, correctOf}
 use Rattle.kept.proofs.Promises.{count-by-the-tracks}
 

@@ -35,11 +35,11 @@ use Rattle.chain.specs.Chain.{turnsOf, stateOf, turnedOf, stepListOf, Run, chai
 use Rattle.chain.specs.Rules.{refusal10, overOne, ranOutcome, shiftOf}
 use Rattle.chain.proofs.Laws.{one-step-forward, one-step-inverse}
 use Rattle.chain.proofs.Outcome.{run-through}
-use Rattle.kept.specs.Kept.{heldOf, Kept, freshOf, carriedAt, keptAt, Stretch, beforeOf, putFix, correctedOf, Correction}
+use Rattle.stretch.specs.Kept.{heldOf, Kept, freshOf, carriedAt, keptAt, Stretch, beforeOf, putFix, correctedOf, Correction}
 use Rattle.kept.specs.Entries.{refusal12, refusal14, keepRefusalOf, correctRefusalOf, helmertOf, shiftIn, turnedIn, keepOf, Outcome, outcome, answerOf, correctOf}
-use Rattle.kept.proofs.Meeting.{track-at, result-at, state-stays, whole-take, state-append, track-length}
+use Rattle.stretch.proofs.Meeting.{track-at, result-at, state-stays, whole-take, state-append, track-length}
 use Rattle.kept.proofs.Answers.{Passed, passed, below, keep-done, taken, not-refused, correct-done, correct-refused-14}
-use Rattle.kept.proofs.Laws.{Unwritten, step-stays, fresh-list, before-is, corrected-equals-fresh, redone-is-the-stretch, results-outside, track-outside, list-outside, still-track, still-redoes-one}
+use Rattle.stretch.proofs.Laws.{Unwritten, step-stays, fresh-list, before-is, corrected-equals-fresh, redone-is-the-stretch, results-outside, track-outside, list-outside, still-track, still-redoes-one}
 
 -- ---- the one step is the chain's
 

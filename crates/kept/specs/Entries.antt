@@ -17,7 +17,7 @@ use Rattle.sheet.specs.Rules.{Rule, rule, ofSheet, firstBroken, refusalOf}
 use Rattle.chain.specs.Chain.{turnedOf}
 use Rattle.chain.specs.Rules.{refusal9}
 use Rattle.kept.specs.declared.Corrected.{Corrected}
-use Rattle.kept.specs.Kept.{Kept, freshOf, correctedOf}
+use Rattle.stretch.specs.Kept.{Kept, freshOf, correctedOf}
 
 -- ---- the rules of a kept run
 

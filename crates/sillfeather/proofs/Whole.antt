@@ -18,7 +18,7 @@ use Rattle.sheet_writer.specs.Rules.{recordRefusal4, recordRefusal5, writerOrde
 use Rattle.sheet.proofs.Order.{count-kept}
 use Rattle.chain.specs.Chain.{entriesOf}
 use Rattle.chain.specs.Rules.{shiftRefusalOf, outcomeOf, shiftOf}
-use Rattle.kept.specs.Kept.{Kept}
+use Rattle.stretch.specs.Kept.{Kept}
 use Rattle.kept.specs.Entries.{keepRefusalOf, correctRefusalOf, correctOf}
 use Rattle.making.specs.Adding.{readingAs, standingOf, withStepOf, writtenAs, addedOf}
 use Rattle.sillfeather.specs.Codes.{codeOf}

@@ -7,7 +7,7 @@ use lib.ListN.{getD}
 use lib.Ieee.{Float}
 use Rattle.sheet.specs.declared.Refusal.{Refusal}
 use Rattle.chain.specs.Rules.{Outcome}
-use Rattle.kept.specs.Kept.{Kept}
+use Rattle.stretch.specs.Kept.{Kept}
 use Rattle.kept.specs.Entries.{Outcome as CorrectOutcome}
 use Rattle.making.specs.Adding.{Outcome as AddOutcome}
 

@@ -8,7 +8,7 @@ ghost use mathlib.Core.Path.{_≡_};
 ghost use Rattle.sheet.specs.Rules.{refusalOf};
 ghost use Rattle.chain.specs.Rules.{shiftOf};
 ghost use Prim.Native.Nat.{_≤_};
-ghost use Rattle.kept.specs.Kept.{keptOf};
+ghost use Rattle.stretch.specs.Kept.{keptOf};
 ghost use Rattle.kept.specs.Entries.{keepRefusalOf, keepOf, correctOf};
 ghost use Rattle.making.specs.Adding.{addedOf};
 ghost use Rattle.sillfeather.specs.Codes.{codeOf, isInverse, handed, handedOf, Small, corrected, correctedOf, made, madeOf};

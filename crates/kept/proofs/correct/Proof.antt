@@ -1,12 +1,9 @@
 -- `kept::correct` meets its contract. Assumes nothing.
-use Prim.Native.Nat.{_<_, _/_}
 use borrow.Author.Needs.{needs}
-use borrow.Author.Tests.{ltb-true, not-false}
-use native.Mathlib.Omega.{arith}
 use mathlib.Core.Path.{_≡_, sym, ap, _∙_}
-use lib.ListN.{length}
 use Rattle.sheet.specs.declared.Refusal.{Refusal}
-use Rattle.kept.specs.Entries.{keepRefusalOf, refusal14}
+use Rattle.stretch.proofs.Fit.{fit-told, right-fits}
+use Rattle.kept.specs.Entries.{keepRefusalOf}
 use Rattle.kept.proofs.Answers.{passed, below, correct-refused, correct-refused-14, correct-done}
 use Rattle.kept.proofs.correct.Statement.{statement}
 use Rattle.kept.proofs.correct.Tie as tie
@@ -29,17 +26,14 @@ returns-2 c =
 entry-at-requires : tie.Need-entry-at-requires
 entry-at-requires c κs = search needs
 
-shift-of-requires : tie.Need-shift-of-requires
-shift-of-requires c κs = search needs
+step-of-requires : tie.Need-step-of-requires
+step-of-requires c κs = search needs
 
 turned-requires : tie.Need-turned-requires
 turned-requires c κs = search needs
 
 put-right-requires : tie.Need-put-right-requires
-put-right-requires c κs =
-    let p = passed _ _ _ _ (sym (ap (λ (r : Refusal). r .number) (c .before .before .before .before .before .before .before .before .before .before .check .ensures)) ∙ c .before .before .before .before .before .before .before .before .if1 .left) in
-    let i = below _ _ (sym (c .before .before .before .before .before .before .before .index-broken .ensures) ∙ c .before .before .before .before .before .before .if2 .left) in
-    (omega (arith, p .few, i), omega (arith, i), p .long-results, p .long-track)
+put-right-requires c κs = search needs
 
 same-length : tie.Need-same-length
 same-length c = search needs
@@ -53,8 +47,14 @@ same-length-3 c = search needs
 returns-3 : tie.Need-returns-3
 unfolding keepRefusalOf
 returns-3 c =
-    correct-done _ _ _ _ _ (c .before .before .before .before .before .before .before .before .before .before .before .before .before .before .before .before .before .check .ensures) (c .before .before .before .before .before .before .before .before .before .before .before .before .before .before .before .if1 .left) (sym (c .before .before .before .before .before .before .before .before .before .before .before .before .before .before .index-broken .ensures) ∙ c .before .before .before .before .before .before .before .before .before .before .before .before .before .if2 .left)
-    (c .before .before .before .before .before .before .put-right .ensures ∙ rw (c .before .before .before .before .before .before .before .before .before .before .turned .ensures, c .before .before .before .before .before .before .before .before .before .before .before .shift-of .ensures, c .before .before .before .before .before .before .before .before .before .before .before .before .entry-at .ensures))
+    let e = c .before .before .before .before .before .before .before .before .before .before .before .before .before .before .before .before .before .check .ensures in
+    let none = c .before .before .before .before .before .before .before .before .before .before .before .before .before .before .before .if1 .left in
+    let there = sym (c .before .before .before .before .before .before .before .before .before .before .before .before .before .before .index-broken .ensures) ∙ c .before .before .before .before .before .before .before .before .before .before .before .before .before .if2 .left in
+    let p = passed _ _ _ _ (sym (ap (λ (r : Refusal). r .number) e) ∙ none) in
+    correct-done _ _ _ _ _ e none there
+    (c .before .before .before .before .before .before .put-right .ensures
+    ∙ right-fits _ _ _ _ _ (fit-told _ _ _ (p .whole) (p .long-results) (p .long-track)) (below _ _ there)
+    ∙ rw (c .before .before .before .before .before .before .before .before .before .before .turned .ensures, c .before .before .before .before .before .before .before .before .before .before .before .step-of .ensures, c .before .before .before .before .before .before .before .before .before .before .before .before .entry-at .ensures))
 
 pub correct-spec : {M : Type 1} → statement M
 correct-spec =
@@ -65,7 +65,7 @@ correct-spec =
     index-broken-requires
     returns-2
     entry-at-requires
-    shift-of-requires
+    step-of-requires
     turned-requires
     put-right-requires
     same-length

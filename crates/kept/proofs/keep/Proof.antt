@@ -2,6 +2,7 @@
 use borrow.Author.Needs.{needs}
 use mathlib.Core.Path.{_≡_, sym, ap, _∙_}
 use Rattle.sheet.specs.declared.Refusal.{Refusal}
+use Rattle.stretch.proofs.Fit.{fit-told, fresh-fits}
 use Rattle.kept.specs.Entries.{keepRefusalOf}
 use Rattle.kept.proofs.Answers.{passed, keep-refused, keep-done}
 use Rattle.kept.proofs.keep.Statement.{statement}
@@ -19,16 +20,14 @@ returns c =
 entry-at-requires : tie.Need-entry-at-requires
 entry-at-requires c κs = search needs
 
-shift-of-requires : tie.Need-shift-of-requires
-shift-of-requires c κs = search needs
+step-of-requires : tie.Need-step-of-requires
+step-of-requires c κs = search needs
 
 turned-requires : tie.Need-turned-requires
 turned-requires c κs = search needs
 
 fresh-requires : tie.Need-fresh-requires
-fresh-requires c κs =
-    let p = passed _ _ _ _ (sym (ap (λ (r : Refusal). r .number) (c .before .before .before .before .before .before .before .check .ensures)) ∙ c .before .before .before .before .before .if1 .left) in
-    (p .whole, p .long-results, p .long-track)
+fresh-requires c κs = search needs
 
 same-length : tie.Need-same-length
 same-length c = search needs
@@ -39,10 +38,14 @@ same-length-2 c = search needs
 returns-2 : tie.Need-returns-2
 unfolding keepRefusalOf
 returns-2 c =
-    let e = c .before .before .before .before .before .before .before .before .before .before .before .before .check .ensures in (
+    let e = c .before .before .before .before .before .before .before .before .before .before .before .before .check .ensures in
+    let none = sym (ap (λ (r : Refusal). r .number) e) ∙ c .before .before .before .before .before .before .before .before .before .before .if1 .left in
+    let p = passed _ _ _ _ none in (
       e,
-      keep-done _ _ _ (sym (ap (λ (r : Refusal). r .number) e) ∙ c .before .before .before .before .before .before .before .before .before .before .if1 .left)
-          (c .before .before .before .before .fresh .ensures ∙ rw (c .before .before .before .before .before .before .before .turned .ensures, c .before .before .before .before .before .before .before .before .shift-of .ensures, c .before .before .before .before .before .before .before .before .before .entry-at .ensures)),
+      keep-done _ _ _ none
+          (c .before .before .before .before .fresh .ensures
+          ∙ fresh-fits _ _ _ (fit-told _ _ _ (p .whole) (p .long-results) (p .long-track))
+          ∙ rw (c .before .before .before .before .before .before .before .turned .ensures, c .before .before .before .before .before .before .before .before .step-of .ensures, c .before .before .before .before .before .before .before .before .before .entry-at .ensures)),
     )
 
 pub keep-spec : {M : Type 1} → statement M
@@ -52,7 +55,7 @@ keep-spec =
     check-requires
     returns
     entry-at-requires
-    shift-of-requires
+    step-of-requires
     turned-requires
     fresh-requires
     same-length

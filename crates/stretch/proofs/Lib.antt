@@ -1,0 +1,10 @@
+pub mod Data
+pub mod Flat
+pub mod Again
+pub mod Stretch
+pub mod Meeting
+pub mod Words
+pub mod Start
+pub mod Laws
+pub mod Afresh
+pub mod Fit

@@ -1,0 +1,153 @@
+-- Two runs over the same fixes agree from where their states meet: the redoing of what a run left is the run itself. For any step. Assumes nothing.
+use Prim.Native.Nat.{ℕ, zero, suc, _+_, _*_, _≤_}
+use native.Mathlib.Omega.{arith}
+use native.Mathlib.Nat.{zero-add, add-zero}
+use mathlib.Core.Bool.{Bool, true, false}
+use mathlib.Core.Path.{_≡_, refl, sym, ap, _∙_}
+use mathlib.Core.List.{List, [], _∷_, _++_}
+use lib.ListN.{length, take}
+use lib.Ieee.{Float}
+use Rattle.tuple.specs.declared.Tuple.{Tuple}
+use Rattle.helmert.specs.declared.State.{State}
+use Rattle.lists.specs.Flat.{fourOf, numbersOf, tupleAt}
+use Rattle.lists.specs.Run.{Turn, Turns, ranOf, trackOf, stateAfterOf}
+use Rattle.stretch.specs.Same.{alikeOf}
+use Rattle.stretch.specs.Kept.{trackedOf, heldOf}
+use Rattle.stretch.proofs.Data.{alike-are-equal}
+use Rattle.stretch.proofs.Flat.{tuple-beyond}
+use Rattle.stretch.proofs.Again.{Again, oneOf, againOf}
+use Rattle.stretch.proofs.Stretch.{tuple-first}
+
+-- ---- the state after each fix
+
+-- what the track holds after fix j is the state that the run carries there
+pub track-at : (f : Turns State) (k : ℕ) (state : State) (l : List Float) (j : ℕ) → 4 * j + 4 ≤ length l
+    → tupleAt (trackOf trackedOf f k state l) (4 * j) ≡ trackedOf (stateAfterOf f k state (take (4 * suc j) l))
+track-at f k state (x ∷ y ∷ z ∷ t ∷ rest) zero h = tuple-first _ _
+track-at f k state (x ∷ y ∷ z ∷ t ∷ rest) (suc j) h =
+    let turn = f k state (fourOf x y z t) in
+    let new = trackOf trackedOf f (suc k) (turn .state) rest in
+    let e : 4 * suc j ≡ 4 + 4 * j = omega arith in
+    let d : 4 * suc (suc j) ≡ suc (suc (suc (suc (4 * suc j)))) = omega arith in
+    ap (tupleAt (numbersOf (trackedOf (turn .state)) ++ new)) e
+    ∙ sym (tuple-beyond (numbersOf (trackedOf (turn .state)) ++ new) 4 (4 * j))
+    ∙ track-at f (suc k) (turn .state) rest j (omega arith)
+    ∙ ap (λ (m : ℕ). trackedOf (stateAfterOf f k state (take m (x ∷ y ∷ z ∷ t ∷ rest)))) (sym d)
+track-at f k state (x ∷ y ∷ z ∷ []) j h = absurd (omega arith)
+track-at f k state (x ∷ y ∷ []) j h = absurd (omega arith)
+track-at f k state (x ∷ []) j h = absurd (omega arith)
+track-at f k state [] j h = absurd (omega arith)
+
+-- the result of fix j: its turn, in the state that the run carries to it
+pub result-at : (f : Turns State) (k : ℕ) (state : State) (l : List Float) (j : ℕ) → 4 * j + 4 ≤ length l
+    → tupleAt (ranOf f k state l) (4 * j) ≡ f (k + j) (stateAfterOf f k state (take (4 * j) l)) (tupleAt l (4 * j)) .tuple
+result-at f k state (x ∷ y ∷ z ∷ t ∷ rest) zero h =
+    tuple-first _ _ ∙ rw (add-zero k) (ap (λ (v : Tuple). f k state v .tuple) (sym (tuple-first (fourOf x y z t) rest)))
+result-at f k state (x ∷ y ∷ z ∷ t ∷ rest) (suc j) h =
+    let turn = f k state (fourOf x y z t) in
+    let new = ranOf f (suc k) (turn .state) rest in
+    let e : 4 * suc j ≡ 4 + 4 * j = omega arith in
+    let d : 4 * suc j ≡ suc (suc (suc (suc (4 * j)))) = omega arith in
+    let n : suc k + j ≡ k + suc j = omega arith in
+    ap (tupleAt (numbersOf (turn .tuple) ++ new)) e
+    ∙ sym (tuple-beyond (numbersOf (turn .tuple) ++ new) 4 (4 * j))
+    ∙ result-at f (suc k) (turn .state) rest j (omega arith)
+    ∙ ap (λ (m : ℕ). f m (stateAfterOf f (suc k) (turn .state) (take (4 * j) rest)) (tupleAt rest (4 * j)) .tuple) n
+    ∙ ap (λ (v : Tuple). f (k + suc j) (stateAfterOf f (suc k) (turn .state) (take (4 * j) rest)) v .tuple) (tuple-beyond (x ∷ y ∷ z ∷ t ∷ rest) 4 (4 * j))
+    ∙ ap (λ (m : ℕ). f (k + suc j) (stateAfterOf f (suc k) (turn .state) (take (4 * j) rest)) (tupleAt (x ∷ y ∷ z ∷ t ∷ rest) m) .tuple) (sym e)
+    ∙ ap (λ (m : ℕ). f (k + suc j) (stateAfterOf f k state (take m (x ∷ y ∷ z ∷ t ∷ rest))) (tupleAt (x ∷ y ∷ z ∷ t ∷ rest) (4 * suc j)) .tuple) (sym d)
+result-at f k state (x ∷ y ∷ z ∷ []) j h = absurd (omega arith)
+result-at f k state (x ∷ y ∷ []) j h = absurd (omega arith)
+result-at f k state (x ∷ []) j h = absurd (omega arith)
+result-at f k state [] j h = absurd (omega arith)
+
+-- a step that hands its state on as it is carries the one that it started with
+pub state-stays : (f : Turns State) → ((k : ℕ) (state : State) (v : Tuple) → f k state v .state ≡ state)
+    → (k : ℕ) (state : State) (l : List Float) → stateAfterOf f k state l ≡ state
+state-stays f stays k state (x ∷ y ∷ z ∷ t ∷ rest) = state-stays f stays (suc k) (f k state (fourOf x y z t) .state) rest ∙ stays k state (fourOf x y z t)
+state-stays f stays k state (x ∷ y ∷ z ∷ []) = refl
+state-stays f stays k state (x ∷ y ∷ []) = refl
+state-stays f stays k state (x ∷ []) = refl
+state-stays f stays k state [] = refl
+
+-- ---- the redoing over what another run left
+
+-- the results and the track are those of the run
+pub record Renewed (d : Again) (f : Turns State) (k : ℕ) (state : State) (l : List Float) : Type 0 where
+  pub results-are : d .results ≡ ranOf f k state l
+  pub track-are : d .track ≡ trackOf trackedOf f k state l
+
+-- one fix: by the test's answer, from what the rest gives
+one-renewed : (f : Turns State) (k : ℕ) (old : State) (rest : List Float) (turn : Turn State) (o : Tuple) → o ≡ trackedOf old
+    → (met : Bool) → alikeOf (trackedOf (turn .state)) o ≡ met → (d : Again) → Renewed d f k (turn .state) rest
+    → (oneOf met turn (ranOf f k old rest) (trackOf trackedOf f k old rest) d .results ≡ numbersOf (turn .tuple) ++ ranOf f k (turn .state) rest)
+    × (oneOf met turn (ranOf f k old rest) (trackOf trackedOf f k old rest) d .track ≡ numbersOf (trackedOf (turn .state)) ++ trackOf trackedOf f k (turn .state) rest)
+one-renewed f k old rest turn o eo true e d r =
+    let h : old ≡ turn .state = sym (ap heldOf (alike-are-equal (trackedOf (turn .state)) o e ∙ eo)) in
+    (rw h, rw h)
+one-renewed f k old rest turn o eo false e d r = (rw (r .results-are), rw (r .track-are))
+
+-- over the same fixes, from any two states
+again-rest : (f : Turns State) (k : ℕ) (state old : State) (l : List Float) → Renewed (againOf f k state l (ranOf f k old l) (trackOf trackedOf f k old l)) f k state l
+again-rest f k state old (x ∷ y ∷ z ∷ t ∷ rest) =
+    let turn = f k state (fourOf x y z t) in
+    let was = f k old (fourOf x y z t) .state in
+    let r = one-renewed f (suc k) was rest turn _ (tuple-first (trackedOf was) (trackOf trackedOf f (suc k) was rest)) _ refl _ (again-rest f (suc k) (turn .state) was rest) in
+    record { results-are = r .0; track-are = r .1 }
+again-rest f k state old (x ∷ y ∷ z ∷ []) = record { results-are = refl; track-are = refl }
+again-rest f k state old (x ∷ y ∷ []) = record { results-are = refl; track-are = refl }
+again-rest f k state old (x ∷ []) = record { results-are = refl; track-are = refl }
+again-rest f k state old [] = record { results-are = refl; track-are = refl }
+
+-- and where the first fix was another
+pub again-first : (f : Turns State) (k : ℕ) (state old : State) (u v : Tuple) (rest : List Float)
+    → Renewed (againOf f k state (numbersOf u ++ rest) (ranOf f k old (numbersOf v ++ rest)) (trackOf trackedOf f k old (numbersOf v ++ rest))) f k state (numbersOf u ++ rest)
+again-first f k state old u v rest =
+    let turn = f k state u in
+    let was = f k old v .state in
+    let r = one-renewed f (suc k) was rest turn _ (tuple-first (trackedOf was) (trackOf trackedOf f (suc k) was rest)) _ refl _ (again-rest f (suc k) (turn .state) was rest) in
+    record { results-are = r .0; track-are = r .1 }
+
+-- ---- a run over two lists, one after the other
+
+-- n whole tuples
+pub data Whole : ℕ → List Float → Type 0 where
+  none : Whole zero []
+  more : {n : ℕ} {x y z t : Float} {l : List Float} → Whole n l → Whole (suc n) (x ∷ y ∷ z ∷ t ∷ l)
+
+pub whole-take : (n : ℕ) (l : List Float) → 4 * n ≤ length l → Whole n (take (4 * n) l)
+whole-take zero l h = none
+whole-take (suc n) (x ∷ y ∷ z ∷ t ∷ rest) h =
+    let e : 4 * suc n ≡ suc (suc (suc (suc (4 * n)))) = omega arith in
+    rw e (more (whole-take n rest (omega arith)))
+whole-take (suc n) (x ∷ y ∷ z ∷ []) h = absurd (omega arith)
+whole-take (suc n) (x ∷ y ∷ []) h = absurd (omega arith)
+whole-take (suc n) (x ∷ []) h = absurd (omega arith)
+whole-take (suc n) [] h = absurd (omega arith)
+
+next : (n k : ℕ) → n + suc k ≡ suc n + k
+next n k = omega arith
+
+pub ran-append : (f : Turns State) (k : ℕ) (state : State) {n : ℕ} {a : List Float} → Whole n a → (b : List Float)
+    → ranOf f k state (a ++ b) ≡ ranOf f k state a ++ ranOf f (n + k) (stateAfterOf f k state a) b
+ran-append f k state none b = rw (zero-add k)
+ran-append f k state (more {n} {x} {y} {z} {t} w) b =
+    ap (λ (l : List Float). numbersOf (f k state (fourOf x y z t) .tuple) ++ l) (rw (next n k) at (ran-append f (suc k) (f k state (fourOf x y z t) .state) w b))
+
+pub track-append : (f : Turns State) (k : ℕ) (state : State) {n : ℕ} {a : List Float} → Whole n a → (b : List Float)
+    → trackOf trackedOf f k state (a ++ b) ≡ trackOf trackedOf f k state a ++ trackOf trackedOf f (n + k) (stateAfterOf f k state a) b
+track-append f k state none b = rw (zero-add k)
+track-append f k state (more {n} {x} {y} {z} {t} w) b =
+    ap (λ (l : List Float). numbersOf (trackedOf (f k state (fourOf x y z t) .state)) ++ l) (rw (next n k) at (track-append f (suc k) (f k state (fourOf x y z t) .state) w b))
+
+pub state-append : (f : Turns State) (k : ℕ) (state : State) {n : ℕ} {a : List Float} → Whole n a → (b : List Float)
+    → stateAfterOf f k state (a ++ b) ≡ stateAfterOf f (n + k) (stateAfterOf f k state a) b
+state-append f k state none b = rw (zero-add k)
+state-append f k state (more {n} {x} {y} {z} {t} w) b = rw (next n k) at (state-append f (suc k) (f k state (fourOf x y z t) .state) w b)
+
+pub track-length : (f : Turns State) (k : ℕ) (state : State) (l : List Float) → length (trackOf trackedOf f k state l) ≡ length l
+track-length f k state (x ∷ y ∷ z ∷ t ∷ rest) = ap (λ (n : ℕ). suc (suc (suc (suc n)))) (track-length f (suc k) (f k state (fourOf x y z t) .state) rest)
+track-length f k state (x ∷ y ∷ z ∷ []) = refl
+track-length f k state (x ∷ y ∷ []) = refl
+track-length f k state (x ∷ []) = refl
+track-length f k state [] = refl

@@ -1,0 +1,12 @@
+-- `stretch::fits` meets its contract. Assumes nothing.
+use mathlib.Core.Path.{refl}
+use Rattle.stretch.specs.Kept.{fitOf}
+use Rattle.stretch.proofs.fits.Statement.{statement}
+use Rattle.stretch.proofs.fits.Tie as tie
+
+returns : tie.Need-returns
+unfolding fitOf
+returns c = refl
+
+pub fits-spec : {M : Type 1} → statement M
+fits-spec = tie.close (tie.spec returns)

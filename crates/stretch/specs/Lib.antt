@@ -1,0 +1,3 @@
+-- What the contracts of `stretch` cite.
+pub mod Same
+pub mod Kept
