@@ -1,29 +1,27 @@
--- Known values: the body of document 01's P1, and a Helmert body in which every field differs. Assumes nothing.
+-- Known values: the body of document 01's P1, and a Helmert body in which every field differs, read. Assumes nothing.
 use mathlib.Core.Path.{_≡_, refl}
 use mathlib.Core.Bool.{true, false}
 use mathlib.Core.List.{List, [], _∷_, _++_}
 use Prim.Native.Nat.{ℕ, _+_}
-use lib.Ieee.{Float, nan, binary64, ofBits, toBits, isNan, size, ofFields}
+use lib.Ieee.{Float, nan, ofBits, isNan, ofFields}
 use Rattle.floats.specs.Binary64.{bits}
-use Rattle.words.specs.Words.{word32, word64, numberAt, oneNanAt, le32, le64, leNumber}
+use Rattle.words.specs.Words.{word32, word64, numberAt, oneNanAt}
 use Rattle.rotation.specs.declared.Vec3.{Vec3}
 use Rattle.helmert.specs.declared.Helmert.{Helmert as HelmertRecord}
 use Rattle.helmert.specs.Rules.{fieldsInRuleOf, vectorsFiniteOf, scalesFiniteOf, finite3Of, timeOf}
-use Rattle.bodies.specs.declared.Step.{Step}
 use Rattle.bodies.specs.declared.Step.the-variants.{Cart, Helmert}
-use Rattle.bodies.specs.Kinds.{lengthOf, kindOf}
+use Rattle.bodies.specs.Kinds.{lengthOf}
 use Rattle.bodies.specs.Read.{vec3At, helmertOf, cartOf, blankStep, stepOf}
 use Rattle.bodies.specs.Rules.{stepInRule, writtenInRule, bodyInRule}
-use Rattle.bodies.specs.Write.{leVec3, leSeries, helmertBytes, cartBytes, bytesOf}
 
 -- ---- P1's body, the words 1 and 0
 
-abbrev p1 : List ℕ
+abbrev pub p1 : List ℕ
 p1 = 1 ∷ 0 ∷ 0 ∷ 0 ∷ 0 ∷ 0 ∷ 0 ∷ 0 ∷ []
 
-p1-is-grs80 : (stepOf 2 p1 ≡ Cart (record { ellipsoid = 1 })) × (bodyInRule 2 p1 ≡ true) × (bytesOf (Cart (record { ellipsoid = 1 })) ≡ p1)
-unfolding stepOf lengthOf cartOf word32 bodyInRule writtenInRule stepInRule bytesOf cartBytes le32
-p1-is-grs80 = (refl, refl, refl)
+p1-is-grs80 : (stepOf 2 p1 ≡ Cart (record { ellipsoid = 1 })) × (bodyInRule 2 p1 ≡ true)
+unfolding stepOf lengthOf cartOf word32 bodyInRule writtenInRule stepInRule
+p1-is-grs80 = (refl, refl)
 
 -- cut by a byte, under another kind, or with a word in the reserved place it is not in rule
 p1-damaged :
@@ -46,7 +44,7 @@ eight k = k ∷ 0 ∷ 0 ∷ 0 ∷ 0 ∷ 0 ∷ 0xf0 ∷ 0x3f ∷ []
 abbrev three : ℕ → ℕ → ℕ → Vec3
 three i j k = record { x = number i; y = number j; z = number k }
 
-distinct : HelmertRecord
+unfoldable pub distinct : HelmertRecord
 distinct =
     record {
       flags = 5;
@@ -67,7 +65,7 @@ distinct =
       «t_obs» = nan;
     }
 
-body : List ℕ
+unfoldable pub body : List ℕ
 body =
     (5 ∷ 0 ∷ 0 ∷ 0 ∷ 2 ∷ 0 ∷ 0 ∷ 0 ∷ [])
     ++ eight 1 ++ eight 2 ++ eight 3
@@ -80,10 +78,6 @@ body =
     ++ eight 22 ++ eight 23 ++ eight 24
     ++ eight 25 ++ eight 26 ++ eight 27 ++ eight 28 ++ eight 29
     ++ (0 ∷ 0 ∷ 0 ∷ 0 ∷ 0 ∷ 0 ∷ 0xf8 ∷ 0x7f ∷ [])
-
-distinct-written : bytesOf (Helmert distinct) ≡ body
-unfolding distinct body bytesOf helmertBytes leSeries leVec3 leNumber le64 le32 toBits ofBits size ofFields
-distinct-written = refl
 
 distinct-read : stepOf 1 body ≡ Helmert distinct
 unfolding distinct body stepOf lengthOf helmertOf vec3At numberAt word64 word32 ofBits ofFields

@@ -1,6 +1,6 @@
 -- Rule 5 on a body, and rules 5 to 8 on a step. What a record's fields may be is said in the crate of its kind; here stands what only the bytes show.
 use Prim.Native.Nat.{ℕ}
-use mathlib.Core.Bool.{Bool, false, _&&_}
+use mathlib.Core.Bool.{Bool, false, cond, _&&_}
 use mathlib.Core.List.{List}
 use lib.Dec.{eqb}
 use lib.ListN.{length}
@@ -65,3 +65,12 @@ writtenInRule kind b =
 -- rule 5 on the bytes of a body: its length is its kind's, it is written by the rule, and so are the fields of its record
 unfoldable pub bodyInRule : ℕ → List ℕ → Bool
 bodyInRule kind b = eqb (length b) (lengthOf kind) && writtenInRule kind b && stepInRule (stepOf kind b)
+
+-- the lowest of rules 5 to 8 that a body breaks; 0 where it keeps all four
+unfoldable pub lowestBroken : ℕ → List ℕ → ℕ
+lowestBroken kind b =
+    cond (bodyInRule kind b)
+    (cond (lacksConvention (stepOf kind b)) 6
+    (cond (lacksEpoch (stepOf kind b)) 7
+    (cond (lacksDuration (stepOf kind b)) 8 0)))
+    5

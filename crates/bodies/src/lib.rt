@@ -1,20 +1,15 @@
-// The bodies of the sheet's steps: each kind's bytes read into its record, tested by rule 5, and written.
+// The bodies of the sheet's steps: each kind's bytes read into its record, and tested by rules 5 to 8.
 //
-// The layout is document 01's table, each field at one stated place: specs/Read.antt has a reader's line a field with the place of its first byte, and
-// specs/Write.antt the bytes in order; proofs/Laws.antt shows that the two say the same, both ways. A body is lent as a part of the sheet that starts in
-// its middle. Its length is tested once, so that a field is one load; no record is built to be tested. What a record's fields may be is said in the crate
-// of its kind. Exact: every bit of every number comes back, zeros by sign, and "not given" is 7ff8000000000000 and no other NaN. Used by the sheet.
+// The layout is document 01's table, each field at one stated place: specs/Read.antt has a reader's line a field with the place of its first byte. The bytes
+// in order, and that the two say the same, stand in body_writer. A body is lent as a part of the sheet that starts in its middle. Its length is tested once,
+// so that a field is one load, and it is decoded once to be tested. What a record's fields may be is said in the crate of its kind. Exact: every bit of every
+// number comes back, zeros by sign, and "not given" is 7ff8000000000000 and no other NaN. Used by the sheet, and by who reads a body of a known kind.
 ghost use mathlib.Core.Path.{_≡_};
-ghost use mathlib.Core.Bool.{_&&_};
 ghost use Prim.Native.Nat.{_+_, _≤_};
-ghost use lib.Dec.{eqb};
 ghost use lib.ListN.{length};
-ghost use Rattle.helmert.specs.Rules.{fieldsInRuleOf};
-ghost use Rattle.words.specs.Words.{word32, oneNanAt, put, putOf};
 ghost use Rattle.bodies.specs.Kinds.{kindOf, lengthOf};
-ghost use Rattle.bodies.specs.Read.{vec3At, helmertOf, cartOf, molodenskyOf, permtideOf, deformationOf, blankStep, stepOf};
-ghost use Rattle.bodies.specs.Rules.{stepInRule, lacksConvention, lacksEpoch, lacksDuration, bodyInRule};
-ghost use Rattle.bodies.specs.Write.{leVec3, leSeries, helmertBytes, cartBytes, molodenskyBytes, permtideBytes, deformationBytes, bytesOf};
+ghost use Rattle.bodies.specs.Read.{vec3At, helmertOf, cartOf, molodenskyOf, permtideOf, deformationOf, helmertIn, cartIn, molodenskyIn, permtideIn, deformationIn, blankStep, stepOf};
+ghost use Rattle.bodies.specs.Rules.{stepInRule, lacksConvention, lacksEpoch, lacksDuration, bodyInRule, lowestBroken};
 use cart::Cart;
 use deformation::Deformation;
 use helmert::Helmert;
@@ -76,7 +71,7 @@ pub fn blank_step() -> Step
 
 // ----- reading ---------------------------------------------------------------------------
 
-// The readers below are lent a body of their kind's length, and take all of it as a part: the compiler then knows how long it is, and no field is tested.
+// Bodies of their kind's length are taken whole as a part: the compiler then knows how long they are, and no field is tested.
 fn read_vec3(b: &[u8], at: usize) -> Vec3
     requires { ⌜ at + 24 ≤ length (now b) ⌝ }
     ensures { λ r. ⌜ r ≡ vec3At (now (b .entry)) at ⌝ }
@@ -90,7 +85,7 @@ fn read_vec3(b: &[u8], at: usize) -> Vec3
     }
 }
 
-fn read_helmert(b: &[u8]) -> Helmert
+fn helmert_fields(b: &[u8]) -> Helmert
     requires { ⌜ length (now b) ≡ 248 ⌝ }
     ensures { λ r. ⌜ r ≡ helmertOf (now (b .entry)) ⌝ }
 {
@@ -115,7 +110,7 @@ fn read_helmert(b: &[u8]) -> Helmert
     }
 }
 
-fn read_cart(b: &[u8]) -> Cart
+fn cart_fields(b: &[u8]) -> Cart
     ensures { λ r. ⌜ r ≡ cartOf (now (b .entry)) ⌝ }
 {
     Cart {
@@ -123,7 +118,7 @@ fn read_cart(b: &[u8]) -> Cart
     }
 }
 
-fn read_molodensky(b: &[u8]) -> Molodensky
+fn molodensky_fields(b: &[u8]) -> Molodensky
     requires { ⌜ length (now b) ≡ 56 ⌝ }
     ensures { λ r. ⌜ r ≡ molodenskyOf (now (b .entry)) ⌝ }
 {
@@ -140,7 +135,7 @@ fn read_molodensky(b: &[u8]) -> Molodensky
     }
 }
 
-fn read_permtide(b: &[u8]) -> Permtide
+fn permtide_fields(b: &[u8]) -> Permtide
     requires { ⌜ length (now b) ≡ 24 ⌝ }
     ensures { λ r. ⌜ r ≡ permtideOf (now (b .entry)) ⌝ }
 {
@@ -153,7 +148,7 @@ fn read_permtide(b: &[u8]) -> Permtide
     }
 }
 
-fn read_deformation(b: &[u8]) -> Deformation
+fn deformation_fields(b: &[u8]) -> Deformation
     requires { ⌜ length (now b) ≡ 24 ⌝ }
     ensures { λ r. ⌜ r ≡ deformationOf (now (b .entry)) ⌝ }
 {
@@ -166,37 +161,83 @@ fn read_deformation(b: &[u8]) -> Deformation
     }
 }
 
+// The record of a body whose kind is known, with no step made of it. A body of another length than its kind's reads as the blank record.
+pub fn read_helmert(b: &[u8]) -> Helmert
+    ensures { λ r. ⌜ r ≡ helmertIn (now (b .entry)) ⌝ }
+{
+    if b.len() == 248 {
+        return helmert_fields(b);
+    }
+    Helmert::blank()
+}
+
+pub fn read_cart(b: &[u8]) -> Cart
+    ensures { λ r. ⌜ r ≡ cartIn (now (b .entry)) ⌝ }
+{
+    if b.len() == 8 {
+        return cart_fields(b);
+    }
+    Cart::blank()
+}
+
+pub fn read_molodensky(b: &[u8]) -> Molodensky
+    ensures { λ r. ⌜ r ≡ molodenskyIn (now (b .entry)) ⌝ }
+{
+    if b.len() == 56 {
+        return molodensky_fields(b);
+    }
+    Molodensky::blank()
+}
+
+pub fn read_permtide(b: &[u8]) -> Permtide
+    ensures { λ r. ⌜ r ≡ permtideIn (now (b .entry)) ⌝ }
+{
+    if b.len() == 24 {
+        return permtide_fields(b);
+    }
+    Permtide::blank()
+}
+
+pub fn read_deformation(b: &[u8]) -> Deformation
+    ensures { λ r. ⌜ r ≡ deformationIn (now (b .entry)) ⌝ }
+{
+    if b.len() == 24 {
+        return deformation_fields(b);
+    }
+    Deformation::blank()
+}
+
 // The step that a body holds. A body of another length than its kind's, or of no kind, reads as the blank cart step.
 pub fn read_body(kind: u32, b: &[u8]) -> Step
     ensures { λ r. ⌜ r ≡ stepOf kind (now (b .entry)) ⌝ }
 {
     if kind == 1 {
         if b.len() == 248 {
-            return Step::Helmert(read_helmert(b));
+            return Step::Helmert(helmert_fields(b));
         }
         return blank_step();
     }
     if kind == 2 {
         if b.len() == 8 {
-            return Step::Cart(read_cart(b));
+            return Step::Cart(cart_fields(b));
         }
         return blank_step();
     }
     if kind == 3 {
         if b.len() == 56 {
-            return Step::Molodensky(read_molodensky(b));
+            return Step::Molodensky(molodensky_fields(b));
         }
         return blank_step();
     }
     if kind == 4 {
         if b.len() == 24 {
-            return Step::Permtide(read_permtide(b));
+            return Step::Permtide(permtide_fields(b));
         }
         return blank_step();
     }
     if kind == 5 {
         if b.len() == 24 {
-            return Step::Deformation(read_deformation(b));
+            return Step::Deformation(deformation_fields(b));
         }
         return blank_step();
     }
@@ -257,171 +298,107 @@ pub fn lacks_duration(step: Step) -> bool
     }
 }
 
+// The lowest of rules 5 to 8 that a body of each kind breaks, its record decoded once; 0 where it keeps all four.
+fn broken_helmert(b: &[u8]) -> u32
+    ensures { λ r. ⌜ r ≡ lowestBroken 1 (now (b .entry)) ⌝ }
+{
+    if b.len() != 248 {
+        return 5;
+    }
+    let h = helmert_fields(b);
+    let five = words::one_nan(b, 232) & words::one_nan(b, 240) & h.fields_in_rule();
+    if !five {
+        return 5;
+    }
+    if h.lacks_convention() {
+        return 6;
+    }
+    if h.lacks_epoch() {
+        return 7;
+    }
+    0
+}
+
+fn broken_cart(b: &[u8]) -> u32
+    ensures { λ r. ⌜ r ≡ lowestBroken 2 (now (b .entry)) ⌝ }
+{
+    if b.len() != 8 {
+        return 5;
+    }
+    let five = (words::read32(b, 4) == 0) & cart_fields(b).in_rule();
+    if !five {
+        return 5;
+    }
+    0
+}
+
+fn broken_molodensky(b: &[u8]) -> u32
+    ensures { λ r. ⌜ r ≡ lowestBroken 3 (now (b .entry)) ⌝ }
+{
+    if b.len() != 56 {
+        return 5;
+    }
+    let five = (words::read32(b, 12) == 0) & molodensky_fields(b).in_rule();
+    if !five {
+        return 5;
+    }
+    0
+}
+
+fn broken_permtide(b: &[u8]) -> u32
+    ensures { λ r. ⌜ r ≡ lowestBroken 4 (now (b .entry)) ⌝ }
+{
+    if b.len() != 24 {
+        return 5;
+    }
+    let five = (words::read32(b, 12) == 0) & permtide_fields(b).in_rule();
+    if !five {
+        return 5;
+    }
+    0
+}
+
+fn broken_deformation(b: &[u8]) -> u32
+    ensures { λ r. ⌜ r ≡ lowestBroken 5 (now (b .entry)) ⌝ }
+{
+    if b.len() != 24 {
+        return 5;
+    }
+    let d = deformation_fields(b);
+    let five = words::one_nan(b, 8) & words::one_nan(b, 16) & d.in_rule();
+    if !five {
+        return 5;
+    }
+    if d.lacks_duration() {
+        return 8;
+    }
+    0
+}
+
+pub fn lowest_broken(kind: u32, b: &[u8]) -> u32
+    ensures { λ r. ⌜ r ≡ lowestBroken kind (now (b .entry)) ⌝ }
+{
+    if kind == 1 {
+        return broken_helmert(b);
+    }
+    if kind == 2 {
+        return broken_cart(b);
+    }
+    if kind == 3 {
+        return broken_molodensky(b);
+    }
+    if kind == 4 {
+        return broken_permtide(b);
+    }
+    if kind == 5 {
+        return broken_deformation(b);
+    }
+    5
+}
+
 // Rule 5 on the bytes of a body.
 pub fn body_in_rule(kind: u32, b: &[u8]) -> bool
     ensures { λ r. ⌜ r ≡ bodyInRule kind (now (b .entry)) ⌝ }
 {
-    if kind == 1 {
-        if b.len() == 248 {
-            return words::one_nan(b, 232)
-                & words::one_nan(b, 240)
-                & read_helmert(b).fields_in_rule();
-        }
-        return false;
-    }
-    if kind == 2 {
-        if b.len() == 8 {
-            return (words::read32(b, 4) == 0) & read_cart(b).in_rule();
-        }
-        return false;
-    }
-    if kind == 3 {
-        if b.len() == 56 {
-            return (words::read32(b, 12) == 0) & read_molodensky(b).in_rule();
-        }
-        return false;
-    }
-    if kind == 4 {
-        if b.len() == 24 {
-            return (words::read32(b, 12) == 0) & read_permtide(b).in_rule();
-        }
-        return false;
-    }
-    if kind == 5 {
-        if b.len() == 24 {
-            return words::one_nan(b, 8) & words::one_nan(b, 16) & read_deformation(b).in_rule();
-        }
-        return false;
-    }
-    false
-}
-
-// ----- writing ---------------------------------------------------------------------------
-
-fn put_vec3(room: &mut [u8], at: usize, v: Vec3)
-    requires { ⌜ at + 24 ≤ length (now room) ⌝ }
-    ensures { λ _. ⌜ now (room .exit) ≡ put (now (room .entry)) at (leVec3 v) ⌝ }
-{
-    words::put_number(room, at, v.x);
-    words::put_number(room, at + 8, v.y);
-    words::put_number(room, at + 16, v.z);
-}
-
-fn put_series(
-    room: &mut [u8],
-    at: usize,
-    series: Vec3,
-    singles: Vec3,
-    rate: Vec3,
-    rate_singles: Vec3,
-)
-    requires { ⌜ at + 96 ≤ length (now room) ⌝ }
-    ensures { λ _. ⌜ now (room .exit) ≡ put (now (room .entry)) at (leSeries series singles rate «rate_singles») ⌝ }
-{
-    put_vec3(room, at, series);
-    put_vec3(room, at + 24, singles);
-    put_vec3(room, at + 48, rate);
-    put_vec3(room, at + 72, rate_singles);
-}
-
-fn put_helmert(body: &mut [u8], h: Helmert)
-    requires { ⌜ length (now body) ≡ 248 ⌝ }
-    ensures { λ _. ⌜ now (body .exit) ≡ helmertBytes h ⌝ }
-{
-    words::put32(body, 0, h.flags);
-    words::put32(body, 4, h.convention);
-    put_series(body, 8, h.translation, h.xyz, h.translation_rate, h.dxyz);
-    put_series(body, 104, h.rotation, h.rxyz, h.rotation_rate, h.drxyz);
-    words::put_number(body, 200, h.scale);
-    words::put_number(body, 208, h.s);
-    words::put_number(body, 216, h.scale_rate);
-    words::put_number(body, 224, h.ds);
-    words::put_number(body, 232, h.t_epoch);
-    words::put_number(body, 240, h.t_obs);
-}
-
-fn put_cart(body: &mut [u8], r: Cart)
-    requires { ⌜ length (now body) ≡ 8 ⌝ }
-    ensures { λ _. ⌜ now (body .exit) ≡ cartBytes r ⌝ }
-{
-    words::put32(body, 0, r.ellipsoid);
-    words::put32(body, 4, 0);
-}
-
-fn put_molodensky(body: &mut [u8], r: Molodensky)
-    requires { ⌜ length (now body) ≡ 56 ⌝ }
-    ensures { λ _. ⌜ now (body .exit) ≡ molodenskyBytes r ⌝ }
-{
-    words::put32(body, 0, r.flags);
-    words::put32(body, 4, r.first);
-    words::put32(body, 8, r.second);
-    words::put32(body, 12, 0);
-    words::put_number(body, 16, r.dx);
-    words::put_number(body, 24, r.dy);
-    words::put_number(body, 32, r.dz);
-    words::put_number(body, 40, r.da);
-    words::put_number(body, 48, r.df);
-}
-
-fn put_permtide(body: &mut [u8], r: Permtide)
-    requires { ⌜ length (now body) ≡ 24 ⌝ }
-    ensures { λ _. ⌜ now (body .exit) ≡ permtideBytes r ⌝ }
-{
-    words::put32(body, 0, r.ellipsoid);
-    words::put32(body, 4, r.to);
-    words::put32(body, 8, r.from);
-    words::put32(body, 12, 0);
-    words::put_number(body, 16, r.k);
-}
-
-fn put_deformation(body: &mut [u8], r: Deformation)
-    requires { ⌜ length (now body) ≡ 24 ⌝ }
-    ensures { λ _. ⌜ now (body .exit) ≡ deformationBytes r ⌝ }
-{
-    words::put32(body, 0, r.flags);
-    words::put32(body, 4, r.ellipsoid);
-    words::put_number(body, 8, r.dt);
-    words::put_number(body, 16, r.epoch);
-}
-
-// The bytes of a step's body from a place on; nothing is written where they do not fit.
-pub fn write_body(room: &mut [u8], at: usize, step: Step)
-    ensures { λ _. ⌜ now (room .exit) ≡ putOf (now (room .entry)) at (bytesOf step) ⌝ }
-{
-    if room.len() < at {
-        return;
-    }
-    let left = room.len() - at;
-    match step {
-        Step::Helmert(h) => {
-            if 248 <= left {
-                let end = at + 248;
-                put_helmert(&mut room[at..end], h);
-            }
-        }
-        Step::Cart(r) => {
-            if 8 <= left {
-                let end = at + 8;
-                put_cart(&mut room[at..end], r);
-            }
-        }
-        Step::Molodensky(r) => {
-            if 56 <= left {
-                let end = at + 56;
-                put_molodensky(&mut room[at..end], r);
-            }
-        }
-        Step::Permtide(r) => {
-            if 24 <= left {
-                let end = at + 24;
-                put_permtide(&mut room[at..end], r);
-            }
-        }
-        Step::Deformation(r) => {
-            if 24 <= left {
-                let end = at + 24;
-                put_deformation(&mut room[at..end], r);
-            }
-        }
-    }
+    lowest_broken(kind, b) != 5
 }

@@ -14,9 +14,10 @@ use Rattle.words.specs.Words.{Bytes, word32, le32, put}
 use Rattle.words.proofs.Laws.{le32-word32}
 use Rattle.bodies.specs.Kinds.{lengthOf, kindOf}
 use Rattle.bodies.specs.Read.{stepOf}
-use Rattle.bodies.specs.Write.{bytesOf}
+use Rattle.body_writer.specs.Write.{bytesOf}
 use Rattle.bodies.specs.Rules.{bodyInRule, stepInRule}
-use Rattle.bodies.proofs.Laws.{bytes-length, kind-after-read, write-after-read, step-of-body-in-rule}
+use Rattle.bodies.proofs.Laws.{kind-after-read, step-of-body-in-rule}
+use Rattle.body_writer.proofs.Laws.{bytes-length, write-after-read}
 use Rattle.sheet.specs.declared.Entry.{Entry}
 use Rattle.sheet.specs.Layout.{formOf, totalLengthOf, stepCountOf, kindAt, invertedAt, offsetAt, lengthAt, directoryEnd, bodyAt, stepAt, entryAt, entriesFrom, recordOf}
 use Rattle.sheet.specs.Bytes.{entryOf, stepIn, kindIn, lengthIn, bodyStart, sheetLength, headerBytes, placeBytes, directoryBytes, bodiesBytes, sheetBytesOf}

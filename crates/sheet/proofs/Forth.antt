@@ -14,10 +14,10 @@ use Rattle.bodies.specs.declared.Step.{Step}
 use Rattle.bodies.specs.declared.Step.the-variants.{Cart, Permtide, Deformation, Molodensky, Helmert}
 use Rattle.bodies.specs.Kinds.{lengthOf, kindOf}
 use Rattle.bodies.specs.Read.{stepOf}
-use Rattle.bodies.specs.Write.{bytesOf}
+use Rattle.body_writer.specs.Write.{bytesOf}
 use Rattle.bodies.specs.Rules.{bodyInRule, stepInRule}
 use Rattle.bodies.specs.Held.{Held}
-use Rattle.bodies.proofs.Laws.{bytes-length, read-after-write, in-rule-after-write}
+use Rattle.body_writer.proofs.Laws.{bytes-length, read-after-write, in-rule-after-write}
 use Rattle.sheet.specs.declared.Entry.{Entry}
 use Rattle.sheet.specs.declared.Sheet.{Sheet}
 use Rattle.sheet.specs.Layout.{formOf, totalLengthOf, stepCountOf, directoryOffsetOf, kindAt, invertedAt, offsetAt, lengthAt, directoryEnd, bodyAt, stepAt, entryAt}

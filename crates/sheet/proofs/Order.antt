@@ -2,15 +2,17 @@
 use mathlib.Core.Path.{_≡_, refl, sym, ap, _∙_}
 use Prim.Native.Nat.{ℕ, zero, suc, _+_, _<_, _≤_}
 use mathlib.Core.List.{List, [], _∷_, _++_}
-use mathlib.Core.Bool.{Bool, true, false, cond, _||_, true≢false}
+use mathlib.Core.Bool.{Bool, true, false, not, cond, _||_, true≢false}
 use native.Mathlib.Omega.{arith}
 use native.Mathlib.Numerals.{add-one}
 use borrow.Author.Tests.{eqb-false, ltb-false}
 use lib.Dec.{eqb, ltb}
 use Rattle.bodies.specs.declared.Step.{Step}
+use Rattle.bodies.specs.Read.{stepOf}
+use Rattle.bodies.specs.Rules.{bodyInRule, lacksConvention, lacksEpoch, lacksDuration, lowestBroken}
 use Rattle.sheet.specs.declared.Refusal.{Refusal}
 use Rattle.sheet.specs.Layout.{offsetAt, lengthAt, stepCountOf, kindAt, stepAt}
-use Rattle.sheet.specs.Rules.{Rule, rule, ofSheet, ofStep, accepted, firstBroken, rulesOfStep, fiveToEight, elevens, refusal6, refusal7, refusal8, refusal11, deformationBefore, someFrom, endBefore, refusal1, refusal2, refusal3, refusal4, refusal5At, readerOrder, refusalOf}
+use Rattle.sheet.specs.Rules.{Rule, rule, ofSheet, ofStep, accepted, firstBroken, rulesOfStep, fiveToEight, elevens, refusal6, refusal7, refusal8, refusal11, deformationBefore, someFrom, endBefore, refusal1, refusal2, refusal3, refusal4, refusal5, refusal5At, readerOrder, refusalOf}
 
 -- every rule has a number
 pub data Numbered : List Rule → Type 0 where
@@ -61,6 +63,28 @@ unfolding firstBroken
 broken-first [] m h = absurd (h refl)
 broken-first (r ∷ l) m h =
     broken-one (r .broken) (r .answer) (firstBroken l) (firstBroken (l ++ m)) h (broken-first l m)
+
+-- ---- a body
+
+-- a refusal of step i by its number, 0 being none
+abbrev pub byNumber : ℕ → ℕ → Refusal
+byNumber i n = cond (eqb n 0) accepted (ofStep n i)
+
+by-lowest : (i : ℕ) (five six seven eight : Bool)
+    → cond (not five) (ofStep 5 i) (cond six (ofStep 6 i) (cond seven (ofStep 7 i) (cond eight (ofStep 8 i) accepted)))
+    ≡ byNumber i (cond five (cond six 6 (cond seven 7 (cond eight 8 0))) 5)
+by-lowest i false six seven eight = refl
+by-lowest i true true seven eight = refl
+by-lowest i true false true eight = refl
+by-lowest i true false false true = refl
+by-lowest i true false false false = refl
+
+-- of a body's rules 5 to 8 the first that is broken is the lowest
+pub lowest-first : (i kind : ℕ) (b : List ℕ)
+    → firstBroken (rulesOfStep i (refusal5 kind b) (stepOf kind b)) ≡ byNumber i (lowestBroken kind b)
+unfolding firstBroken rulesOfStep refusal5 lowestBroken
+lowest-first i kind b =
+    by-lowest i (bodyInRule kind b) (lacksConvention (stepOf kind b)) (lacksEpoch (stepOf kind b)) (lacksDuration (stepOf kind b))
 
 -- ---- a turn of each loop
 

@@ -11,8 +11,8 @@ use lib.ListN.{length, length-append}
 use Rattle.words.specs.Words.{le32, put}
 use Rattle.words.proofs.Laws.{length-le32, put-put}
 use Rattle.bodies.specs.Kinds.{lengthOf, kindOf}
-use Rattle.bodies.specs.Write.{bytesOf}
-use Rattle.bodies.proofs.Laws.{bytes-length}
+use Rattle.body_writer.specs.Write.{bytesOf}
+use Rattle.body_writer.proofs.Laws.{bytes-length}
 use Rattle.sheet.specs.declared.Sheet.{Sheet}
 use Rattle.sheet.specs.Bytes.{entryOf, stepIn, kindIn, lengthIn, bodyStart, sheetLength, headerBytes, placeBytes, directoryBytes, bodiesBytes, sheetBytesOf}
 

@@ -6,7 +6,7 @@ use Rattle.words.specs.Words.{le32}
 use Rattle.bodies.specs.declared.Step.{Step}
 use Rattle.bodies.specs.declared.Step.the-variants.{Cart}
 use Rattle.bodies.specs.Kinds.{lengthOf, kindOf}
-use Rattle.bodies.specs.Write.{bytesOf}
+use Rattle.body_writer.specs.Write.{bytesOf}
 use Rattle.sheet.specs.declared.Entry.{Entry}
 use Rattle.sheet.specs.declared.Sheet.{Sheet}
 use Rattle.sheet.specs.Layout.{directoryEnd}

@@ -11,7 +11,7 @@ ghost use Prim.Native.Nat.{_+_, _*_, _<_, _≤_};
 ghost use lib.ListN.{length, take, drop};
 ghost use mathlib.Core.List.{_++_};
 ghost use Rattle.words.specs.Words.{le32, put};
-ghost use Rattle.bodies.specs.Write.{bytesOf};
+ghost use Rattle.body_writer.specs.Write.{bytesOf};
 ghost use Rattle.sheet.specs.Layout.{stepCountOf, kindAt, bodyAt, stepAt, blankEntry, blankSheet, entryAt, recordOf};
 ghost use Rattle.sheet.specs.Bytes.{entryOf, stepIn, kindIn, lengthIn, bodyStart, sheetLength, placeBytes, directoryBytes, bodiesBytes, sheetBytesOf};
 ghost use Rattle.sheet.specs.Rules.{refusal1, refusal3, refusal4, refusal5At, recordRefusal4, recordRefusal5, invertedBrokenIn, someFrom, endBefore, placeBroken, ofSheet, ofStep, rulesOfStep, fiveToEight, elevens, accepted, firstBroken, refusalOf, readingOf, writerRefusalOf, writtenOf};
@@ -243,11 +243,11 @@ fn check_body(s: &[u8], i: usize) -> Refusal
 {
     let kind = words::read32(s, 16 + 16 * i);
     let body = body_at(s, i);
-    check_step(
-        i,
-        !bodies::body_in_rule(kind, body),
-        bodies::read_body(kind, body),
-    )
+    let number = bodies::lowest_broken(kind, body);
+    if number == 0 {
+        return Refusal::none();
+    }
+    Refusal::of_step(number, i)
 }
 
 // Step by step 5 to 8.
@@ -522,7 +522,7 @@ fn put_body(room: &mut [u8], sheet: Sheet, i: usize, start: usize)
 {
     let entry = entry_in(sheet, i);
     let step = entry.step;
-    bodies::write_body(room, start, step);
+    body_writer::write_body(room, start, step);
 }
 
 fn put_bodies(room: &mut [u8], sheet: Sheet, n: usize)

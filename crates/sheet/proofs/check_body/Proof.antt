@@ -1,5 +1,6 @@
 -- `sheet::check_body` meets its contract. Assumes nothing.
-use Rattle.sheet.specs.Rules.{refusal5}
+use borrow.Author.Tests.{ne-eqb}
+use Rattle.sheet.proofs.Order.{lowest-first}
 use borrow.Author.Needs.{needs}
 use Rattle.sheet.proofs.check_body.Statement.{statement}
 use Rattle.sheet.proofs.check_body.Tie as tie
@@ -16,18 +17,20 @@ read32-requires c κs = search needs
 body-at-requires : tie.Need-body-at-requires
 body-at-requires c κs = search needs
 
-body-in-rule-requires : tie.Need-body-in-rule-requires
-body-in-rule-requires c κs = search needs
+lowest-broken-requires : tie.Need-lowest-broken-requires
+lowest-broken-requires c κs = search needs
 
-read-body-requires : tie.Need-read-body-requires
-read-body-requires c κs = search needs
-
-check-step-requires : tie.Need-check-step-requires
-check-step-requires c κs = search needs
+none-requires : tie.Need-none-requires
+none-requires c κs = search needs
 
 returns : tie.Need-returns
-unfolding refusal5
-returns c = rw (c .check-step .ensures, c .before .read-body .ensures, c .before .before .body-in-rule .ensures, c .before .before .before .body-at .ensures, c .before .before .before .before .read32 .ensures)
+returns c = rw (lowest-first, ← c .before .before .before .body-at .ensures, ← c .before .before .before .before .read32 .ensures, ← c .before .before .lowest-broken .ensures, c .before .if1 .taken, c .none .ensures)
+
+of-step-requires : tie.Need-of-step-requires
+of-step-requires c κs = search needs
+
+returns-2 : tie.Need-returns-2
+returns-2 c = rw (lowest-first, ← c .before .before .before .body-at .ensures, ← c .before .before .before .before .read32 .ensures, ← c .before .before .lowest-broken .ensures, ne-eqb _ 0 (c .before .if1 .left), c .of-step .ensures)
 
 pub check-body-spec : {M : Type 1} → statement M
 check-body-spec =
@@ -37,7 +40,8 @@ check-body-spec =
     add-read32
     read32-requires
     body-at-requires
-    body-in-rule-requires
-    read-body-requires
-    check-step-requires
-    returns)
+    lowest-broken-requires
+    none-requires
+    returns
+    of-step-requires
+    returns-2)

@@ -2,11 +2,11 @@
 use mathlib.Core.Path.{_≡_, _∙_}
 use lib.ListN.{length}
 use Prim.Native.Nat.{_+_, _≤_}
-use Rattle.bodies.specs.Write.{bytesOf}
+use Rattle.body_writer.specs.Write.{bytesOf}
 use native.Mathlib.Omega.{arith}
 use mathlib.Core.Path.{_∙_}
 use Rattle.words.proofs.Laws.{put-fits}
-use Rattle.bodies.proofs.Laws.{bytes-length}
+use Rattle.body_writer.proofs.Laws.{bytes-length}
 use Rattle.sheet.specs.Bytes.{stepIn}
 use borrow.Author.Needs.{needs}
 use Rattle.sheet.proofs.put_body.Statement.{statement}
