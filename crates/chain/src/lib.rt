@@ -14,7 +14,7 @@ ghost use Rattle.cart.specs.Record.{blankOf};
 ghost use Rattle.bodies.specs.Read.{cartIn, stepOf};
 ghost use Rattle.lists.specs.Run.{ranOf, countOf};
 ghost use Rattle.sheet.specs.Rules.{ofSheet, deformationBefore};
-ghost use Rattle.chain.specs.Chain.{turnsOf, stateOf, turnedOf, stepListOf, stepCountOf, forwardOf, inverseOf, placesOf, entriesOf};
+ghost use Rattle.chain.specs.Chain.{turnsOf, stateOf, heldKindOf, turnedOf, stepListOf, stepCountOf, forwardOf, inverseOf, placesOf, entriesOf};
 ghost use Rattle.chain.specs.Rules.{refusal9, overOne, lentFor, refusal10, refusedAnswer, ranAnswer, outcome, shiftOf};
 use cart::Cart;
 use sheet::Entry;
@@ -47,7 +47,17 @@ fn wide(x: u32) -> usize
     x as usize
 }
 
-// The cart step that a body holds; the blank one where the body is of no kind, or of another length than its kind's.
+// A body's kind where the body is as long as its kind's are, else 0.
+fn held_kind(kind: u32, length: usize) -> u32
+    ensures { λ r. ⌜ r ≡ heldKindOf kind length ⌝ }
+{
+    if length == wide(bodies::length_of(kind)) {
+        return kind;
+    }
+    0
+}
+
+// The cart step that a body holds, blank where no kind is held.
 fn cart_of(kind: u32, b: &[u8]) -> Cart
     ensures { λ r. ⌜ r ≡ cond (eqb kind 2) (cartIn (now (b .entry))) blankOf ⌝ }
 {
@@ -69,16 +79,17 @@ fn run_body(
     ensures { λ r. ⌜ (now (list .exit) ≡ ranOf (turnsOf inv (now (velocities .entry)) (now (marks .entry)) (stepOf kind (now (b .entry)))) 0 (stateOf (stepOf kind (now (b .entry)))) (now (list .entry)))
         × (r ≡ countOf (turnsOf inv (now (velocities .entry)) (now (marks .entry)) (stepOf kind (now (b .entry)))) 0 (stateOf (stepOf kind (now (b .entry)))) (now (list .entry))) ⌝ }
 {
-    if (kind == 1) & (b.len() == 248) {
+    let held = held_kind(kind, b.len());
+    if held == 1 {
         return helmert_runs::run_helmert(list, inv, bodies::read_helmert(b));
     }
-    if (kind == 3) & (b.len() == 56) {
+    if held == 3 {
         return runs::run_molodensky(list, inv, bodies::read_molodensky(b));
     }
-    if (kind == 4) & (b.len() == 24) {
+    if held == 4 {
         return runs::run_permtide(list, inv, bodies::read_permtide(b));
     }
-    if (kind == 5) & (b.len() == 24) {
+    if held == 5 {
         return deformation_runs::run_deformation(
             list,
             inv,
@@ -87,7 +98,7 @@ fn run_body(
             marks,
         );
     }
-    runs::run_cart(list, inv, cart_of(kind, b))
+    runs::run_cart(list, inv, cart_of(held, b))
 }
 
 // The step at an index over the list.
