@@ -34,16 +34,6 @@ module _ (own : Refusal) (deforms inverse : Bool) (es : List Entry) (l velocitie
   unfolding outcomeOf shiftRefusalOf firstBroken
   run-through h nine ten = rw (eq-eqb (own .number) 0 h, nine, ten)
 
--- ---- a record that breaks no rule has at most sixteen steps
-
-first-kept : (three : Bool) (r : Refusal) → cond three (ofSheet 3) r .number ≡ 0 → three ≡ false
-first-kept true r h = absurd (not-zero 2 h)
-first-kept false r h = refl
-
-pub few-kept : (sheet : Sheet) (room : ℕ) → writerRefusalOf sheet room .number ≡ 0 → sheet .count ≤ 16
-unfolding writerRefusalOf writerOrder firstBroken
-few-kept sheet room h = count-kept (sheet .count) (first-kept (refusal3 (sheet .count)) _ h) .1
-
 -- ---- refused: counts zero, and the list holds what it held
 
 pub refused-leaves-the-list : (own : Refusal) (deforms inverse : Bool) (es : List Entry) (l velocities : List Float) (marks : List ℕ)

@@ -8,6 +8,7 @@ use lib.Ieee.{Float}
 use Rattle.helmert.specs.declared.State.{State}
 use Rattle.helmert.specs.Modes.{prepareOf, startOf}
 use Rattle.bodies.specs.declared.Step.{Step}
+use Rattle.bodies.specs.Kinds.{lengthOf}
 use Rattle.bodies.specs.declared.Step.the-variants.{Cart, Permtide, Deformation, Molodensky, Helmert}
 use Rattle.sheet.specs.declared.Entry.{Entry}
 use Rattle.lists.specs.Run.{Turns, ranOf, countOf}
@@ -32,6 +33,10 @@ stateOf (Permtide r) = noState
 stateOf (Deformation r) = noState
 stateOf (Molodensky r) = noState
 stateOf (Helmert h) = startOf (prepareOf h)
+
+-- the kind that a body is read by: 0, which is none, where the body is not as long as its kind's are
+abbrev pub heldKindOf : ℕ → ℕ → ℕ
+heldKindOf kind n = cond (eqb n (lengthOf kind)) kind 0
 
 -- a step runs in the chain's direction, turned round where its inverted word is 1
 abbrev pub turnedOf : Bool → Entry → Bool

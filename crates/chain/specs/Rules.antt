@@ -74,8 +74,3 @@ outcomeOf own deforms inverse es l velocities marks =
 unfoldable pub shiftOf : Bool → List ℕ → List Float → List Float → List ℕ → Outcome
 shiftOf inverse s l velocities marks =
     outcomeOf (refusalOf s) (deformationBefore (kindAt s) (stepCountOf s)) inverse (entriesOf (entryAt s) (stepCountOf s) 0) l velocities marks
-
--- Over a record: its own rules are the writer's, in a room that any sheet fits, so that 15 is never given.
-unfoldable pub shiftRecordOf : Bool → Sheet → List Float → List Float → List ℕ → Outcome
-shiftRecordOf inverse sheet l velocities marks =
-    outcomeOf (writerRefusalOf sheet 4240) (deformationBefore (kindIn sheet) (sheet .count)) inverse (entriesOf (entryOf sheet) (sheet .count) 0) l velocities marks

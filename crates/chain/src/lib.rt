@@ -1,21 +1,24 @@
 // The chain: a sheet's steps over a lent flat list, where the list stands.
 //
 // Document 01, "The sheet" (a chain runs steps in order, inverse in reverse with each turned round) and "Numbers of refusal". `shift` checks the sheet where
-// it lies and decodes one body at a time, steps outermost and list innermost; `shift_record` does the same over a record that is already read, and the two
-// agree (proved). The answer, the counts and the list are fixed for every input by specs/Rules.antt over specs/Chain.antt, which is made of the steps' own
+// it lies and decodes one body at a time, steps outermost and list innermost; chain_record does the same over a record that is already read, and the two
+// agree (proved there). The answer, the counts and the list are fixed for every input by specs/Rules.antt over specs/Chain.antt, which is made of the steps' own
 // definitions; nothing is written before the last test has passed. No rounding but the steps' own. Used by the program and by callers that keep lists.
 ghost use mathlib.Core.Path.{_≡_};
-ghost use mathlib.Core.Bool.{true, false};
+ghost use mathlib.Core.Bool.{cond, not};
 ghost use Prim.Native.Nat.{_*_, _≤_, _<_};
+ghost use lib.Dec.{eqb};
 ghost use lib.ListN.{length};
-ghost use Rattle.sheet.specs.Layout.{stepCountOf as headerCountOf, kindAt, entryAt, entryOf, kindIn};
+ghost use Rattle.sheet.specs.Layout.{stepCountOf as headerCountOf, kindAt, entryAt};
+ghost use Rattle.cart.specs.Record.{blankOf};
+ghost use Rattle.bodies.specs.Read.{cartIn, stepOf};
+ghost use Rattle.lists.specs.Run.{ranOf, countOf};
 ghost use Rattle.sheet.specs.Rules.{ofSheet, deformationBefore};
-ghost use Rattle.chain.specs.Chain.{turnedOf, stepListOf, stepCountOf, forwardOf, inverseOf, placesOf, entriesOf};
-ghost use Rattle.chain.specs.Rules.{refusal9, overOne, lentFor, refusal10, refusedAnswer, ranAnswer, outcome, shiftOf, shiftRecordOf};
-use bodies::Step;
+ghost use Rattle.chain.specs.Chain.{turnsOf, stateOf, heldKindOf, turnedOf, stepListOf, stepCountOf, forwardOf, inverseOf, placesOf, entriesOf};
+ghost use Rattle.chain.specs.Rules.{refusal9, overOne, lentFor, refusal10, refusedAnswer, ranAnswer, outcome, shiftOf};
+use cart::Cart;
 use sheet::Entry;
 use sheet::Refusal;
-use sheet::Sheet;
 
 // What a call answers: no refusal and each step's count in the sheet's order, 0 in the other places; or a refusal and zeros.
 pub struct Answer {
@@ -26,60 +29,110 @@ pub struct Answer {
 // ----- one step over the list ----------------------------------------------------------------
 
 // A step's direction: turned round where its inverted word is 1.
+fn turned_by(inverse: bool, inverted: u32) -> bool
+    ensures { λ r. ⌜ r ≡ cond (eqb inverted 1) (not inverse) inverse ⌝ }
+{
+    if inverted == 1 { !inverse } else { inverse }
+}
+
 pub fn turned(inverse: bool, entry: Entry) -> bool
     ensures { λ r. ⌜ r ≡ turnedOf inverse entry ⌝ }
 {
-    if entry.inverted == 1 {
-        !inverse
-    } else {
-        inverse
-    }
+    turned_by(inverse, entry.inverted)
 }
 
-// The kind is decided here, once a list.
-fn run_step(
-    inverse: bool,
-    entry: Entry,
+fn wide(x: u32) -> usize
+    ensures { λ r. ⌜ r ≡ x ⌝ }
+{
+    x as usize
+}
+
+// A body's kind where the body is as long as its kind's are, else 0.
+fn held_kind(kind: u32, length: usize) -> u32
+    ensures { λ r. ⌜ r ≡ heldKindOf kind length ⌝ }
+{
+    if length == wide(bodies::length_of(kind)) {
+        return kind;
+    }
+    0
+}
+
+// The cart step that a body holds, blank where no kind is held.
+fn cart_of(kind: u32, b: &[u8]) -> Cart
+    ensures { λ r. ⌜ r ≡ cond (eqb kind 2) (cartIn (now (b .entry))) blankOf ⌝ }
+{
+    if kind == 2 {
+        return bodies::read_cart(b);
+    }
+    Cart::blank()
+}
+
+// A body of a kind over the list, read where it lies: the kind is decided here, once a list, and no step of any kind is made to be taken apart again.
+fn run_body(
+    inv: bool,
+    kind: u32,
+    b: &[u8],
     list: &mut [f64],
     velocities: &[f64],
     marks: &[u8],
 ) -> usize
-    ensures { λ r. ⌜ (now (list .exit) ≡ stepListOf inverse (now (velocities .entry)) (now (marks .entry)) entry (now (list .entry)))
-        × (r ≡ stepCountOf inverse (now (velocities .entry)) (now (marks .entry)) entry (now (list .entry))) ⌝ }
+    ensures { λ r. ⌜ (now (list .exit) ≡ ranOf (turnsOf inv (now (velocities .entry)) (now (marks .entry)) (stepOf kind (now (b .entry)))) 0 (stateOf (stepOf kind (now (b .entry)))) (now (list .entry)))
+        × (r ≡ countOf (turnsOf inv (now (velocities .entry)) (now (marks .entry)) (stepOf kind (now (b .entry)))) 0 (stateOf (stepOf kind (now (b .entry)))) (now (list .entry))) ⌝ }
 {
-    let inv = turned(inverse, entry);
-    let step = entry.step;
-    match step {
-        Step::Cart(r) => {
-            return runs::run_cart(list, inv, r);
-        }
-        Step::Permtide(r) => {
-            return runs::run_permtide(list, inv, r);
-        }
-        Step::Deformation(r) => {
-            return deformation_runs::run_deformation(list, inv, r, velocities, marks);
-        }
-        Step::Molodensky(r) => {
-            return runs::run_molodensky(list, inv, r);
-        }
-        Step::Helmert(h) => {
-            return helmert_runs::run_helmert(list, inv, h);
-        }
+    let held = held_kind(kind, b.len());
+    if held == 1 {
+        return helmert_runs::run_helmert(list, inv, bodies::read_helmert(b));
     }
+    if held == 3 {
+        return runs::run_molodensky(list, inv, bodies::read_molodensky(b));
+    }
+    if held == 4 {
+        return runs::run_permtide(list, inv, bodies::read_permtide(b));
+    }
+    if held == 5 {
+        return deformation_runs::run_deformation(
+            list,
+            inv,
+            bodies::read_deformation(b),
+            velocities,
+            marks,
+        );
+    }
+    runs::run_cart(list, inv, cart_of(held, b))
+}
+
+// The step at an index over the list.
+fn run_at(
+    inverse: bool,
+    s: &[u8],
+    i: usize,
+    list: &mut [f64],
+    velocities: &[f64],
+    marks: &[u8],
+) -> usize
+    requires { ⌜ (i < 16) × (i < headerCountOf (now s)) ⌝ }
+    ensures { λ r. ⌜ (now (list .exit) ≡ stepListOf inverse (now (velocities .entry)) (now (marks .entry)) (entryAt (now (s .entry)) i) (now (list .entry)))
+        × (r ≡ stepCountOf inverse (now (velocities .entry)) (now (marks .entry)) (entryAt (now (s .entry)) i) (now (list .entry))) ⌝ }
+{
+    let place = 16 + 16 * i;
+    let inv = turned_by(inverse, words::read32(s, place + 4));
+    let kind = words::read32(s, place);
+    let offset = wide(words::read32(s, place + 8));
+    let length = wide(words::read32(s, place + 12));
+    run_body(inv, kind, sheet::part(s, offset, length), list, velocities, marks)
 }
 
 // ----- a sheet's steps, one after another ------------------------------------------------------
 
 fn forward(s: &[u8], n: usize, list: &mut [f64], velocities: &[f64], marks: &[u8]) -> [usize; 16]
-    requires { ⌜ n ≤ 16 ⌝ }
+    requires { ⌜ (n ≤ 16) × (n ≡ headerCountOf (now s)) ⌝ }
     ensures { λ r. ⌜ (now (list .exit) ≡ forwardOf (now (velocities .entry)) (now (marks .entry)) (entriesOf (entryAt (now (s .entry))) n 0) (now (list .entry)) .list)
         × (r ≡ placesOf (forwardOf (now (velocities .entry)) (now (marks .entry)) (entriesOf (entryAt (now (s .entry))) n 0) (now (list .entry)) .counts)) ⌝ }
 {
     let mut counts = [0usize; 16];
     let mut i = 0;
     while i < n {
-        let entry = sheet::entry_at(s, i); // the first step first
-        let count = run_step(false, entry, list, velocities, marks);
+        let count = run_at(false, s, i, list, velocities, marks); // the first step first
         counts[i] = count; // in the sheet's order
         i += 1;
     }
@@ -87,7 +140,7 @@ fn forward(s: &[u8], n: usize, list: &mut [f64], velocities: &[f64], marks: &[u8
 }
 
 fn backward(s: &[u8], n: usize, list: &mut [f64], velocities: &[f64], marks: &[u8]) -> [usize; 16]
-    requires { ⌜ n ≤ 16 ⌝ }
+    requires { ⌜ (n ≤ 16) × (n ≡ headerCountOf (now s)) ⌝ }
     ensures { λ r. ⌜ (now (list .exit) ≡ inverseOf (now (velocities .entry)) (now (marks .entry)) (entriesOf (entryAt (now (s .entry))) n 0) (now (list .entry)) .list)
         × (r ≡ placesOf (inverseOf (now (velocities .entry)) (now (marks .entry)) (entriesOf (entryAt (now (s .entry))) n 0) (now (list .entry)) .counts)) ⌝ }
 {
@@ -95,8 +148,7 @@ fn backward(s: &[u8], n: usize, list: &mut [f64], velocities: &[f64], marks: &[u
     let mut i = n;
     while 0 < i {
         i -= 1;
-        let entry = sheet::entry_at(s, i); // the last step first
-        let count = run_step(true, entry, list, velocities, marks);
+        let count = run_at(true, s, i, list, velocities, marks); // the last step first
         counts[i] = count;
     }
     counts
@@ -173,7 +225,7 @@ pub fn has_deformation(s: &[u8]) -> bool
 // ----- the entries ------------------------------------------------------------------------------
 
 // A refusal of the lent lists carries no step.
-fn of_lists(number: u32) -> Refusal
+pub fn of_lists(number: u32) -> Refusal
     ensures { λ r. ⌜ r ≡ ofSheet number ⌝ }
 {
     Refusal {
@@ -182,7 +234,7 @@ fn of_lists(number: u32) -> Refusal
     }
 }
 
-fn refused(refusal: Refusal) -> Answer
+pub fn refused(refusal: Refusal) -> Answer
     ensures { λ r. ⌜ r ≡ refusedAnswer refusal ⌝ }
 {
     Answer {
@@ -191,7 +243,7 @@ fn refused(refusal: Refusal) -> Answer
     }
 }
 
-fn ran(counts: [usize; 16]) -> Answer
+pub fn ran(counts: [usize; 16]) -> Answer
     ensures { λ r. ⌜ r ≡ ranAnswer counts ⌝ }
 {
     Answer {
@@ -220,102 +272,5 @@ pub fn shift(inverse: bool, s: &[u8], list: &mut [f64], velocities: &[f64], mark
         return ran(counts);
     }
     let counts = forward(s, n, list, velocities, marks);
-    ran(counts)
-}
-
-// ----- over a record that is already read -----------------------------------------------------------
-
-fn wide(x: u32) -> usize
-    ensures { λ r. ⌜ r ≡ x ⌝ }
-{
-    x as usize
-}
-
-fn forward_record(
-    kept: Sheet,
-    n: usize,
-    list: &mut [f64],
-    velocities: &[f64],
-    marks: &[u8],
-) -> [usize; 16]
-    requires { ⌜ n ≤ 16 ⌝ }
-    ensures { λ r. ⌜ (now (list .exit) ≡ forwardOf (now (velocities .entry)) (now (marks .entry)) (entriesOf (entryOf kept) n 0) (now (list .entry)) .list)
-        × (r ≡ placesOf (forwardOf (now (velocities .entry)) (now (marks .entry)) (entriesOf (entryOf kept) n 0) (now (list .entry)) .counts)) ⌝ }
-{
-    let mut counts = [0usize; 16];
-    let mut i = 0;
-    while i < n {
-        let entry = kept.entries[i];
-        let count = run_step(false, entry, list, velocities, marks);
-        counts[i] = count;
-        i += 1;
-    }
-    counts
-}
-
-fn backward_record(
-    kept: Sheet,
-    n: usize,
-    list: &mut [f64],
-    velocities: &[f64],
-    marks: &[u8],
-) -> [usize; 16]
-    requires { ⌜ n ≤ 16 ⌝ }
-    ensures { λ r. ⌜ (now (list .exit) ≡ inverseOf (now (velocities .entry)) (now (marks .entry)) (entriesOf (entryOf kept) n 0) (now (list .entry)) .list)
-        × (r ≡ placesOf (inverseOf (now (velocities .entry)) (now (marks .entry)) (entriesOf (entryOf kept) n 0) (now (list .entry)) .counts)) ⌝ }
-{
-    let mut counts = [0usize; 16];
-    let mut i = n;
-    while 0 < i {
-        i -= 1;
-        let entry = kept.entries[i];
-        let count = run_step(true, entry, list, velocities, marks);
-        counts[i] = count;
-    }
-    counts
-}
-
-// Whether one of the first n steps is a deformation step.
-fn deforms_record(kept: Sheet, n: usize) -> bool
-    requires { ⌜ n ≤ 16 ⌝ }
-    ensures { λ r. ⌜ r ≡ deformationBefore (kindIn kept) n ⌝ }
-{
-    let mut found = false;
-    let mut i = 0;
-    while i < n {
-        let entry = kept.entries[i];
-        let step = entry.step;
-        found = found | (bodies::kind_of(step) == 5);
-        i += 1;
-    }
-    found
-}
-
-// A record over a list. Its own rules are the writer's, in a room that any sheet fits.
-pub fn shift_record(
-    inverse: bool,
-    kept: Sheet,
-    list: &mut [f64],
-    velocities: &[f64],
-    marks: &[u8],
-) -> Answer
-    ensures { λ r. ⌜ outcome r (now (list .exit)) ≡ shiftRecordOf inverse kept (now (list .entry)) (now (velocities .entry)) (now (marks .entry)) ⌝ }
-{
-    let own = sheet_writer::check_record(kept, 4240);
-    if own.number != 0 {
-        return refused(own);
-    }
-    if list_broken(list.len()) {
-        return refused(of_lists(9));
-    }
-    let n = wide(kept.count);
-    if lent_broken(deforms_record(kept, n), list.len(), velocities, marks) {
-        return refused(of_lists(10));
-    }
-    if inverse {
-        let counts = backward_record(kept, n, list, velocities, marks);
-        return ran(counts);
-    }
-    let counts = forward_record(kept, n, list, velocities, marks);
     ran(counts)
 }

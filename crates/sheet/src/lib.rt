@@ -109,7 +109,7 @@ pub fn step_count(s: &[u8]) -> usize
 }
 
 // The part of a sheet that starts at `offset` and is `length` long, as far as the sheet has it.
-fn part(s: &[u8], offset: usize, length: usize) -> &[u8]
+pub fn part(s: &[u8], offset: usize, length: usize) -> &[u8]
     ensures { λ r. ⌜ now r ≡ take length (drop offset (now (s .entry))) ⌝ }
 {
     if s.len() <= offset {

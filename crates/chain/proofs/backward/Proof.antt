@@ -20,11 +20,8 @@ loop-holds c = backward-start _ _ _ _ _ (c .before .before .before .before .pre)
 sub-i : tie.Need-sub-i Inv-loop μ-loop
 sub-i c = search needs
 
-entry-at-requires : tie.Need-entry-at-requires Inv-loop μ-loop
-entry-at-requires c κs = search needs
-
-run-step-requires : tie.Need-run-step-requires Inv-loop μ-loop
-run-step-requires c κs = search needs
+run-at-requires : tie.Need-run-at-requires Inv-loop μ-loop
+run-at-requires c κs = search needs
 
 mul-counts : tie.Need-mul-counts Inv-loop μ-loop
 mul-counts c = search needs
@@ -55,8 +52,7 @@ backward-spec =
     μ-loop
     loop-holds
     sub-i
-    entry-at-requires
-    run-step-requires
+    run-at-requires
     mul-counts
     array-write-counts
     loop-less

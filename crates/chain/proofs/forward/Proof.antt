@@ -15,11 +15,8 @@ abbrev μ-loop : tie.MeasureT-loop
 loop-holds : tie.Need-loop-holds Inv-loop μ-loop
 loop-holds c = forward-start _ _ _ _ _ (c .before .before .before .before .pre)
 
-entry-at-requires : tie.Need-entry-at-requires Inv-loop μ-loop
-entry-at-requires c κs = search needs
-
-run-step-requires : tie.Need-run-step-requires Inv-loop μ-loop
-run-step-requires c κs = search needs
+run-at-requires : tie.Need-run-at-requires Inv-loop μ-loop
+run-at-requires c κs = search needs
 
 mul-counts : tie.Need-mul-counts Inv-loop μ-loop
 mul-counts c = search needs
@@ -50,8 +47,7 @@ forward-spec =
     Inv-loop
     μ-loop
     loop-holds
-    entry-at-requires
-    run-step-requires
+    run-at-requires
     mul-counts
     array-write-counts
     add-i

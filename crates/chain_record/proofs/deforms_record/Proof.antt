@@ -1,4 +1,4 @@
--- `chain::deforms_record` meets its contract. Assumes nothing.
+-- `chain_record::deforms_record` meets its contract. Assumes nothing.
 use borrow.Author.Needs.{needs}
 use native.Mathlib.Omega.{arith}
 use Prim.Native.Nat.{_-_, _≤_}
@@ -6,8 +6,8 @@ use mathlib.Core.Path.{_≡_, refl}
 use Rattle.sheet.specs.Layout.{kindIn}
 use Rattle.sheet.specs.Rules.{deformationBefore}
 use Rattle.sheet.proofs.Order.{before-next}
-use Rattle.chain.proofs.deforms_record.Statement.{statement}
-use Rattle.chain.proofs.deforms_record.Tie as tie
+use Rattle.chain_record.proofs.deforms_record.Statement.{statement}
+use Rattle.chain_record.proofs.deforms_record.Tie as tie
 
 abbrev Inv-loop : tie.InvT-loop
 Inv-loop n kept found₀ i₀ found i = (i ≤ n) × (found ≡ deformationBefore (kindIn kept) i)

@@ -1,8 +1,8 @@
--- `chain::run_step` meets its contract. Assumes nothing.
+-- `chain_record::run_step` meets its contract. Assumes nothing.
 use Rattle.chain.specs.Chain.{stepListOf, stepCountOf}
 use borrow.Author.Needs.{needs}
-use Rattle.chain.proofs.run_step.Statement.{statement}
-use Rattle.chain.proofs.run_step.Tie as tie
+use Rattle.chain_record.proofs.run_step.Statement.{statement}
+use Rattle.chain_record.proofs.run_step.Tie as tie
 
 turned-requires : tie.Need-turned-requires
 turned-requires c κs = search needs

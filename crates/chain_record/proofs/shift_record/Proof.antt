@@ -1,12 +1,13 @@
--- `chain::shift_record` meets its contract. Assumes nothing.
+-- `chain_record::shift_record` meets its contract. Assumes nothing.
 use mathlib.Core.Path.{_≡_, sym, ap, _∙_}
 use mathlib.Core.Bool.{true, false}
 use Rattle.sheet.specs.declared.Refusal.{Refusal}
-use Rattle.chain.specs.Rules.{shiftRecordOf}
-use Rattle.chain.proofs.Outcome.{refused-own, refused-9, refused-10, run-through, few-kept}
+use Rattle.chain_record.specs.Record.{shiftRecordOf}
+use Rattle.chain.proofs.Outcome.{refused-own, refused-9, refused-10, run-through}
+use Rattle.chain_record.proofs.Few.{few-kept}
 use borrow.Author.Needs.{needs}
-use Rattle.chain.proofs.shift_record.Statement.{statement}
-use Rattle.chain.proofs.shift_record.Tie as tie
+use Rattle.chain_record.proofs.shift_record.Statement.{statement}
+use Rattle.chain_record.proofs.shift_record.Tie as tie
 
 check-record-requires : tie.Need-check-record-requires
 check-record-requires c κs = search needs

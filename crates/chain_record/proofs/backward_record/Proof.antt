@@ -1,12 +1,12 @@
--- `chain::backward_record` meets its contract. Assumes nothing.
+-- `chain_record::backward_record` meets its contract. Assumes nothing.
 use borrow.Author.Needs.{needs}
 use native.Mathlib.Omega.{arith}
 use Prim.Native.Nat.{_+_, _-_}
 use mathlib.Core.Path.{_≡_, refl}
-use Rattle.sheet.specs.Layout.{entryOf}
+use Rattle.sheet.specs.Bytes.{entryOf}
 use Rattle.chain.proofs.Laws.{Backward, backward-start, backward-again, backward-end}
-use Rattle.chain.proofs.backward_record.Statement.{statement}
-use Rattle.chain.proofs.backward_record.Tie as tie
+use Rattle.chain_record.proofs.backward_record.Statement.{statement}
+use Rattle.chain_record.proofs.backward_record.Tie as tie
 
 abbrev Inv-loop : tie.InvT-loop
 Inv-loop n list₀ velocities marks kept counts₀ i₀ list counts i = Backward velocities marks (entryOf kept) n list₀ i list counts

@@ -1,11 +1,11 @@
--- `chain::forward_record` meets its contract. Assumes nothing.
+-- `chain_record::forward_record` meets its contract. Assumes nothing.
 use borrow.Author.Needs.{needs}
 use Prim.Native.Nat.{_-_}
 use mathlib.Core.Path.{refl}
-use Rattle.sheet.specs.Layout.{entryOf}
+use Rattle.sheet.specs.Bytes.{entryOf}
 use Rattle.chain.proofs.Laws.{Forward, forward-start, forward-again, forward-end}
-use Rattle.chain.proofs.forward_record.Statement.{statement}
-use Rattle.chain.proofs.forward_record.Tie as tie
+use Rattle.chain_record.proofs.forward_record.Statement.{statement}
+use Rattle.chain_record.proofs.forward_record.Tie as tie
 
 abbrev Inv-loop : tie.InvT-loop
 Inv-loop n list₀ velocities marks kept counts₀ i₀ list counts i = Forward velocities marks (entryOf kept) n list₀ i list counts

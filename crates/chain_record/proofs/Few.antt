@@ -1,0 +1,16 @@
+-- A record that breaks no rule has at most sixteen steps. Assumes nothing.
+use Prim.Native.Nat.{ℕ, _≤_}
+use mathlib.Core.Path.{_≡_, refl}
+use mathlib.Core.Bool.{Bool, true, false, cond}
+use Rattle.sheet.specs.declared.Refusal.{Refusal}
+use Rattle.sheet.specs.declared.Sheet.{Sheet}
+use Rattle.sheet.specs.Rules.{ofSheet, firstBroken, writerRefusalOf, writerOrder, refusal3}
+use Rattle.sheet.proofs.Order.{not-zero, count-kept}
+
+first-kept : (three : Bool) (r : Refusal) → cond three (ofSheet 3) r .number ≡ 0 → three ≡ false
+first-kept true r h = absurd (not-zero 2 h)
+first-kept false r h = refl
+
+pub few-kept : (sheet : Sheet) (room : ℕ) → writerRefusalOf sheet room .number ≡ 0 → sheet .count ≤ 16
+unfolding writerRefusalOf writerOrder firstBroken
+few-kept sheet room h = count-kept (sheet .count) (first-kept (refusal3 (sheet .count)) _ h) .1

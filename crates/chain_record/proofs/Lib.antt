@@ -1,0 +1,3 @@
+-- What the proofs of this crate share, and the law that a sheet's bytes and its record agree.
+mod Few
+pub mod Agree

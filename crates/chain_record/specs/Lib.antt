@@ -1,0 +1,2 @@
+-- What the contract of `shift_record` cites.
+pub mod Record

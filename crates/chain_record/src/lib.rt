@@ -1,0 +1,143 @@
+// The chain over a record that is already read: a sheet's steps over a lent flat list, where the list stands.
+//
+// As `chain::shift` does over a sheet's bytes; the two agree on every sheet that is accepted (proofs/Agree.antt). A record's own rules are the writer's, in a room that
+// any sheet fits. The answer, the counts and the list are fixed for every input by specs/Record.antt over chain's definitions. No rounding but the steps' own. For
+// callers that hold a sheet as a record.
+ghost use mathlib.Core.Path.{_≡_};
+ghost use Prim.Native.Nat.{_≤_};
+ghost use Rattle.sheet.specs.Bytes.{entryOf, kindIn};
+ghost use Rattle.sheet.specs.Rules.{deformationBefore};
+ghost use Rattle.chain.specs.Chain.{stepListOf, stepCountOf, forwardOf, inverseOf, placesOf, entriesOf};
+ghost use Rattle.chain.specs.Rules.{outcome};
+ghost use Rattle.chain_record.specs.Record.{shiftRecordOf};
+use bodies::Step;
+use chain::Answer;
+use sheet::Entry;
+use sheet::Sheet;
+
+// The kind is decided here, once a list.
+fn run_step(
+    inverse: bool,
+    entry: Entry,
+    list: &mut [f64],
+    velocities: &[f64],
+    marks: &[u8],
+) -> usize
+    ensures { λ r. ⌜ (now (list .exit) ≡ stepListOf inverse (now (velocities .entry)) (now (marks .entry)) entry (now (list .entry)))
+        × (r ≡ stepCountOf inverse (now (velocities .entry)) (now (marks .entry)) entry (now (list .entry))) ⌝ }
+{
+    let inv = chain::turned(inverse, entry);
+    let step = entry.step;
+    match step {
+        Step::Cart(r) => {
+            return runs::run_cart(list, inv, r);
+        }
+        Step::Permtide(r) => {
+            return runs::run_permtide(list, inv, r);
+        }
+        Step::Deformation(r) => {
+            return deformation_runs::run_deformation(list, inv, r, velocities, marks);
+        }
+        Step::Molodensky(r) => {
+            return runs::run_molodensky(list, inv, r);
+        }
+        Step::Helmert(h) => {
+            return helmert_runs::run_helmert(list, inv, h);
+        }
+    }
+}
+
+fn wide(x: u32) -> usize
+    ensures { λ r. ⌜ r ≡ x ⌝ }
+{
+    x as usize
+}
+
+fn forward_record(
+    kept: Sheet,
+    n: usize,
+    list: &mut [f64],
+    velocities: &[f64],
+    marks: &[u8],
+) -> [usize; 16]
+    requires { ⌜ n ≤ 16 ⌝ }
+    ensures { λ r. ⌜ (now (list .exit) ≡ forwardOf (now (velocities .entry)) (now (marks .entry)) (entriesOf (entryOf kept) n 0) (now (list .entry)) .list)
+        × (r ≡ placesOf (forwardOf (now (velocities .entry)) (now (marks .entry)) (entriesOf (entryOf kept) n 0) (now (list .entry)) .counts)) ⌝ }
+{
+    let mut counts = [0usize; 16];
+    let mut i = 0;
+    while i < n {
+        let entry = kept.entries[i];
+        let count = run_step(false, entry, list, velocities, marks);
+        counts[i] = count;
+        i += 1;
+    }
+    counts
+}
+
+fn backward_record(
+    kept: Sheet,
+    n: usize,
+    list: &mut [f64],
+    velocities: &[f64],
+    marks: &[u8],
+) -> [usize; 16]
+    requires { ⌜ n ≤ 16 ⌝ }
+    ensures { λ r. ⌜ (now (list .exit) ≡ inverseOf (now (velocities .entry)) (now (marks .entry)) (entriesOf (entryOf kept) n 0) (now (list .entry)) .list)
+        × (r ≡ placesOf (inverseOf (now (velocities .entry)) (now (marks .entry)) (entriesOf (entryOf kept) n 0) (now (list .entry)) .counts)) ⌝ }
+{
+    let mut counts = [0usize; 16];
+    let mut i = n;
+    while 0 < i {
+        i -= 1;
+        let entry = kept.entries[i];
+        let count = run_step(true, entry, list, velocities, marks);
+        counts[i] = count;
+    }
+    counts
+}
+
+// Whether one of the first n steps is a deformation step.
+fn deforms_record(kept: Sheet, n: usize) -> bool
+    requires { ⌜ n ≤ 16 ⌝ }
+    ensures { λ r. ⌜ r ≡ deformationBefore (kindIn kept) n ⌝ }
+{
+    let mut found = false;
+    let mut i = 0;
+    while i < n {
+        let entry = kept.entries[i];
+        let step = entry.step;
+        found = found | (bodies::kind_of(step) == 5);
+        i += 1;
+    }
+    found
+}
+
+// A record over a list. Its own rules are the writer's, in a room that any sheet fits.
+pub fn shift_record(
+    inverse: bool,
+    kept: Sheet,
+    list: &mut [f64],
+    velocities: &[f64],
+    marks: &[u8],
+) -> Answer
+    ensures { λ r. ⌜ outcome r (now (list .exit)) ≡ shiftRecordOf inverse kept (now (list .entry)) (now (velocities .entry)) (now (marks .entry)) ⌝ }
+{
+    let own = sheet::check_record(kept, 4240);
+    if own.number != 0 {
+        return chain::refused(own);
+    }
+    if chain::list_broken(list.len()) {
+        return chain::refused(chain::of_lists(9));
+    }
+    let n = wide(kept.count);
+    if chain::lent_broken(deforms_record(kept, n), list.len(), velocities, marks) {
+        return chain::refused(chain::of_lists(10));
+    }
+    if inverse {
+        let counts = backward_record(kept, n, list, velocities, marks);
+        return chain::ran(counts);
+    }
+    let counts = forward_record(kept, n, list, velocities, marks);
+    chain::ran(counts)
+}
