@@ -55,7 +55,7 @@ pub fn cart_fwd_block(
 ) -> usize
     ensures { λ r. ⌜ Each (now (ox .exit)) (λ (j : ℕ). cartFwdOf ellps (rowOf (now (x .entry)) (now (y .entry)) (now (z .entry)) (now (t .entry)) j) .tuple .x) × Each (now (oy .exit)) (λ (j : ℕ). cartFwdOf ellps (rowOf (now (x .entry)) (now (y .entry)) (now (z .entry)) (now (t .entry)) j) .tuple .y) × Each (now (oz .exit)) (λ (j : ℕ). cartFwdOf ellps (rowOf (now (x .entry)) (now (y .entry)) (now (z .entry)) (now (t .entry)) j) .tuple .z) × (r ≡ countTo 16 (λ (j : ℕ). cartFwdOf ellps (rowOf (now (x .entry)) (now (y .entry)) (now (z .entry)) (now (t .entry)) j) .counted)) ⌝ }
 {
-    geocart::cartesian_block(ellps, x, y, z, t, ox, oy, oz);
+    geocart_block::cartesian_block(ellps, x, y, z, t, ox, oy, oz);
     count_block(ox, oy, oz, t)
 }
 
@@ -114,7 +114,7 @@ fn legs_block(
     ensures { λ _. ⌜ Each (now (s1 .exit)) (λ (j : ℕ). legsOf k (at (now (p .entry)) j) (at (now (z .entry)) j) .s1) × Each (now (cc .exit)) (λ (j : ℕ). legsOf k (at (now (p .entry)) j) (at (now (z .entry)) j) .cc) ⌝ }
 {
     reduced_block(k, p, z, s1, cc);
-    hypot::hypot_block(s1, cc, a);
+    hypot_block::hypot_block(s1, cc, a);
     meridian_block(k, p, z, a, s1, cc);
 }
 
@@ -173,8 +173,8 @@ fn height_block(
     ensures { λ _. ⌜ Each (now (h .exit)) (λ (j : ℕ). eitherHeightOf k (at (now (p .entry)) j) (at (now (z .entry)) j) (record { s1 = at (now (s1 .entry)) j; cc = at (now (cc .entry)) j })) ⌝ }
 {
     product_block(k, s1, h);
-    hypot::hypot_block(cc, h, inner);
-    hypot::hypot_block(cc, s1, outer);
+    hypot_block::hypot_block(cc, h, inner);
+    hypot_block::hypot_block(cc, s1, outer);
     level_block(k, p, z, s1, cc, inner, outer, h);
 }
 
@@ -229,11 +229,11 @@ pub fn cart_inv_block(
     let mut cc: [f64; WIDTH] = [0.0; WIDTH];
     // the hypotenuses, then the latitudes of points off the axis
     let mut phi: [f64; WIDTH] = [0.0; WIDTH];
-    arctan::atan2_block(y, x, ox);
-    hypot::hypot_block(x, y, &mut p);
+    arctan_block::atan2_block(y, x, ox);
+    hypot_block::hypot_block(x, y, &mut p);
     legs_block(k, &p, z, &mut phi, &mut s1, &mut cc);
     height_block(k, &p, z, &s1, &cc, oy, &mut phi, oz);
-    arctan::atan2_block(&s1, &cc, &mut phi);
-    geocart::latitude_block(k.cutoff, &p, z, &phi, oy);
+    arctan_block::atan2_block(&s1, &cc, &mut phi);
+    geocart_block::latitude_block(k.cutoff, &p, z, &phi, oy);
     count_off_axis_block(k, &p, ox, oy, oz, t)
 }

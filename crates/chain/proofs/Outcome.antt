@@ -1,17 +1,14 @@
 -- Which outcome each of an entry's tests leads to. Assumes nothing.
-use Prim.Native.Nat.{ℕ, _≤_}
-use mathlib.Core.Path.{_≡_, refl}
-use mathlib.Core.Bool.{Bool, true, false, cond}
+use Prim.Native.Nat.{ℕ}
+use mathlib.Core.Path.{_≡_}
+use mathlib.Core.Bool.{Bool, true, false}
 use mathlib.Core.List.{List}
 use borrow.Author.Tests.{eq-eqb, ne-eqb}
 use lib.ListN.{length}
 use lib.Ieee.{Float}
 use Rattle.sheet.specs.declared.Entry.{Entry}
 use Rattle.sheet.specs.declared.Refusal.{Refusal}
-use Rattle.sheet.specs.declared.Sheet.{Sheet}
-use Rattle.sheet.specs.Rules.{ofSheet, firstBroken, refusal3}
-use Rattle.sheet_writer.specs.Rules.{writerRefusalOf, writerOrder}
-use Rattle.sheet.proofs.Order.{not-zero, count-kept}
+use Rattle.sheet.specs.Rules.{ofSheet, firstBroken}
 use Rattle.chain.specs.Chain.{chainOf}
 use Rattle.chain.specs.Rules.{refusal9, refusal10, shiftRefusalOf, outcome, refusedAnswer, ranOutcome, outcomeOf}
 

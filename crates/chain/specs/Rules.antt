@@ -6,11 +6,9 @@ use lib.Dec.{eqb, ltb}
 use lib.ListN.{length, replicate}
 use lib.Ieee.{Float}
 use Rattle.sheet.specs.declared.Entry.{Entry}
-use Rattle.sheet.specs.declared.Sheet.{Sheet}
 use Rattle.sheet.specs.declared.Refusal.{Refusal}
-use Rattle.sheet.specs.Layout.{stepCountOf, kindAt, entryAt, entryOf, kindIn}
+use Rattle.sheet.specs.Layout.{stepCountOf, kindAt, entryAt}
 use Rattle.sheet.specs.Rules.{accepted, ofSheet, rule, firstBroken, deformationBefore, refusalOf}
-use Rattle.sheet_writer.specs.Rules.{writerRefusalOf}
 use Rattle.chain.specs.declared.Answer.{Answer}
 use Rattle.chain.specs.Chain.{Run, chainOf, placesOf, entriesOf}
 

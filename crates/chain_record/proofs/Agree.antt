@@ -8,12 +8,12 @@ use lib.Ieee.{Float}
 use Rattle.words.specs.Words.{Bytes}
 use Rattle.sheet.specs.declared.Entry.{Entry}
 use Rattle.sheet.specs.declared.Refusal.{Refusal}
-use Rattle.sheet.specs.Layout.{stepCountOf, kindAt, entryAt, recordOf}
-use Rattle.sheet.specs.Bytes.{entryOf, kindIn}
-use Rattle.sheet.specs.Rules.{accepted, deformationBefore, refusalOf, writerRefusalOf}
+use Rattle.sheet.specs.Layout.{stepCountOf, kindAt, entryAt, recordOf, entryOf, kindIn}
+use Rattle.sheet.specs.Rules.{accepted, deformationBefore, refusalOf}
+use Rattle.sheet_writer.specs.Rules.{writerRefusalOf}
 use Rattle.sheet.proofs.Accepted.{Accepted, accepted-keeps}
 use Rattle.sheet.proofs.Back.{entry-same, kind-same, record-count}
-use Rattle.sheet.proofs.Laws.{writer-takes-what-was-read}
+use Rattle.sheet_writer.proofs.Laws.{writer-takes-what-was-read}
 use Rattle.chain.specs.Chain.{entriesOf}
 use Rattle.chain.specs.Rules.{shiftOf}
 use Rattle.chain_record.specs.Record.{shiftRecordOf}

@@ -4,8 +4,9 @@ use mathlib.Core.Bool.{Bool}
 use mathlib.Core.List.{List}
 use lib.Ieee.{Float}
 use Rattle.sheet.specs.declared.Sheet.{Sheet}
-use Rattle.sheet.specs.Bytes.{entryOf, kindIn}
-use Rattle.sheet.specs.Rules.{deformationBefore, writerRefusalOf}
+use Rattle.sheet.specs.Layout.{entryOf, kindIn}
+use Rattle.sheet.specs.Rules.{deformationBefore}
+use Rattle.sheet_writer.specs.Rules.{writerRefusalOf}
 use Rattle.chain.specs.Chain.{entriesOf}
 use Rattle.chain.specs.Rules.{Outcome, outcomeOf}
 

@@ -5,7 +5,7 @@
 // callers that hold a sheet as a record.
 ghost use mathlib.Core.Path.{_≡_};
 ghost use Prim.Native.Nat.{_≤_};
-ghost use Rattle.sheet.specs.Bytes.{entryOf, kindIn};
+ghost use Rattle.sheet.specs.Layout.{entryOf, kindIn};
 ghost use Rattle.sheet.specs.Rules.{deformationBefore};
 ghost use Rattle.chain.specs.Chain.{stepListOf, stepCountOf, forwardOf, inverseOf, placesOf, entriesOf};
 ghost use Rattle.chain.specs.Rules.{outcome};
@@ -123,7 +123,7 @@ pub fn shift_record(
 ) -> Answer
     ensures { λ r. ⌜ outcome r (now (list .exit)) ≡ shiftRecordOf inverse kept (now (list .entry)) (now (velocities .entry)) (now (marks .entry)) ⌝ }
 {
-    let own = sheet::check_record(kept, 4240);
+    let own = sheet_writer::check_record(kept, 4240);
     if own.number != 0 {
         return chain::refused(own);
     }

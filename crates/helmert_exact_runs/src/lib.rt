@@ -1,7 +1,7 @@
 // Helmert over a lent flat list where the rotation is exact: running and own-epoch, a loop for each direction, written where the list stands.
 //
 // Three sines and cosines a fix are what such a shift costs. R goes by a fix's own time, so where one time follows another they are taken ahead, for
-// sixteen fixes at a time (`trig::sin_cos_block`); T is carried on from fix to fix as it must be. Where times stay for a while, or fewer than sixteen fixes are
+// sixteen fixes at a time (`trig_block::sin_cos_block`); T is carried on from fix to fix as it must be. Where times stay for a while, or fewer than sixteen fixes are
 // left, a fix's sines are taken when its turn comes.
 // Every function is proved equal to the step's own definition from tuple to tuple (helmert_turns/specs/Turns.antt over `lists`), for any shift; what
 // `helmert_runs` sends here are the exact ones, and of own-epoch those that are not rotated. Exact: no rounding but the step's own.
@@ -82,11 +82,11 @@ fn fill(
     let mut a = [0.0; WIDTH];
     lapses(list, i, own, shift, &mut dt);
     turned(r.x, rate.x, &dt, &mut a);
-    trig::sin_cos_block(&a, sx, cx);
+    trig_block::sin_cos_block(&a, sx, cx);
     turned(r.y, rate.y, &dt, &mut a);
-    trig::sin_cos_block(&a, sy, cy);
+    trig_block::sin_cos_block(&a, sy, cy);
     turned(r.z, rate.z, &dt, &mut a);
-    trig::sin_cos_block(&a, sz, cz);
+    trig_block::sin_cos_block(&a, sz, cz);
 }
 
 // Whether sixteen are worth taking: sixteen fixes are left, and in running mode the next has another time.

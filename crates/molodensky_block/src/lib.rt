@@ -140,7 +140,7 @@ fn double_sines(
     ensures { λ _. ⌜ Each (now (r .exit)) (λ (j : ℕ). sinOf (two ⊗ at (now (phi .entry)) j)) ⌝ }
 {
     doubled(phi, twice);
-    trig::sin_cos_block(twice, r, c);
+    trig_block::sin_cos_block(twice, r, c);
 }
 
 // The offsets of a block over the columns that hold the sines and cosines of the longitudes and the sines of 2φ.
@@ -220,15 +220,15 @@ fn shifts(
     let mut sphi = [0.0; WIDTH];
     let mut cphi = [0.0; WIDTH];
     let mut q = [0.0; WIDTH];
-    trig::sin_cos_block(y, &mut sphi, &mut cphi);
+    trig_block::sin_cos_block(y, &mut sphi, &mut cphi);
     ws(op.ellps, &sphi, dlam);
     root::sqrt_block(dlam, &mut q);
     if op.abridged {
         double_sines(y, dlam, dphi, dh);
-        trig::sin_cos_block(x, dlam, dphi);
+        trig_block::sin_cos_block(x, dlam, dphi);
         abridged_shifts(op, &sphi, &cphi, &q, dlam, dphi, dh);
     } else {
-        trig::sin_cos_block(x, dlam, dphi);
+        trig_block::sin_cos_block(x, dlam, dphi);
         full_shifts(op, z, &sphi, &cphi, &q, dlam, dphi, dh);
     }
 }

@@ -3,7 +3,7 @@ use borrow.Author.Needs.{needs}
 use native.Mathlib.Omega.{arith}
 use Prim.Native.Nat.{_+_, _-_}
 use mathlib.Core.Path.{_≡_, refl}
-use Rattle.sheet.specs.Bytes.{entryOf}
+use Rattle.sheet.specs.Layout.{entryOf}
 use Rattle.chain.proofs.Laws.{Backward, backward-start, backward-again, backward-end}
 use Rattle.chain_record.proofs.backward_record.Statement.{statement}
 use Rattle.chain_record.proofs.backward_record.Tie as tie

@@ -2,7 +2,7 @@
 use borrow.Author.Needs.{needs}
 use Prim.Native.Nat.{_-_}
 use mathlib.Core.Path.{refl}
-use Rattle.sheet.specs.Bytes.{entryOf}
+use Rattle.sheet.specs.Layout.{entryOf}
 use Rattle.chain.proofs.Laws.{Forward, forward-start, forward-again, forward-end}
 use Rattle.chain_record.proofs.forward_record.Statement.{statement}
 use Rattle.chain_record.proofs.forward_record.Tie as tie

@@ -8,7 +8,7 @@ use Rattle.helmert.specs.declared.Stepped.{Stepped}
 use Rattle.lists.specs.Flat.{tupleAt}
 use Rattle.stretch.specs.Same.{alikeOf}
 use Rattle.stretch.specs.Kept.{trackedOf}
-use Rattle.helmert_runs.specs.Turns.{helmertTurns}
+use Rattle.helmert_turns.specs.Turns.{helmertTurns}
 use Rattle.stretch.proofs.Again.{Redoing, redoing-start, redoing-again, redoing-stop, redoing-end, redoing-results-long, redoing-track-long}
 use Rattle.stretch.proofs.Stretch.{again-redoes}
 use Rattle.stretch.proofs.redo.Statement.{statement}
