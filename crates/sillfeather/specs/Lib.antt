@@ -1,3 +1,3 @@
 -- What the contracts of the exported functions cite.
 pub mod Codes
-pub mod Arrays
+pub mod Records

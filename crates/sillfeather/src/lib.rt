@@ -12,7 +12,8 @@ ghost use Rattle.stretch.specs.Kept.{keptOf};
 ghost use Rattle.kept.specs.Entries.{keepRefusalOf, keepOf, correctOf};
 ghost use Rattle.making.specs.Adding.{addedOf};
 ghost use Rattle.sillfeather.specs.Codes.{codeOf, isInverse, handed, handedOf, Small, corrected, correctedOf, made, madeOf};
-ghost use Rattle.sillfeather.specs.Arrays.{tupleOf, threeAt, helmertOf, cartWith, molodenskyOf, permtideWith, deformationWith};
+ghost use Rattle.arrays.specs.Arrays.{tupleOf, helmertOf, molodenskyOf};
+ghost use Rattle.sillfeather.specs.Records.{cartWith, permtideWith, deformationWith};
 ghost use Rattle.root.specs.Sqrt.{sqrtOf};
 ghost use Rattle.trig.specs.Trig.{sinOf, cosOf};
 ghost use Rattle.arctan.specs.Arctan.{atan2Of};
@@ -20,11 +21,7 @@ ghost use Rattle.hypot.specs.Hypot.{hypotOf};
 use bodies::Step;
 use cart::Cart;
 use deformation::Deformation;
-use helmert::Helmert;
-use molodensky::Molodensky;
 use permtide::Permtide;
-use rotation::Vec3;
-use tuple::Tuple;
 
 #[no_mangle]
 pub extern "C" fn sillfeather_sqrt(x: f64) -> f64
@@ -135,17 +132,6 @@ pub extern "C" fn sillfeather_keep(
     code(kept::keep(inverse != 0, s, list, results, track))
 }
 
-fn tuple_of(fix: &[f64; 4]) -> Tuple
-    ensures { λ r. ⌜ r ≡ tupleOf (now (fix .entry)) ⌝ }
-{
-    Tuple {
-        x: fix[0],
-        y: fix[1],
-        z: fix[2],
-        t: fix[3],
-    }
-}
-
 // Corrects one fix of a kept run: writes it into the list and redoes from there; `redone` gets how many fixes were, 0 on refusal.
 #[no_mangle]
 pub extern "C" fn sillfeather_correct(
@@ -161,7 +147,7 @@ pub extern "C" fn sillfeather_correct(
     ensures { λ r. ⌜ corrected r (now (redone .exit)) (keptOf (now (list .exit)) (now (results .exit)) (now (track .exit)))
         ≡ correctedOf (correctOf (isInverse inverse) (now (s .entry)) (keptOf (now (list .entry)) (now (results .entry)) (now (track .entry))) index (tupleOf (now (fix .entry)))) ⌝ }
 {
-    let answer = kept::correct(inverse != 0, s, list, results, track, index, tuple_of(fix));
+    let answer = kept::correct(inverse != 0, s, list, results, track, index, arrays::tuple_of(fix));
     let refusal = answer.refusal;
     *redone = answer.redone;
     code(refusal)
@@ -177,40 +163,6 @@ fn add(room: &mut [u8], len: &mut u64, inverted: u32, step: Step) -> u32
     let refusal = added.refusal;
     *len = added.length as u64;
     code(refusal)
-}
-
-fn three_at(numbers: &[f64; 30], i: usize) -> Vec3
-    requires { ⌜ i ≤ 27 ⌝ }
-    ensures { λ r. ⌜ r ≡ threeAt (now (numbers .entry)) i ⌝ }
-{
-    Vec3 {
-        x: numbers[i],
-        y: numbers[i + 1],
-        z: numbers[i + 2],
-    }
-}
-
-fn helmert_of(flags: u32, convention: u32, numbers: &[f64; 30]) -> Helmert
-    ensures { λ r. ⌜ r ≡ helmertOf flags convention (now (numbers .entry)) ⌝ }
-{
-    Helmert {
-        flags: flags,
-        convention: convention,
-        translation: three_at(numbers, 0),
-        xyz: three_at(numbers, 3),
-        translation_rate: three_at(numbers, 6),
-        dxyz: three_at(numbers, 9),
-        rotation: three_at(numbers, 12),
-        rxyz: three_at(numbers, 15),
-        rotation_rate: three_at(numbers, 18),
-        drxyz: three_at(numbers, 21),
-        scale: numbers[24],
-        s: numbers[25],
-        scale_rate: numbers[26],
-        ds: numbers[27],
-        t_epoch: numbers[28],
-        t_obs: numbers[29],
-    }
 }
 
 // The 30 numbers in the order of the body.
@@ -230,7 +182,7 @@ pub extern "C" fn sillfeather_add_helmert(
         room,
         len,
         inverted,
-        Step::Helmert(helmert_of(flags, convention, numbers)),
+        Step::Helmert(arrays::helmert_of(flags, convention, numbers)),
     )
 }
 
@@ -254,21 +206,6 @@ pub extern "C" fn sillfeather_add_cart(
     )
 }
 
-fn molodensky_of(flags: u32, first: u32, second: u32, numbers: &[f64; 5]) -> Molodensky
-    ensures { λ r. ⌜ r ≡ molodenskyOf flags first second (now (numbers .entry)) ⌝ }
-{
-    Molodensky {
-        flags: flags,
-        first: first,
-        second: second,
-        dx: numbers[0],
-        dy: numbers[1],
-        dz: numbers[2],
-        da: numbers[3],
-        df: numbers[4],
-    }
-}
-
 // dx, dy, dz, da, df.
 #[no_mangle]
 pub extern "C" fn sillfeather_add_molodensky(
@@ -287,7 +224,7 @@ pub extern "C" fn sillfeather_add_molodensky(
         room,
         len,
         inverted,
-        Step::Molodensky(molodensky_of(flags, first, second, numbers)),
+        Step::Molodensky(arrays::molodensky_of(flags, first, second, numbers)),
     )
 }
 

@@ -1,8 +1,8 @@
--- `sillfeather::helmert_of` meets its contract. Assumes nothing.
-use Rattle.sillfeather.specs.Arrays.{helmertOf}
+-- `arrays::helmert_of` meets its contract. Assumes nothing.
+use Rattle.arrays.specs.Arrays.{helmertOf}
 use borrow.Author.Needs.{needs}
-use Rattle.sillfeather.proofs.helmert_of.Statement.{statement}
-use Rattle.sillfeather.proofs.helmert_of.Tie as tie
+use Rattle.arrays.proofs.helmert_of.Statement.{statement}
+use Rattle.arrays.proofs.helmert_of.Tie as tie
 
 three-at-requires : tie.Need-three-at-requires
 three-at-requires c κs = search needs

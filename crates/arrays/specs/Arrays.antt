@@ -6,10 +6,7 @@ use lib.Ieee.{Float, nan}
 use Rattle.tuple.specs.declared.Tuple.{Tuple}
 use Rattle.rotation.specs.declared.Vec3.{Vec3}
 use Rattle.helmert.specs.declared.Helmert.{Helmert as HelmertRecord}
-use Rattle.cart.specs.declared.Cart.{Cart as CartRecord}
 use Rattle.molodensky.specs.declared.Molodensky.{Molodensky as MolodenskyRecord}
-use Rattle.permtide.specs.declared.Permtide.{Permtide as PermtideRecord}
-use Rattle.deformation.specs.declared.Deformation.{Deformation as DeformationRecord}
 
 abbrev pub at : List Float → ℕ → Float
 at numbers i = getD numbers i nan
@@ -44,9 +41,6 @@ helmertOf flags convention numbers =
       «t_obs» = at numbers 29;
     }
 
-abbrev pub cartWith : ℕ → CartRecord
-cartWith ellipsoid = record { ellipsoid = ellipsoid }
-
 -- dx, dy, dz, da, df
 unfoldable pub molodenskyOf : ℕ → ℕ → ℕ → List Float → MolodenskyRecord
 molodenskyOf flags first second numbers =
@@ -60,9 +54,3 @@ molodenskyOf flags first second numbers =
       da = at numbers 3;
       df = at numbers 4;
     }
-
-abbrev pub permtideWith : ℕ → ℕ → ℕ → Float → PermtideRecord
-permtideWith ellipsoid to from k = record { ellipsoid = ellipsoid; to = to; from = from; k = k }
-
-abbrev pub deformationWith : ℕ → ℕ → Float → Float → DeformationRecord
-deformationWith flags ellipsoid dt epoch = record { flags = flags; ellipsoid = ellipsoid; dt = dt; epoch = epoch }

@@ -1,9 +1,9 @@
--- `sillfeather::molodensky_of` meets its contract. Assumes nothing.
+-- `arrays::molodensky_of` meets its contract. Assumes nothing.
 use mathlib.Core.Path.{refl}
-use Rattle.sillfeather.specs.Arrays.{molodenskyOf}
+use Rattle.arrays.specs.Arrays.{molodenskyOf}
 use borrow.Author.Needs.{needs}
-use Rattle.sillfeather.proofs.molodensky_of.Statement.{statement}
-use Rattle.sillfeather.proofs.molodensky_of.Tie as tie
+use Rattle.arrays.proofs.molodensky_of.Statement.{statement}
+use Rattle.arrays.proofs.molodensky_of.Tie as tie
 
 element-copy-out-t7 : tie.Need-element-copy-out-t7
 element-copy-out-t7 c = search needs

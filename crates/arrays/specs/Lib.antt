@@ -1,0 +1,2 @@
+-- What the contracts of `arrays` cite.
+pub mod Arrays
