@@ -2,7 +2,7 @@
 use borrow.Author.Needs.{needs}
 use native.Mathlib.Omega.{arith}
 use Prim.Native.Nat.{_+_, _-_}
-use mathlib.Core.Path.{_≡_}
+use mathlib.Core.Path.{_≡_, refl}
 use Rattle.sheet.specs.Layout.{entryAt}
 use Rattle.chain.proofs.Laws.{Backward, backward-start, backward-again, backward-end}
 use Rattle.chain.proofs.backward.Statement.{statement}
@@ -15,7 +15,7 @@ abbrev μ-loop : tie.MeasureT-loop
 μ-loop s n list₀ velocities marks counts₀ i₀ list counts i = i
 
 loop-holds : tie.Need-loop-holds Inv-loop μ-loop
-loop-holds c = backward-start _ _ _ _ _ (c .before .before .before .before .pre)
+loop-holds c = backward-start _ _ _ _ _ (c .before .before .before .before .pre .0)
 
 sub-i : tie.Need-sub-i Inv-loop μ-loop
 sub-i c = search needs
@@ -34,15 +34,15 @@ loop-less c = search needs
 
 loop-again : tie.Need-loop-again Inv-loop μ-loop
 loop-again c =
-    let l = c .before .before .before .before .before .before .loop in
-    let j : l .i - 1 + 1 ≡ l .i = omega (arith, c .before .before .before .before .before .loop-test .taken) in
-    backward-again (c .before .before .before .before .before .before .before .before .before .before .before .pre) (l .i - 1) j (c .before .before .before .before .entry-at .ensures) (c .before .before .run-step .ensures .0) (c .before .before .run-step .ensures .1) (l .inv)
+    let l = c .before .before .before .before .before .loop in
+    let j : l .i - 1 + 1 ≡ l .i = omega (arith, c .before .before .before .before .loop-test .taken) in
+    backward-again (c .before .before .before .before .before .before .before .before .before .before .pre .0) (l .i - 1) j refl (c .before .before .run-at .ensures .0) (c .before .before .run-at .ensures .1) (l .inv)
 
 same-length : tie.Need-same-length Inv-loop μ-loop
 same-length c = c .before .loop .inv .long
 
 returns : tie.Need-returns Inv-loop μ-loop
-returns c = backward-end (c .before .before .before .before .before .before .pre) (search needs) (c .before .loop .inv)
+returns c = backward-end (c .before .before .before .before .before .before .pre .0) (search needs) (c .before .loop .inv)
 
 pub backward-spec : {M : Type 1} → statement M
 backward-spec =

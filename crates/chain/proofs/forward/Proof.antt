@@ -1,6 +1,7 @@
 -- `chain::forward` meets its contract. Assumes nothing.
 use borrow.Author.Needs.{needs}
 use Prim.Native.Nat.{_-_}
+use mathlib.Core.Path.{refl}
 use Rattle.sheet.specs.Layout.{entryAt}
 use Rattle.chain.proofs.Laws.{Forward, forward-start, forward-again, forward-end}
 use Rattle.chain.proofs.forward.Statement.{statement}
@@ -13,7 +14,7 @@ abbrev μ-loop : tie.MeasureT-loop
 μ-loop s n list₀ velocities marks counts₀ i₀ list counts i = n - i
 
 loop-holds : tie.Need-loop-holds Inv-loop μ-loop
-loop-holds c = forward-start _ _ _ _ _ (c .before .before .before .before .pre)
+loop-holds c = forward-start _ _ _ _ _ (c .before .before .before .before .pre .0)
 
 run-at-requires : tie.Need-run-at-requires Inv-loop μ-loop
 run-at-requires c κs = search needs
@@ -32,13 +33,13 @@ loop-less c = search needs
 
 loop-again : tie.Need-loop-again Inv-loop μ-loop
 loop-again c =
-    forward-again (c .before .before .before .before .before .before .before .before .before .before .before .pre) (search needs) (c .before .before .before .before .entry-at .ensures) (c .before .before .run-step .ensures .0) (c .before .before .run-step .ensures .1) (c .before .before .before .before .before .before .loop .inv)
+    forward-again (c .before .before .before .before .before .before .before .before .before .before .pre .0) (search needs) refl (c .before .before .run-at .ensures .0) (c .before .before .run-at .ensures .1) (c .before .before .before .before .before .loop .inv)
 
 same-length : tie.Need-same-length Inv-loop μ-loop
 same-length c = c .before .loop .inv .long
 
 returns : tie.Need-returns Inv-loop μ-loop
-returns c = forward-end (c .before .before .before .before .before .before .pre) (search needs) (c .before .loop .inv)
+returns c = forward-end (c .before .before .before .before .before .before .pre .0) (search needs) (c .before .loop .inv)
 
 pub forward-spec : {M : Type 1} → statement M
 forward-spec =
