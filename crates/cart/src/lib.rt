@@ -3,6 +3,7 @@
 // Forward is `geocart::cartesian`. Inverse is cart.rs's own method, Fukushima's (2006) in Claessens' (2019) form, with the Rust's letters and sequence of
 // roundings; it is not `geocart::geographic`, from which it parts in the last bits and near the axis (cutoff a·1e-16 against 1e-12). On the axis the tuple
 // is written and not counted; a NaN Z gives a NaN latitude there, a listed difference. Elsewhere a tuple counts where no number of the result is NaN.
+// Sixteen tuples at a time: the crate cart_block.
 ghost use mathlib.Core.Path.{_≡_};
 ghost use Rattle.cart.specs.Record.{blankOf, inRuleOf};
 ghost use Rattle.cart.specs.Step.{countedOf, cartFwdOf, inverseOf, meridianOf, heightOf, offAxisOf, onAxisOf, cartInvOf};
