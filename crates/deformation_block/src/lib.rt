@@ -64,10 +64,7 @@ fn turned_block(
             s: slon[i],
             c: dz[i],
         };
-        let lat = SinCos {
-            s: dx[i],
-            c: dy[i],
-        };
+        let lat = SinCos { s: dx[i], c: dy[i] };
         let r = deformation::turned(v.scale(k), lon, lat, lasting(op, fixed, t[i]));
         dx[i] = r.x;
         dy[i] = r.y;

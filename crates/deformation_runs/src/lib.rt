@@ -173,7 +173,20 @@ fn deformation_sixteen(
     let mut phi = [0.0; WIDTH];
     lists::read_block(list, i, &mut x, &mut y, &mut z, &mut t);
     geocart::place_block(op.ellps, &x, &y, &z, &t, &mut lam, &mut phi);
-    moved_sixteen(list, i, op, inverse, velocities, marks, &x, &y, &z, &t, &lam, &phi)
+    moved_sixteen(
+        list,
+        i,
+        op,
+        inverse,
+        velocities,
+        marks,
+        &x,
+        &y,
+        &z,
+        &t,
+        &lam,
+        &phi,
+    )
 }
 
 fn deformation_common(
