@@ -22,7 +22,7 @@ use Rattle.geocart.proofs.Laws.{geographic-time}
 use Rattle.deformation.specs.declared.Motion.{Motion}
 use Rattle.deformation.specs.declared.Velocity.{Velocity}
 use Rattle.deformation.specs.Step.{durationOf, scaleOf, metresOf, turnedOf, integratedOf, withLengthOf, deformedOf, commonOf}
-use Rattle.deformation_block.specs.Places.{velocityOf, shiftedOf, correctionOf, lastingOf, metreOf, turnedAt, correctionAt, keptOf}
+use Rattle.deformation_block.specs.Places.{velocityOf, shiftedOf, correctionOf, movedOf, movedAt, lastingOf, metreOf, turnedAt, correctionAt, keptOf}
 
 -- ---- a count
 
@@ -53,9 +53,9 @@ all-counted {n} {i} {f} low high before =
     before .counted ∙ ap (λ (k : ℕ). countTo k f) e
 
 -- the property may be told in another way
-pub count-told : (n : ℕ) (f g : ℕ → Bool) → ((j : ℕ) → f j ≡ g j) → countTo n f ≡ countTo n g
+pub count-told : (n : ℕ) (f g : ℕ → Bool) → ((j : ℕ) → j < n → f j ≡ g j) → countTo n f ≡ countTo n g
 count-told zero f g same = refl
-count-told (suc n) f g same = ap (λ (k : ℕ). k + cond (f n) 1 0) (count-told n f g same) ∙ ap (λ (b : Bool). countTo n g + cond b 1 0) (same n)
+count-told (suc n) f g same = ap (λ (k : ℕ). k + cond (f n) 1 0) (count-told n f g (λ j k. same j (omega arith))) ∙ ap (λ (b : Bool). countTo n g + cond b 1 0) (same n (omega arith))
 
 -- ---- the correction
 
@@ -65,22 +65,20 @@ scale-metre false v = refl
 
 -- from the sines and cosines of a place
 pub turned-corrects :
-    (op : Motion) (inverse : Bool) (v : Velocity) (cart : Tuple) {fixed : Bool} {k lam phi slon clon slat clat : Float}
+    (op : Motion) (inverse : Bool) (v : Velocity) (lam phi t : Float) {fixed : Bool} {k slon clon slat clat : Float}
     → fixed ≡ finite (op .dt) → k ≡ metreOf inverse
-    → lam ≡ placeOf (op .ellps) cart .lam → phi ≡ placeOf (op .ellps) cart .phi
     → slon ≡ sinOf lam → clon ≡ cosOf lam → slat ≡ sinOf phi → clat ≡ cosOf phi
-    → turnedOf (scaleOf v k) (record { s = slon; c = clon }) (record { s = slat; c = clat }) (lastingOf op fixed (cart .t)) ≡ correctionOf op inverse v cart
+    → turnedOf (scaleOf v k) (record { s = slon; c = clon }) (record { s = slat; c = clat }) (lastingOf op fixed t) ≡ correctionOf op inverse v lam phi t
 unfolding correctionOf integratedOf durationOf turnedOf
-turned-corrects op inverse v cart given metre lam phi slon clon slat clat =
-    rw (slon, clon, slat, clat, lam, phi, given, metre, ← scale-metre inverse v)
+turned-corrects op inverse v lam phi t given metre slon clon slat clat = rw (slon, clon, slat, clat, given, metre, ← scale-metre inverse v)
 
 -- from its columns
 pub columns-correct :
-    (op : Motion) (inverse : Bool) (v : Velocity) (cart : Tuple) {dx dy dz : Float}
-    → dx ≡ correctionOf op inverse v cart .x → dy ≡ correctionOf op inverse v cart .y → dz ≡ correctionOf op inverse v cart .z
-    → _≡_ {A = Tuple} (record { x = dx; y = dy; z = dz; t = bits 0 }) (correctionOf op inverse v cart)
+    (op : Motion) (inverse : Bool) (v : Velocity) (lam phi t : Float) {dx dy dz : Float}
+    → dx ≡ correctionOf op inverse v lam phi t .x → dy ≡ correctionOf op inverse v lam phi t .y → dz ≡ correctionOf op inverse v lam phi t .z
+    → _≡_ {A = Tuple} (record { x = dx; y = dy; z = dz; t = bits 0 }) (correctionOf op inverse v lam phi t)
 unfolding correctionOf integratedOf
-columns-correct op inverse v cart x y z = rw (x, y, z)
+columns-correct op inverse v lam phi t x y z = rw (x, y, z)
 
 -- ---- what is written
 
@@ -94,94 +92,126 @@ counts false u = refl
 
 -- the correction with its length
 pub kept-raw :
-    (op : Motion) (inverse : Bool) (v : Velocity) (mark : ℕ) (cart : Tuple) (f : Tuple → Float) {d : Tuple}
-    → op .raw ≡ true → f nanTuple ≡ nan → d ≡ correctionOf op inverse v cart
-    → keptOf mark (f (withLengthOf d)) ≡ f (commonOf op inverse v mark cart .tuple)
-unfolding commonOf deformedOf correctionOf
-kept-raw op inverse v mark cart f raw nans e = rw (e, geographic-time, raw) (either (eqb mark 1) _ f nans)
+    (op : Motion) (inverse : Bool) (v : Velocity) (mark : ℕ) (lam phi : Float) (cart : Tuple) (f : Tuple → Float) {d : Tuple}
+    → op .raw ≡ true → f nanTuple ≡ nan → d ≡ correctionOf op inverse v lam phi (cart .t)
+    → keptOf mark (f (withLengthOf d)) ≡ f (movedOf op inverse v mark lam phi cart .tuple)
+unfolding movedOf
+kept-raw op inverse v mark lam phi cart f raw nans e = rw (e, raw) (either (eqb mark 1) _ f nans)
 
 -- the sum
 pub kept-sum :
-    (op : Motion) (inverse : Bool) (v : Velocity) (mark : ℕ) (cart : Tuple) (f : Tuple → Float) {d : Tuple}
-    → op .raw ≡ false → f nanTuple ≡ nan → d ≡ correctionOf op inverse v cart
-    → keptOf mark (f (addOf cart d)) ≡ f (commonOf op inverse v mark cart .tuple)
-unfolding commonOf deformedOf correctionOf
-kept-sum op inverse v mark cart f raw nans e = rw (e, geographic-time, raw) (either (eqb mark 1) _ f nans)
+    (op : Motion) (inverse : Bool) (v : Velocity) (mark : ℕ) (lam phi : Float) (cart : Tuple) (f : Tuple → Float) {d : Tuple}
+    → op .raw ≡ false → f nanTuple ≡ nan → d ≡ correctionOf op inverse v lam phi (cart .t)
+    → keptOf mark (f (addOf cart d)) ≡ f (movedOf op inverse v mark lam phi cart .tuple)
+unfolding movedOf
+kept-sum op inverse v mark lam phi cart f raw nans e = rw (e, raw) (either (eqb mark 1) _ f nans)
 
 -- a tuple counts where its mark is 1
-pub mark-counts : (op : Motion) (inverse : Bool) (v : Velocity) (mark : ℕ) (cart : Tuple) → eqb mark 1 ≡ commonOf op inverse v mark cart .counted
-unfolding commonOf
-mark-counts op inverse v mark cart = counts (eqb mark 1) _
+pub mark-counts : (op : Motion) (inverse : Bool) (v : Velocity) (mark : ℕ) (lam phi : Float) (cart : Tuple) → eqb mark 1 ≡ movedOf op inverse v mark lam phi cart .counted
+unfolding movedOf
+mark-counts op inverse v mark lam phi cart = counts (eqb mark 1) _
+
+-- with the place of the tuple itself it is the step
+pub moved-common :
+    (op : Motion) (inverse : Bool) (v : Velocity) (mark : ℕ) (cart : Tuple) {lam phi : Float}
+    → lam ≡ placeOf (op .ellps) cart .lam → phi ≡ placeOf (op .ellps) cart .phi
+    → movedOf op inverse v mark lam phi cart ≡ commonOf op inverse v mark cart
+unfolding movedOf correctionOf commonOf deformedOf
+moved-common op inverse v mark cart lam phi = rw (lam, phi, geographic-time)
 
 -- ---- the same over columns
 
-module _ (op : Motion) (inverse : Bool) (east north up : List Float) (marks : List ℕ) (x y z t : List Float) where
+module _ (op : Motion) (inverse : Bool) (east north up : List Float) (marks : List ℕ) (lam phi x y z t : List Float) where
   pub turned-all :
-      {fixed : Bool} {k : Float} {lam phi slon clon slat clat dx dy dz : List Float}
+      {fixed : Bool} {k : Float} {slon clon slat clat dx dy dz : List Float}
       → Each dx (λ (j : ℕ). turnedAt op fixed k east north up t slon clon slat clat j .x) → Each dy (λ (j : ℕ). turnedAt op fixed k east north up t slon clon slat clat j .y) → Each dz (λ (j : ℕ). turnedAt op fixed k east north up t slon clon slat clat j .z)
       → fixed ≡ finite (op .dt) → k ≡ metreOf inverse
-      → Each lam (λ (j : ℕ). placeOf (op .ellps) (rowOf x y z t j) .lam) → Each phi (λ (j : ℕ). placeOf (op .ellps) (rowOf x y z t j) .phi)
       → Each slon (λ (j : ℕ). sinOf (at lam j)) → Each clon (λ (j : ℕ). cosOf (at lam j))
       → Each slat (λ (j : ℕ). sinOf (at phi j)) → Each clat (λ (j : ℕ). cosOf (at phi j))
-      → Each dx (λ (j : ℕ). correctionOf op inverse (velocityOf east north up j) (rowOf x y z t j) .x)
-      × Each dy (λ (j : ℕ). correctionOf op inverse (velocityOf east north up j) (rowOf x y z t j) .y)
-      × Each dz (λ (j : ℕ). correctionOf op inverse (velocityOf east north up j) (rowOf x y z t j) .z)
-  turned-all {fixed} {k} {lam} {phi} {slon} {clon} {slat} {clat} {dx} {dy} {dz} hx hy hz given metre hl hp hsl hcl hsp hcp =
+      → Each dx (λ (j : ℕ). correctionOf op inverse (velocityOf east north up j) (at lam j) (at phi j) (at t j) .x)
+      × Each dy (λ (j : ℕ). correctionOf op inverse (velocityOf east north up j) (at lam j) (at phi j) (at t j) .y)
+      × Each dz (λ (j : ℕ). correctionOf op inverse (velocityOf east north up j) (at lam j) (at phi j) (at t j) .z)
+  turned-all {fixed} {k} {slon} {clon} {slat} {clat} hx hy hz given metre hsl hcl hsp hcp =
       (told (λ j i. ap (λ (r : Tuple). r .x) (same j i)) hx, told (λ j i. ap (λ (r : Tuple). r .y) (same j i)) hy, told (λ j i. ap (λ (r : Tuple). r .z) (same j i)) hz)
     where
-      same : (j : ℕ) → j < 16 → turnedAt op fixed k east north up t slon clon slat clat j ≡ correctionOf op inverse (velocityOf east north up j) (rowOf x y z t j)
-      same j i = turned-corrects op inverse (velocityOf east north up j) (rowOf x y z t j) given metre (hl .held j i) (hp .held j i) (hsl .held j i) (hcl .held j i) (hsp .held j i) (hcp .held j i)
+      same : (j : ℕ) → j < 16 → turnedAt op fixed k east north up t slon clon slat clat j ≡ correctionOf op inverse (velocityOf east north up j) (at lam j) (at phi j) (at t j)
+      same j i = turned-corrects op inverse (velocityOf east north up j) (at lam j) (at phi j) (at t j) given metre (hsl .held j i) (hcl .held j i) (hsp .held j i) (hcp .held j i)
 
   -- the corrections with their lengths
   pub raw-all :
       {dx dy dz length ox oy oz ot : List Float} {n : ℕ}
       → op .raw ≡ true
-      → Each dx (λ (j : ℕ). correctionOf op inverse (velocityOf east north up j) (rowOf x y z t j) .x) → Each dy (λ (j : ℕ). correctionOf op inverse (velocityOf east north up j) (rowOf x y z t j) .y) → Each dz (λ (j : ℕ). correctionOf op inverse (velocityOf east north up j) (rowOf x y z t j) .z)
+      → Each dx (λ (j : ℕ). correctionOf op inverse (velocityOf east north up j) (at lam j) (at phi j) (at t j) .x) → Each dy (λ (j : ℕ). correctionOf op inverse (velocityOf east north up j) (at lam j) (at phi j) (at t j) .y) → Each dz (λ (j : ℕ). correctionOf op inverse (velocityOf east north up j) (at lam j) (at phi j) (at t j) .z)
       → Each length (λ (j : ℕ). sqrtOf (dotOf (correctionAt dx dy dz j) (correctionAt dx dy dz j)))
       → Each ox (λ (j : ℕ). keptOf (wholeAt marks j) (at dx j))
       → Each oy (λ (j : ℕ). keptOf (wholeAt marks j) (at dy j))
       → Each oz (λ (j : ℕ). keptOf (wholeAt marks j) (at dz j))
       → Each ot (λ (j : ℕ). keptOf (wholeAt marks j) (at length j))
       → n ≡ countTo 16 (λ (j : ℕ). eqb (wholeAt marks j) 1)
-      → Each ox (λ (j : ℕ). shiftedOf op inverse east north up marks x y z t j .tuple .x)
-      × Each oy (λ (j : ℕ). shiftedOf op inverse east north up marks x y z t j .tuple .y)
-      × Each oz (λ (j : ℕ). shiftedOf op inverse east north up marks x y z t j .tuple .z)
-      × Each ot (λ (j : ℕ). shiftedOf op inverse east north up marks x y z t j .tuple .t)
-      × (n ≡ countTo 16 (λ (j : ℕ). shiftedOf op inverse east north up marks x y z t j .counted))
+      → Each ox (λ (j : ℕ). movedAt op inverse east north up marks lam phi x y z t j .tuple .x)
+      × Each oy (λ (j : ℕ). movedAt op inverse east north up marks lam phi x y z t j .tuple .y)
+      × Each oz (λ (j : ℕ). movedAt op inverse east north up marks lam phi x y z t j .tuple .z)
+      × Each ot (λ (j : ℕ). movedAt op inverse east north up marks lam phi x y z t j .tuple .t)
+      × (n ≡ countTo 16 (λ (j : ℕ). movedAt op inverse east north up marks lam phi x y z t j .counted))
   unfolding withLengthOf
   raw-all {dx} {dy} {dz} {length} raw cx cy cz hl hx hy hz ht count = (
     told (λ j i. keeps j i (λ (r : Tuple). r .x) refl) hx,
     told (λ j i. keeps j i (λ (r : Tuple). r .y) refl) hy,
     told (λ j i. keeps j i (λ (r : Tuple). r .z) refl) hz,
     told (λ j i. ap (λ (l : Float). keptOf (wholeAt marks j) l) (hl .held j i) ∙ keeps j i (λ (r : Tuple). r .t) refl) ht,
-    count ∙ count-told 16 _ _ (λ j. mark-counts op inverse (velocityOf east north up j) (wholeAt marks j) (rowOf x y z t j)),
+    count ∙ count-told 16 _ _ (λ j _. mark-counts op inverse (velocityOf east north up j) (wholeAt marks j) (at lam j) (at phi j) (rowOf x y z t j)),
   )
     where
-      keeps : (j : ℕ) → j < 16 → (f : Tuple → Float) → f nanTuple ≡ nan → keptOf (wholeAt marks j) (f (withLengthOf (correctionAt dx dy dz j))) ≡ f (shiftedOf op inverse east north up marks x y z t j .tuple)
-      keeps j i f nans = kept-raw op inverse (velocityOf east north up j) (wholeAt marks j) (rowOf x y z t j) f raw nans (columns-correct op inverse (velocityOf east north up j) (rowOf x y z t j) (cx .held j i) (cy .held j i) (cz .held j i))
+      keeps : (j : ℕ) → j < 16 → (f : Tuple → Float) → f nanTuple ≡ nan → keptOf (wholeAt marks j) (f (withLengthOf (correctionAt dx dy dz j))) ≡ f (movedAt op inverse east north up marks lam phi x y z t j .tuple)
+      keeps j i f nans = kept-raw op inverse (velocityOf east north up j) (wholeAt marks j) (at lam j) (at phi j) (rowOf x y z t j) f raw nans (columns-correct op inverse (velocityOf east north up j) (at lam j) (at phi j) (at t j) (cx .held j i) (cy .held j i) (cz .held j i))
 
   -- the sums
   pub sum-all :
       {dx dy dz ox oy oz ot : List Float} {n : ℕ}
       → op .raw ≡ false
-      → Each dx (λ (j : ℕ). correctionOf op inverse (velocityOf east north up j) (rowOf x y z t j) .x) → Each dy (λ (j : ℕ). correctionOf op inverse (velocityOf east north up j) (rowOf x y z t j) .y) → Each dz (λ (j : ℕ). correctionOf op inverse (velocityOf east north up j) (rowOf x y z t j) .z)
+      → Each dx (λ (j : ℕ). correctionOf op inverse (velocityOf east north up j) (at lam j) (at phi j) (at t j) .x) → Each dy (λ (j : ℕ). correctionOf op inverse (velocityOf east north up j) (at lam j) (at phi j) (at t j) .y) → Each dz (λ (j : ℕ). correctionOf op inverse (velocityOf east north up j) (at lam j) (at phi j) (at t j) .z)
       → Each ox (λ (j : ℕ). keptOf (wholeAt marks j) (at x j ⊕ at dx j))
       → Each oy (λ (j : ℕ). keptOf (wholeAt marks j) (at y j ⊕ at dy j))
       → Each oz (λ (j : ℕ). keptOf (wholeAt marks j) (at z j ⊕ at dz j))
       → Each ot (λ (j : ℕ). keptOf (wholeAt marks j) (at t j ⊕ bits 0))
       → n ≡ countTo 16 (λ (j : ℕ). eqb (wholeAt marks j) 1)
-      → Each ox (λ (j : ℕ). shiftedOf op inverse east north up marks x y z t j .tuple .x)
-      × Each oy (λ (j : ℕ). shiftedOf op inverse east north up marks x y z t j .tuple .y)
-      × Each oz (λ (j : ℕ). shiftedOf op inverse east north up marks x y z t j .tuple .z)
-      × Each ot (λ (j : ℕ). shiftedOf op inverse east north up marks x y z t j .tuple .t)
-      × (n ≡ countTo 16 (λ (j : ℕ). shiftedOf op inverse east north up marks x y z t j .counted))
+      → Each ox (λ (j : ℕ). movedAt op inverse east north up marks lam phi x y z t j .tuple .x)
+      × Each oy (λ (j : ℕ). movedAt op inverse east north up marks lam phi x y z t j .tuple .y)
+      × Each oz (λ (j : ℕ). movedAt op inverse east north up marks lam phi x y z t j .tuple .z)
+      × Each ot (λ (j : ℕ). movedAt op inverse east north up marks lam phi x y z t j .tuple .t)
+      × (n ≡ countTo 16 (λ (j : ℕ). movedAt op inverse east north up marks lam phi x y z t j .counted))
   sum-all {dx} {dy} {dz} raw cx cy cz hx hy hz ht count = (
     told (λ j i. keeps j i (λ (r : Tuple). r .x) refl) hx,
     told (λ j i. keeps j i (λ (r : Tuple). r .y) refl) hy,
     told (λ j i. keeps j i (λ (r : Tuple). r .z) refl) hz,
     told (λ j i. keeps j i (λ (r : Tuple). r .t) refl) ht,
-    count ∙ count-told 16 _ _ (λ j. mark-counts op inverse (velocityOf east north up j) (wholeAt marks j) (rowOf x y z t j)),
+    count ∙ count-told 16 _ _ (λ j _. mark-counts op inverse (velocityOf east north up j) (wholeAt marks j) (at lam j) (at phi j) (rowOf x y z t j)),
   )
     where
-      keeps : (j : ℕ) → j < 16 → (f : Tuple → Float) → f nanTuple ≡ nan → keptOf (wholeAt marks j) (f (addOf (rowOf x y z t j) (correctionAt dx dy dz j))) ≡ f (shiftedOf op inverse east north up marks x y z t j .tuple)
-      keeps j i f nans = kept-sum op inverse (velocityOf east north up j) (wholeAt marks j) (rowOf x y z t j) f raw nans (columns-correct op inverse (velocityOf east north up j) (rowOf x y z t j) (cx .held j i) (cy .held j i) (cz .held j i))
+      keeps : (j : ℕ) → j < 16 → (f : Tuple → Float) → f nanTuple ≡ nan → keptOf (wholeAt marks j) (f (addOf (rowOf x y z t j) (correctionAt dx dy dz j))) ≡ f (movedAt op inverse east north up marks lam phi x y z t j .tuple)
+      keeps j i f nans = kept-sum op inverse (velocityOf east north up j) (wholeAt marks j) (at lam j) (at phi j) (rowOf x y z t j) f raw nans (columns-correct op inverse (velocityOf east north up j) (at lam j) (at phi j) (at t j) (cx .held j i) (cy .held j i) (cz .held j i))
+
+  -- with the places of the tuples themselves
+  pub common-all :
+      {ox oy oz ot : List Float} {n : ℕ}
+      → Each lam (λ (j : ℕ). placeOf (op .ellps) (rowOf x y z t j) .lam) → Each phi (λ (j : ℕ). placeOf (op .ellps) (rowOf x y z t j) .phi)
+      → Each ox (λ (j : ℕ). movedAt op inverse east north up marks lam phi x y z t j .tuple .x)
+      → Each oy (λ (j : ℕ). movedAt op inverse east north up marks lam phi x y z t j .tuple .y)
+      → Each oz (λ (j : ℕ). movedAt op inverse east north up marks lam phi x y z t j .tuple .z)
+      → Each ot (λ (j : ℕ). movedAt op inverse east north up marks lam phi x y z t j .tuple .t)
+      → n ≡ countTo 16 (λ (j : ℕ). movedAt op inverse east north up marks lam phi x y z t j .counted)
+      → Each ox (λ (j : ℕ). shiftedOf op inverse east north up marks x y z t j .tuple .x)
+      × Each oy (λ (j : ℕ). shiftedOf op inverse east north up marks x y z t j .tuple .y)
+      × Each oz (λ (j : ℕ). shiftedOf op inverse east north up marks x y z t j .tuple .z)
+      × Each ot (λ (j : ℕ). shiftedOf op inverse east north up marks x y z t j .tuple .t)
+      × (n ≡ countTo 16 (λ (j : ℕ). shiftedOf op inverse east north up marks x y z t j .counted))
+  common-all hl hp hx hy hz ht count = (
+    told (λ j i. ap (λ (s : Shifted). s .tuple .x) (same j i)) hx,
+    told (λ j i. ap (λ (s : Shifted). s .tuple .y) (same j i)) hy,
+    told (λ j i. ap (λ (s : Shifted). s .tuple .z) (same j i)) hz,
+    told (λ j i. ap (λ (s : Shifted). s .tuple .t) (same j i)) ht,
+    count ∙ count-told 16 _ _ (λ j i. ap (λ (s : Shifted). s .counted) (same j i)),
+  )
+    where
+      same : (j : ℕ) → j < 16 → movedAt op inverse east north up marks lam phi x y z t j ≡ shiftedOf op inverse east north up marks x y z t j
+      same j i = moved-common op inverse (velocityOf east north up j) (wholeAt marks j) (rowOf x y z t j) (hl .held j i) (hp .held j i)

@@ -1,6 +1,6 @@
 -- The step over columns: sixteen velocities, marks and tuples, and what `common` gives at a place of them; and the parts that it is worked out in, one loop each.
 use Prim.Native.Nat.{ℕ}
-use mathlib.Core.Bool.{Bool, cond}
+use mathlib.Core.Bool.{Bool, true, false, cond}
 use mathlib.Core.List.{List}
 use lib.Dec.{eqb}
 use lib.Ieee.{Float, nan, neg}
@@ -9,11 +9,11 @@ use Rattle.blocks.specs.Each.{at, wholeAt}
 use Rattle.trig.specs.declared.SinCos.{SinCos}
 use Rattle.tuple.specs.declared.Tuple.{Tuple}
 use Rattle.tuple.specs.declared.Shifted.{Shifted}
+use Rattle.tuple.specs.Sums.{nanTuple, addOf}
 use Rattle.tuple.specs.Columns.{rowOf}
-use Rattle.geocart.specs.Geocart.{geographicOf}
 use Rattle.deformation.specs.declared.Motion.{Motion}
 use Rattle.deformation.specs.declared.Velocity.{Velocity}
-use Rattle.deformation.specs.Step.{durationOf, scaleOf, metresOf, turnedOf, integratedOf, commonOf}
+use Rattle.deformation.specs.Step.{durationOf, scaleOf, metresOf, turnedOf, integratedOf, withLengthOf, commonOf}
 
 -- the velocity at a place of the columns
 abbrev pub velocityOf : List Float → List Float → List Float → ℕ → Velocity
@@ -25,13 +25,25 @@ abbrev pub shiftedOf :
 shiftedOf op inverse east north up marks x y z t j =
     commonOf op inverse (velocityOf east north up j) (wholeAt marks j) (rowOf x y z t j)
 
--- ---- parts
+-- what is added to a tuple whose longitude and latitude are lam and phi, or written in its place
+unfoldable pub correctionOf : Motion → Bool → Velocity → Float → Float → Float → Tuple
+correctionOf op inverse v lam phi t = integratedOf (metresOf inverse v) lam phi (durationOf op t)
 
--- what is added to a tuple, or written in its place
-unfoldable pub correctionOf : Motion → Bool → Velocity → Tuple → Tuple
-correctionOf op inverse v cart =
-    let geo = geographicOf (op .ellps) cart in
-    integratedOf (metresOf inverse v) (geo .x) (geo .y) (durationOf op (cart .t))
+-- the step with longitude and latitude at hand
+unfoldable pub movedOf : Motion → Bool → Velocity → ℕ → Float → Float → Tuple → Shifted
+movedOf op inverse v mark lam phi cart =
+    let d = correctionOf op inverse v lam phi (cart .t) in
+    cond (eqb mark 1)
+    (record { tuple = cond (op .raw) (withLengthOf d) (addOf cart d); counted = true })
+    (record { tuple = nanTuple; counted = false })
+
+-- the same at a place
+abbrev pub movedAt :
+    Motion → Bool → List Float → List Float → List Float → List ℕ → List Float → List Float → List Float → List Float → List Float → List Float → ℕ → Shifted
+movedAt op inverse east north up marks lam phi x y z t j =
+    movedOf op inverse (velocityOf east north up j) (wholeAt marks j) (at lam j) (at phi j) (rowOf x y z t j)
+
+-- ---- parts
 
 -- how long, with what dt is decided: fixed says that it is given
 abbrev pub lastingOf : Motion → Bool → Float → Float

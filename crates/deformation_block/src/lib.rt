@@ -1,8 +1,7 @@
 // Kinematic datum shift by velocities of the ground, sixteen tuples at a time: the step of `deformation` over columns.
 //
 // Each loop is straight arithmetic over the places, so that a compiler makes vectors of it; what depends on the step and not on the tuple is decided before.
-// An absent velocity is worked on like the others, and NaN is written in the end. The columns that the results go to serve for the parts before, so that one
-// column more is enough.
+// An absent velocity is worked on like the others, and NaN is written in the end. The columns that the results go to serve for the parts before.
 // Every number is `deformation::common`'s in every bit: proved place by place against the same definition. Used by `deformation_runs`.
 ghost use mathlib.Core.Path.{_≡_};
 ghost use Prim.Native.Nat.{ℕ, _+_, _<_};
@@ -13,8 +12,7 @@ ghost use Rattle.floats.specs.Binary64.{_⊕_, bits};
 ghost use Rattle.blocks.specs.Each.{at, wholeAt, Each, countTo};
 ghost use Rattle.root.specs.Sqrt.{sqrtOf};
 ghost use Rattle.tuple.specs.Sums.{dotOf};
-ghost use Rattle.tuple.specs.Columns.{rowOf};
-ghost use Rattle.deformation_block.specs.Places.{velocityOf, shiftedOf, correctionOf, lastingOf, metreOf, turnedAt, correctionAt, keptOf};
+ghost use Rattle.deformation_block.specs.Places.{velocityOf, shiftedOf, correctionOf, movedAt, lastingOf, metreOf, turnedAt, correctionAt, keptOf};
 use blocks::WIDTH;
 use deformation::Motion;
 use deformation::Velocity;
@@ -35,7 +33,8 @@ fn metre(inverse: bool) -> f64
     if inverse { 0.001 } else { -0.001 }
 }
 
-// The velocities, turned and times their durations. k brings them to metres. dx comes with the sines of the latitudes, dz with the cosines of the longitudes.
+// The velocities, turned and times their durations. k brings them to metres. dx comes with the sines of the latitudes, dy with their cosines, dz with the cosines
+// of the longitudes.
 fn turned_block(
     op: Motion,
     fixed: bool,
@@ -45,17 +44,15 @@ fn turned_block(
     up: &[f64; WIDTH],
     t: &[f64; WIDTH],
     slon: &[f64; WIDTH],
-    clat: &[f64; WIDTH],
     dx: &mut [f64; WIDTH],
     dy: &mut [f64; WIDTH],
     dz: &mut [f64; WIDTH],
 )
-    requires { ⌜ (length (now dx) ≡ 16) × (length (now dz) ≡ 16) ⌝ }
-    ensures { λ _. ⌜ Each (now (dx .exit)) (λ (j : ℕ). turnedAt op fixed k (now (east .entry)) (now (north .entry)) (now (up .entry)) (now (t .entry)) (now (slon .entry)) (now (dz .entry)) (now (dx .entry)) (now (clat .entry)) j .x)
-        × Each (now (dy .exit)) (λ (j : ℕ). turnedAt op fixed k (now (east .entry)) (now (north .entry)) (now (up .entry)) (now (t .entry)) (now (slon .entry)) (now (dz .entry)) (now (dx .entry)) (now (clat .entry)) j .y)
-        × Each (now (dz .exit)) (λ (j : ℕ). turnedAt op fixed k (now (east .entry)) (now (north .entry)) (now (up .entry)) (now (t .entry)) (now (slon .entry)) (now (dz .entry)) (now (dx .entry)) (now (clat .entry)) j .z) ⌝ }
+    requires { ⌜ (length (now dx) ≡ 16) × (length (now dy) ≡ 16) × (length (now dz) ≡ 16) ⌝ }
+    ensures { λ _. ⌜ Each (now (dx .exit)) (λ (j : ℕ). turnedAt op fixed k (now (east .entry)) (now (north .entry)) (now (up .entry)) (now (t .entry)) (now (slon .entry)) (now (dz .entry)) (now (dx .entry)) (now (dy .entry)) j .x)
+        × Each (now (dy .exit)) (λ (j : ℕ). turnedAt op fixed k (now (east .entry)) (now (north .entry)) (now (up .entry)) (now (t .entry)) (now (slon .entry)) (now (dz .entry)) (now (dx .entry)) (now (dy .entry)) j .y)
+        × Each (now (dz .exit)) (λ (j : ℕ). turnedAt op fixed k (now (east .entry)) (now (north .entry)) (now (up .entry)) (now (t .entry)) (now (slon .entry)) (now (dz .entry)) (now (dx .entry)) (now (dy .entry)) j .z) ⌝ }
 {
-    *dy = [0.0; WIDTH];
     let mut i = 0;
     while i < WIDTH {
         let v = Velocity {
@@ -67,10 +64,7 @@ fn turned_block(
             s: slon[i],
             c: dz[i],
         };
-        let lat = SinCos {
-            s: dx[i],
-            c: clat[i],
-        };
+        let lat = SinCos { s: dx[i], c: dy[i] };
         let r = deformation::turned(v.scale(k), lon, lat, lasting(op, fixed, t[i]));
         dx[i] = r.x;
         dy[i] = r.y;
@@ -79,30 +73,27 @@ fn turned_block(
     }
 }
 
-// The velocities as corrections of the tuples. slon and clat are room for the parts.
+// The velocities as corrections of the tuples. slon is room for the sines of the longitudes.
 fn correction_block(
     op: Motion,
     inverse: bool,
     east: &[f64; WIDTH],
     north: &[f64; WIDTH],
     up: &[f64; WIDTH],
-    x: &[f64; WIDTH],
-    y: &[f64; WIDTH],
-    z: &[f64; WIDTH],
+    lam: &[f64; WIDTH],
+    phi: &[f64; WIDTH],
     t: &[f64; WIDTH],
     dx: &mut [f64; WIDTH],
     dy: &mut [f64; WIDTH],
     dz: &mut [f64; WIDTH],
     slon: &mut [f64; WIDTH],
-    clat: &mut [f64; WIDTH],
 )
-    ensures { λ _. ⌜ Each (now (dx .exit)) (λ (j : ℕ). correctionOf op inverse (velocityOf (now (east .entry)) (now (north .entry)) (now (up .entry)) j) (rowOf (now (x .entry)) (now (y .entry)) (now (z .entry)) (now (t .entry)) j) .x)
-        × Each (now (dy .exit)) (λ (j : ℕ). correctionOf op inverse (velocityOf (now (east .entry)) (now (north .entry)) (now (up .entry)) j) (rowOf (now (x .entry)) (now (y .entry)) (now (z .entry)) (now (t .entry)) j) .y)
-        × Each (now (dz .exit)) (λ (j : ℕ). correctionOf op inverse (velocityOf (now (east .entry)) (now (north .entry)) (now (up .entry)) j) (rowOf (now (x .entry)) (now (y .entry)) (now (z .entry)) (now (t .entry)) j) .z) ⌝ }
+    ensures { λ _. ⌜ Each (now (dx .exit)) (λ (j : ℕ). correctionOf op inverse (velocityOf (now (east .entry)) (now (north .entry)) (now (up .entry)) j) (at (now (lam .entry)) j) (at (now (phi .entry)) j) (at (now (t .entry)) j) .x)
+        × Each (now (dy .exit)) (λ (j : ℕ). correctionOf op inverse (velocityOf (now (east .entry)) (now (north .entry)) (now (up .entry)) j) (at (now (lam .entry)) j) (at (now (phi .entry)) j) (at (now (t .entry)) j) .y)
+        × Each (now (dz .exit)) (λ (j : ℕ). correctionOf op inverse (velocityOf (now (east .entry)) (now (north .entry)) (now (up .entry)) j) (at (now (lam .entry)) j) (at (now (phi .entry)) j) (at (now (t .entry)) j) .z) ⌝ }
 {
-    geocart_block::place_block(op.ellps, x, y, z, t, dx, dy); // longitudes and latitudes
-    trig_block::sin_cos_block(dx, slon, dz);
-    trig_block::sin_cos_block(dy, dx, clat);
+    trig::sin_cos_block(lam, slon, dz);
+    trig::sin_cos_block(phi, dx, dy);
     let fixed = floats::is_finite(op.dt);
     turned_block(
         op,
@@ -113,7 +104,6 @@ fn correction_block(
         up,
         t,
         slon,
-        clat,
         dx,
         dy,
         dz,
@@ -139,18 +129,12 @@ fn square_block(dx: &[f64; WIDTH], dy: &[f64; WIDTH], dz: &[f64; WIDTH], q: &mut
     }
 }
 
-// The corrections' lengths. q is room for the squares.
-fn length_block(
-    dx: &[f64; WIDTH],
-    dy: &[f64; WIDTH],
-    dz: &[f64; WIDTH],
-    q: &mut [f64; WIDTH],
-    r: &mut [f64; WIDTH],
-)
+fn length_block(dx: &[f64; WIDTH], dy: &[f64; WIDTH], dz: &[f64; WIDTH], r: &mut [f64; WIDTH])
     ensures { λ _. ⌜ Each (now (r .exit)) (λ (j : ℕ). sqrtOf (dotOf (correctionAt (now (dx .entry)) (now (dy .entry)) (now (dz .entry)) j) (correctionAt (now (dx .entry)) (now (dy .entry)) (now (dz .entry)) j))) ⌝ }
 {
-    square_block(dx, dy, dz, q);
-    root::sqrt_block(q, r);
+    let mut q = [0.0; WIDTH];
+    square_block(dx, dy, dz, &mut q);
+    root::sqrt_block(&q, r);
 }
 
 // A number where there is a velocity, NaN where there is none.
@@ -215,6 +199,48 @@ fn count_block(marks: &[u8; WIDTH]) -> usize
     n
 }
 
+// Sixteen tuples as columns whose longitudes and latitudes are lam and phi, each shifted as `common` shifts it, and how many of them count. For those who have the
+// places at hand.
+pub fn moved_block(
+    op: Motion,
+    inverse: bool,
+    east: &[f64; WIDTH],
+    north: &[f64; WIDTH],
+    up: &[f64; WIDTH],
+    marks: &[u8; WIDTH],
+    lam: &[f64; WIDTH],
+    phi: &[f64; WIDTH],
+    x: &[f64; WIDTH],
+    y: &[f64; WIDTH],
+    z: &[f64; WIDTH],
+    t: &[f64; WIDTH],
+    ox: &mut [f64; WIDTH],
+    oy: &mut [f64; WIDTH],
+    oz: &mut [f64; WIDTH],
+    ot: &mut [f64; WIDTH],
+) -> usize
+    ensures { λ r. ⌜ Each (now (ox .exit)) (λ (j : ℕ). movedAt op inverse (now (east .entry)) (now (north .entry)) (now (up .entry)) (now (marks .entry)) (now (lam .entry)) (now (phi .entry)) (now (x .entry)) (now (y .entry)) (now (z .entry)) (now (t .entry)) j .tuple .x)
+        × Each (now (oy .exit)) (λ (j : ℕ). movedAt op inverse (now (east .entry)) (now (north .entry)) (now (up .entry)) (now (marks .entry)) (now (lam .entry)) (now (phi .entry)) (now (x .entry)) (now (y .entry)) (now (z .entry)) (now (t .entry)) j .tuple .y)
+        × Each (now (oz .exit)) (λ (j : ℕ). movedAt op inverse (now (east .entry)) (now (north .entry)) (now (up .entry)) (now (marks .entry)) (now (lam .entry)) (now (phi .entry)) (now (x .entry)) (now (y .entry)) (now (z .entry)) (now (t .entry)) j .tuple .z)
+        × Each (now (ot .exit)) (λ (j : ℕ). movedAt op inverse (now (east .entry)) (now (north .entry)) (now (up .entry)) (now (marks .entry)) (now (lam .entry)) (now (phi .entry)) (now (x .entry)) (now (y .entry)) (now (z .entry)) (now (t .entry)) j .tuple .t)
+        × (r ≡ countTo 16 (λ (j : ℕ). movedAt op inverse (now (east .entry)) (now (north .entry)) (now (up .entry)) (now (marks .entry)) (now (lam .entry)) (now (phi .entry)) (now (x .entry)) (now (y .entry)) (now (z .entry)) (now (t .entry)) j .counted)) ⌝ }
+{
+    correction_block(op, inverse, east, north, up, lam, phi, t, ox, oy, oz, ot);
+    if op.raw {
+        length_block(ox, oy, oz, ot);
+        keep_block(marks, ox);
+        keep_block(marks, oy);
+        keep_block(marks, oz);
+        keep_block(marks, ot);
+        return count_block(marks);
+    }
+    add_block(marks, x, ox);
+    add_block(marks, y, oy);
+    add_block(marks, z, oz);
+    time_block(marks, t, ot);
+    count_block(marks)
+}
+
 // Sixteen tuples as columns, each shifted as `common` shifts it, and how many of them count.
 pub fn common_block(
     op: Motion,
@@ -238,13 +264,18 @@ pub fn common_block(
         × Each (now (ot .exit)) (λ (j : ℕ). shiftedOf op inverse (now (east .entry)) (now (north .entry)) (now (up .entry)) (now (marks .entry)) (now (x .entry)) (now (y .entry)) (now (z .entry)) (now (t .entry)) j .tuple .t)
         × (r ≡ countTo 16 (λ (j : ℕ). shiftedOf op inverse (now (east .entry)) (now (north .entry)) (now (up .entry)) (now (marks .entry)) (now (x .entry)) (now (y .entry)) (now (z .entry)) (now (t .entry)) j .counted)) ⌝ }
 {
-    let mut spare = [0.0; WIDTH];
-    correction_block(
+    let mut lam = [0.0; WIDTH];
+    let mut phi = [0.0; WIDTH];
+    geocart::place_block(op.ellps, x, y, z, t, &mut lam, &mut phi);
+    moved_block(
         op,
         inverse,
         east,
         north,
         up,
+        marks,
+        &lam,
+        &phi,
         x,
         y,
         z,
@@ -253,19 +284,5 @@ pub fn common_block(
         oy,
         oz,
         ot,
-        &mut spare,
-    );
-    if op.raw {
-        length_block(ox, oy, oz, &mut spare, ot);
-        keep_block(marks, ox);
-        keep_block(marks, oy);
-        keep_block(marks, oz);
-        keep_block(marks, ot);
-        return count_block(marks);
-    }
-    add_block(marks, x, ox);
-    add_block(marks, y, oy);
-    add_block(marks, z, oz);
-    time_block(marks, t, ot);
-    count_block(marks)
+    )
 }

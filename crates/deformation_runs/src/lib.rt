@@ -1,17 +1,19 @@
 // Deformation over a lent flat list, written where the list stands: sixteen tuples a turn by the step's block form, and a loop for the fewer than sixteen that
 // are left. The other kinds' loops: `runs`, `helmert_runs`.
 //
-// A fix's velocity and mark stand at its index in what is lent beside the list; the columns of sixteen velocities are filled in one place, so that they may come
-// from elsewhere. What depends on the record alone is worked out once a list. Every function is proved equal, list and count, to the step's own definition from
-// tuple to tuple (specs/Turns.antt over `lists`).
+// A fix's velocity and mark stand at its index in what is lent beside the list. Sixteen places are worked out before sixteen velocities are read, so that these may
+// come by place from elsewhere, and no column is laid out before it is needed. What depends on the record alone is worked out once a list. Every function is proved
+// equal, list and count, to the step's own definition from tuple to tuple (specs/Turns.antt over `lists`).
 // Exact: no rounding but the step's own. Used by the chain.
 ghost use mathlib.Core.Path.{_≡_};
 ghost use mathlib.Core.Bool.{cond};
 ghost use Prim.Native.Nat.{ℕ, _+_, _^_, _<_};
 ghost use Rattle.blocks.specs.Each.{Each, EachWhole};
+ghost use Rattle.tuple.specs.Columns.{rowOf};
+ghost use Rattle.geocart.specs.Geocart.{placeOf};
 ghost use Rattle.lists.specs.Run.{ranOf, countOf};
-ghost use Rattle.lists.specs.Sixteen.{turnedOf, takenOf};
-ghost use Rattle.helmert_turns.specs.Turns.{noState};
+ghost use Rattle.lists.specs.Sixteen.{rowAt, turnedOf, takenOf};
+ghost use Rattle.helmert_runs.specs.Turns.{noState};
 ghost use Rattle.deformation_runs.specs.Turns.{velocityAt, markAt, movedTurns, deformationTurns};
 use blocks::WIDTH;
 use deformation::Deformation;
@@ -99,6 +101,58 @@ fn tally(n: usize, counted: bool) -> usize
     if counted { n + 1 } else { n }
 }
 
+// Sixteen tuples that stand from a place on, as columns with their longitudes and latitudes: moved, and put there.
+fn moved_sixteen(
+    list: &mut [f64],
+    i: usize,
+    op: Motion,
+    inverse: bool,
+    velocities: &[f64],
+    marks: &[u8],
+    x: &[f64; WIDTH],
+    y: &[f64; WIDTH],
+    z: &[f64; WIDTH],
+    t: &[f64; WIDTH],
+    lam: &[f64; WIDTH],
+    phi: &[f64; WIDTH],
+) -> usize
+    requires { ⌜ Each (now x) (λ (j : ℕ). rowAt (now list) i j .x) × Each (now y) (λ (j : ℕ). rowAt (now list) i j .y) × Each (now z) (λ (j : ℕ). rowAt (now list) i j .z) × Each (now t) (λ (j : ℕ). rowAt (now list) i j .t)
+        × Each (now lam) (λ (j : ℕ). placeOf (op .ellps) (rowOf (now x) (now y) (now z) (now t) j) .lam) × Each (now phi) (λ (j : ℕ). placeOf (op .ellps) (rowOf (now x) (now y) (now z) (now t) j) .phi) ⌝ }
+    ensures { λ r. ⌜ (now (list .exit) ≡ turnedOf (movedTurns op inverse (now (velocities .entry)) (now (marks .entry))) noState (now (list .entry)) i)
+        × (r ≡ takenOf (movedTurns op inverse (now (velocities .entry)) (now (marks .entry))) noState (now (list .entry)) i) ⌝ }
+{
+    let mut east = [0.0; WIDTH];
+    let mut north = [0.0; WIDTH];
+    let mut up = [0.0; WIDTH];
+    let mut m = [0u8; WIDTH];
+    velocity_block(velocities, i / 4, &mut east, &mut north, &mut up);
+    mark_block(marks, i / 4, &mut m);
+    let mut ox = [0.0; WIDTH];
+    let mut oy = [0.0; WIDTH];
+    let mut oz = [0.0; WIDTH];
+    let mut ot = [0.0; WIDTH];
+    let n = deformation_block::moved_block(
+        op,
+        inverse,
+        &east,
+        &north,
+        &up,
+        &m,
+        lam,
+        phi,
+        x,
+        y,
+        z,
+        t,
+        &mut ox,
+        &mut oy,
+        &mut oz,
+        &mut ot,
+    );
+    lists::write_block(list, i, &ox, &oy, &oz, &ot);
+    n
+}
+
 // Sixteen tuples from a place on.
 fn deformation_sixteen(
     list: &mut [f64],
@@ -111,39 +165,28 @@ fn deformation_sixteen(
     ensures { λ r. ⌜ (now (list .exit) ≡ turnedOf (movedTurns op inverse (now (velocities .entry)) (now (marks .entry))) noState (now (list .entry)) i)
         × (r ≡ takenOf (movedTurns op inverse (now (velocities .entry)) (now (marks .entry))) noState (now (list .entry)) i) ⌝ }
 {
-    let mut east = [0.0; WIDTH];
-    let mut north = [0.0; WIDTH];
-    let mut up = [0.0; WIDTH];
-    let mut m = [0u8; WIDTH];
-    velocity_block(velocities, i / 4, &mut east, &mut north, &mut up);
-    mark_block(marks, i / 4, &mut m);
     let mut x = [0.0; WIDTH];
     let mut y = [0.0; WIDTH];
     let mut z = [0.0; WIDTH];
     let mut t = [0.0; WIDTH];
-    let mut ox = [0.0; WIDTH];
-    let mut oy = [0.0; WIDTH];
-    let mut oz = [0.0; WIDTH];
-    let mut ot = [0.0; WIDTH];
+    let mut lam = [0.0; WIDTH];
+    let mut phi = [0.0; WIDTH];
     lists::read_block(list, i, &mut x, &mut y, &mut z, &mut t);
-    let n = deformation_block::common_block(
+    geocart::place_block(op.ellps, &x, &y, &z, &t, &mut lam, &mut phi);
+    moved_sixteen(
+        list,
+        i,
         op,
         inverse,
-        &east,
-        &north,
-        &up,
-        &m,
+        velocities,
+        marks,
         &x,
         &y,
         &z,
         &t,
-        &mut ox,
-        &mut oy,
-        &mut oz,
-        &mut ot,
-    );
-    lists::write_block(list, i, &ox, &oy, &oz, &ot);
-    n
+        &lam,
+        &phi,
+    )
 }
 
 fn deformation_common(

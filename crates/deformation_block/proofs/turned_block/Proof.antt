@@ -2,9 +2,7 @@
 use Prim.Native.Nat.{ℕ, _-_}
 use borrow.Author.Needs.{needs}
 use native.Mathlib.Nat.{le-refl}
-use mathlib.Core.Path.{refl, ap}
-use Rattle.blocks.specs.Each.{UpTo}
-use Rattle.blocks.proofs.Laws.{none-filled, one-more, all-filled}
+use mathlib.Core.Path.{ap}
 use Rattle.tuple.specs.declared.Tuple.{Tuple}
 use Rattle.deformation_block.specs.Places.{turnedAt}
 use Rattle.deformation_block.proofs.Over.{Over, none-over, one-over, all-over}
@@ -12,16 +10,16 @@ use Rattle.deformation_block.proofs.turned_block.Statement.{statement}
 use Rattle.deformation_block.proofs.turned_block.Tie as tie
 
 abbrev Inv-loop : tie.InvT-loop
-Inv-loop op fixed k east north up t slon clat dx₀ dy₀ dz₀ i₀ dx dy dz i =
-    Over i dx₀ dx (λ (j : ℕ). turnedAt op fixed k east north up t slon dz₀ dx₀ clat j .x)
-    × UpTo i dy (λ (j : ℕ). turnedAt op fixed k east north up t slon dz₀ dx₀ clat j .y)
-    × Over i dz₀ dz (λ (j : ℕ). turnedAt op fixed k east north up t slon dz₀ dx₀ clat j .z)
+Inv-loop op fixed k east north up t slon dx₀ dy₀ dz₀ i₀ dx dy dz i =
+    Over i dx₀ dx (λ (j : ℕ). turnedAt op fixed k east north up t slon dz₀ dx₀ dy₀ j .x)
+    × Over i dy₀ dy (λ (j : ℕ). turnedAt op fixed k east north up t slon dz₀ dx₀ dy₀ j .y)
+    × Over i dz₀ dz (λ (j : ℕ). turnedAt op fixed k east north up t slon dz₀ dx₀ dy₀ j .z)
 
 abbrev μ-loop : tie.MeasureT-loop
-μ-loop op fixed k east north up t slon clat dx₀ dy₀ dz₀ i₀ dx dy dz i = 16 - i
+μ-loop op fixed k east north up t slon dx₀ dy₀ dz₀ i₀ dx dy dz i = 16 - i
 
 loop-holds : tie.Need-loop-holds Inv-loop μ-loop
-loop-holds c = (none-over (c .before .pre .0), none-filled refl, none-over (c .before .pre .1))
+loop-holds c = (none-over (c .pre .0), none-over (c .pre .1), none-over (c .pre .2))
 
 mul-turned : tie.Need-mul-turned Inv-loop μ-loop
 mul-turned c = search needs
@@ -29,11 +27,11 @@ mul-turned c = search needs
 element-copy-out-turned : tie.Need-element-copy-out-turned Inv-loop μ-loop
 element-copy-out-turned c = search needs
 
-mul-t23 : tie.Need-mul-t23 Inv-loop μ-loop
-mul-t23 c = search needs
+mul-t22 : tie.Need-mul-t22 Inv-loop μ-loop
+mul-t22 c = search needs
 
-element-copy-out-t26 : tie.Need-element-copy-out-t26 Inv-loop μ-loop
-element-copy-out-t26 c = search needs
+element-copy-out-t25 : tie.Need-element-copy-out-t25 Inv-loop μ-loop
+element-copy-out-t25 c = search needs
 
 mul-lasting : tie.Need-mul-lasting Inv-loop μ-loop
 mul-lasting c = search needs
@@ -47,17 +45,17 @@ mul-lasting-2 c = search needs
 element-copy-out-lasting-2 : tie.Need-element-copy-out-lasting-2 Inv-loop μ-loop
 element-copy-out-lasting-2 c = search needs
 
-mul-t27 : tie.Need-mul-t27 Inv-loop μ-loop
-mul-t27 c = search needs
+mul-t26 : tie.Need-mul-t26 Inv-loop μ-loop
+mul-t26 c = search needs
 
-element-copy-out-t26-2 : tie.Need-element-copy-out-t26-2 Inv-loop μ-loop
-element-copy-out-t26-2 c = search needs
+element-copy-out-t25-2 : tie.Need-element-copy-out-t25-2 Inv-loop μ-loop
+element-copy-out-t25-2 c = search needs
 
-mul-t23-2 : tie.Need-mul-t23-2 Inv-loop μ-loop
-mul-t23-2 c = search needs
+mul-t22-2 : tie.Need-mul-t22-2 Inv-loop μ-loop
+mul-t22-2 c = search needs
 
-element-copy-out-t26-3 : tie.Need-element-copy-out-t26-3 Inv-loop μ-loop
-element-copy-out-t26-3 c = search needs
+element-copy-out-t25-3 : tie.Need-element-copy-out-t25-3 Inv-loop μ-loop
+element-copy-out-t25-3 c = search needs
 
 mul-lasting-3 : tie.Need-mul-lasting-3 Inv-loop μ-loop
 mul-lasting-3 c = search needs
@@ -108,16 +106,16 @@ loop-again : tie.Need-loop-again Inv-loop μ-loop
 loop-again c =
     let inv = c .before .before .before .before .before .before .before .before .before .before .before .before .loop .inv in
     let e = rw (c .before .lasting .ensures, c .before .before .before .scale .ensures) at (c .turned .ensures) in
-    let there = rw (inv .0 .left _ (le-refl _), inv .2 .left _ (le-refl _)) at e in (
+    let there = rw (inv .0 .left _ (le-refl _), inv .1 .left _ (le-refl _), inv .2 .left _ (le-refl _)) at e in (
       one-over (search needs) (λ _. ap (λ (r : Tuple). r .x) there) (inv .0),
-      one-more (search needs) (ap (λ (r : Tuple). r .y) there) (inv .1),
+      one-over (search needs) (λ _. ap (λ (r : Tuple). r .y) there) (inv .1),
       one-over (search needs) (λ _. ap (λ (r : Tuple). r .z) there) (inv .2),
     )
 
 returns : tie.Need-returns Inv-loop μ-loop
 returns c =
     let inv = c .before .loop .inv in
-    (all-over (search needs) (inv .0), all-filled (search needs) (inv .1), all-over (search needs) (inv .2))
+    (all-over (search needs) (inv .0), all-over (search needs) (inv .1), all-over (search needs) (inv .2))
 
 pub turned-block-spec : {M : Type 1} → statement M
 turned-block-spec =
@@ -128,16 +126,16 @@ turned-block-spec =
     loop-holds
     mul-turned
     element-copy-out-turned
-    mul-t23
-    element-copy-out-t26
+    mul-t22
+    element-copy-out-t25
     mul-lasting
     element-copy-out-lasting
     mul-lasting-2
     element-copy-out-lasting-2
-    mul-t27
-    element-copy-out-t26-2
-    mul-t23-2
-    element-copy-out-t26-3
+    mul-t26
+    element-copy-out-t25-2
+    mul-t22-2
+    element-copy-out-t25-3
     mul-lasting-3
     element-copy-out-lasting-3
     scale-requires

@@ -1,54 +1,32 @@
 -- `deformation_runs::deformation_sixteen` meets its contract. Assumes nothing.
-use Prim.Native.Nat.{_/_}
 use borrow.Author.Needs.{needs}
-use mathlib.Core.Path.{_∙_}
-use Rattle.lists.specs.Sixteen.{rowAt}
-use Rattle.lists.proofs.Sixteen.{columns, turned, taken}
-use Rattle.helmert_turns.specs.Turns.{noState}
-use Rattle.deformation_runs.specs.Turns.{movedTurns}
-use Rattle.deformation_runs.proofs.Columns.{moved-columns, moved-count}
 use Rattle.deformation_runs.proofs.deformation_sixteen.Statement.{statement}
 use Rattle.deformation_runs.proofs.deformation_sixteen.Tie as tie
-
-velocity-block-requires : tie.Need-velocity-block-requires
-velocity-block-requires c κs = search needs
-
-mark-block-requires : tie.Need-mark-block-requires
-mark-block-requires c κs = search needs
 
 read-block-requires : tie.Need-read-block-requires
 read-block-requires c κs = search needs
 
-common-block-requires : tie.Need-common-block-requires
-common-block-requires c κs = search needs
+place-block-requires : tie.Need-place-block-requires
+place-block-requires c κs = search needs
 
-write-block-requires : tie.Need-write-block-requires
-write-block-requires c κs = search needs
+moved-sixteen-requires : tie.Need-moved-sixteen-requires
+moved-sixteen-requires c κs =
+    let r = c .before .before .before .before .before .before .before .before .before .before .before .before .before .before .read-block .ensures in
+    let p = c .before .before .before .before .before .before .before .place-block .ensures in
+    (r .0, r .1, r .2, r .3, p .0, p .1)
 
 same-length : tie.Need-same-length
 same-length c = search needs
 
 returns : tie.Need-returns
-returns c =
-    let a = c .before .before .before .before .before .before .before .before .before .before .before .before .before .before .before .before .before .before .before .before .before .before .before .before .before .before .before .before .before .before .before .before .before .before .before .before .args in
-    let turns = movedTurns (a .op) (a .inverse) (a .velocities .now) (a .marks .now) in
-    let r = c .before .before .before .before .before .before .before .before .before .before .before .before .before .before .before .before .before .before .before .before .before .read-block .ensures in
-    let s = c .before .before .before .before .before .before .before .before .common-block .ensures in
-    let lent = c .before .before .before .before .before .before .before .before .before .before .before .before .before .before .before .before .before .before .before .before .before .before .before .before .before .before .before .before .before .velocity-block .ensures in
-    let marked = c .before .before .before .before .before .before .before .before .before .before .before .before .before .before .before .before .before .before .before .before .before .before .before .before .before .before .before .mark-block .ensures in
-    let read = columns (rowAt (a .list .now) (a .i)) (r .0) (r .1) (r .2) (r .3) in
-    let made = moved-columns (a .velocities .now) (a .marks .now) (a .i / 4) lent marked (a .op) (a .inverse) read (s .0) (s .1) (s .2) (s .3) in
-    let counts = s .4 ∙ moved-count (a .velocities .now) (a .marks .now) (a .i / 4) lent marked (a .op) (a .inverse) read in
-    (turned turns noState (a .list .now) (a .i) read made (c .before .before .write-block .ensures), taken turns noState (a .list .now) (a .i) read counts)
+returns c = c .before .before .moved-sixteen .ensures
 
 pub deformation-sixteen-spec : {M : Type 1} → statement M
 deformation-sixteen-spec =
     tie.close
     (tie.spec
-    velocity-block-requires
-    mark-block-requires
     read-block-requires
-    common-block-requires
-    write-block-requires
+    place-block-requires
+    moved-sixteen-requires
     same-length
     returns)
