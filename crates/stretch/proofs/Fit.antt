@@ -3,13 +3,12 @@ use Prim.Native.Nat.{ℕ, _+_, _*_, _/_, _%_, _≤_, _<_}
 use native.Mathlib.Omega.{arith}
 use mathlib.Core.Bool.{Bool, true, false, _&&_}
 use mathlib.Core.Path.{_≡_}
-use mathlib.Core.List.{List}
 use lib.Dec.{eqb, ltb}
 use lib.ListN.{length}
 use borrow.Author.Tests.{eqb-true, eq-eqb, ltb-true, lt-ltb}
 use Rattle.tuple.specs.declared.Tuple.{Tuple}
 use Rattle.helmert.specs.declared.Shift.{Shift}
-use Rattle.stretch.specs.Kept.{Kept, Redone, redoneOf, fitOf, fitting, freshOf, freshRunOf, correctedOf, putRightOf}
+use Rattle.stretch.specs.Kept.{Kept, redoneOf, fitOf, fitting, freshOf, freshRunOf, correctedOf, putRightOf}
 use Rattle.stretch.proofs.Data.{and-true}
 
 -- ---- the test

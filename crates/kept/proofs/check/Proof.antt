@@ -1,6 +1,6 @@
 -- `kept::check` meets its contract: each test that fails is the next rule in the order, kept. Assumes nothing.
 use borrow.Author.Needs.{needs}
-use mathlib.Core.Path.{_≡_, sym, ap, _∙_}
+use mathlib.Core.Path.{sym, ap, _∙_}
 use Rattle.sheet.specs.declared.Refusal.{Refusal}
 use Rattle.kept.proofs.Answers.{own-refused, refused-12, refused-9, refused-13, none-refused}
 use Rattle.kept.proofs.check.Statement.{statement}

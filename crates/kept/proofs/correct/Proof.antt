@@ -1,6 +1,6 @@
 -- `kept::correct` meets its contract. Assumes nothing.
 use borrow.Author.Needs.{needs}
-use mathlib.Core.Path.{_≡_, sym, ap, _∙_}
+use mathlib.Core.Path.{sym, ap, _∙_}
 use Rattle.sheet.specs.declared.Refusal.{Refusal}
 use Rattle.stretch.proofs.Fit.{fit-told, right-fits}
 use Rattle.kept.specs.Entries.{keepRefusalOf}

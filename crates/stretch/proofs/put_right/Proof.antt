@@ -1,8 +1,6 @@
 -- `stretch::put_right` meets its contract. Assumes nothing.
 use borrow.Author.Needs.{needs}
-use mathlib.Core.Path.{sym, ap, _∙_}
-use mathlib.Core.Bool.{_&&_}
-use lib.Dec.{ltb}
+use mathlib.Core.Path.{sym, _∙_}
 use Rattle.stretch.proofs.Fit.{right-there, right-nowhere, fix-there}
 use Rattle.stretch.proofs.put_right.Statement.{statement}
 use Rattle.stretch.proofs.put_right.Tie as tie

@@ -1,12 +1,10 @@
 -- `stretch::redo` meets its contract: at each place, what is redone and what is left to redo are the redoing from the index on. Assumes nothing.
-use Prim.Native.Nat.{_+_, _*_, _/_, _-_, _≤_}
+use Prim.Native.Nat.{_*_, _-_}
 use borrow.Author.Needs.{needs}
 use native.Mathlib.Omega.{arith}
-use mathlib.Core.Path.{_≡_, sym, ap, _∙_}
+use mathlib.Core.Path.{sym, ap, _∙_}
 use lib.ListN.{length}
 use Rattle.helmert.specs.declared.Stepped.{Stepped}
-use Rattle.lists.specs.Flat.{tupleAt}
-use Rattle.stretch.specs.Same.{alikeOf}
 use Rattle.stretch.specs.Kept.{trackedOf}
 use Rattle.helmert_turns.specs.Turns.{helmertTurns}
 use Rattle.stretch.proofs.Again.{Redoing, redoing-start, redoing-again, redoing-stop, redoing-end, redoing-results-long, redoing-track-long}
