@@ -108,13 +108,12 @@ fn worth(list: &[f64], i: usize, own: bool, shift: Shift) -> bool
     false
 }
 
-// How many of the columns' places hold what is ahead, once more is taken where none is left.
+// The sines and cosines of the fixes from here on, where they are worth taking: how many there are then.
 fn ahead(
     list: &[f64],
     i: usize,
     own: bool,
     shift: Shift,
-    left: usize,
     sx: &mut [f64; WIDTH],
     cx: &mut [f64; WIDTH],
     sy: &mut [f64; WIDTH],
@@ -122,12 +121,9 @@ fn ahead(
     sz: &mut [f64; WIDTH],
     cz: &mut [f64; WIDTH],
 ) -> usize
-    requires { ⌜ Ahead own shift (now list) i left (now sx) (now cx) (now sy) (now cy) (now sz) (now cz) ⌝ }
+    requires { ⌜ i ≤ length (now list) ⌝ }
     ensures { λ r. ⌜ Ahead own shift (now (list .entry)) i r (now (sx .exit)) (now (cx .exit)) (now (sy .exit)) (now (cy .exit)) (now (sz .exit)) (now (cz .exit)) ⌝ }
 {
-    if left > 0 {
-        return left;
-    }
     if worth(list, i, own, shift) {
         fill(list, i, own, shift, sx, cx, sy, cy, sz, cz);
         return WIDTH;
@@ -199,23 +195,24 @@ fn running_forward(list: &mut [f64], shift: Shift)
     let mut i = 0;
     while 4 <= list.len() - i {
         let v = lists::read4(list, i);
-        if v.t != state.last {
+        if v.t != state.last { // then all is taken anew
             let dt = v.t - shift.epoch;
             state = helmert::next(shift, state, v.t);
             s = helmert::scale_at(p, dt);
-            left = ahead(
-                list,
-                i,
-                false,
-                shift,
-                left,
-                &mut sx,
-                &mut cx,
-                &mut sy,
-                &mut cy,
-                &mut sz,
-                &mut cz,
-            );
+            if left == 0 {
+                left = ahead(
+                    list,
+                    i,
+                    false,
+                    shift,
+                    &mut sx,
+                    &mut cx,
+                    &mut sy,
+                    &mut cy,
+                    &mut sz,
+                    &mut cz,
+                );
+            }
             m = matrix_at(shift, dt, left, &sx, &cx, &sy, &cy, &sz, &cz);
         }
         let w = helmert::forward(state.t, s, shift.rotated, m, v);
@@ -250,19 +247,20 @@ fn running_inverse(list: &mut [f64], shift: Shift)
             let dt = v.t - shift.epoch;
             state = helmert::next(shift, state, v.t);
             s = helmert::scale_at(p, dt);
-            left = ahead(
-                list,
-                i,
-                false,
-                shift,
-                left,
-                &mut sx,
-                &mut cx,
-                &mut sy,
-                &mut cy,
-                &mut sz,
-                &mut cz,
-            );
+            if left == 0 {
+                left = ahead(
+                    list,
+                    i,
+                    false,
+                    shift,
+                    &mut sx,
+                    &mut cx,
+                    &mut sy,
+                    &mut cy,
+                    &mut sz,
+                    &mut cz,
+                );
+            }
             m = matrix_at(shift, dt, left, &sx, &cx, &sy, &cy, &sz, &cz);
         }
         let w = helmert::inverse(state.t, s, shift.rotated, m, v);
@@ -301,19 +299,20 @@ fn own_epoch_forward(list: &mut [f64], shift: Shift)
         let dt = lapse(true, shift, v.t);
         let t = helmert::grown(p.t, dt, p.dt);
         let s = helmert::scale_at(p, dt);
-        left = ahead(
-            list,
-            i,
-            true,
-            shift,
-            left,
-            &mut sx,
-            &mut cx,
-            &mut sy,
-            &mut cy,
-            &mut sz,
-            &mut cz,
-        );
+        if left == 0 {
+            left = ahead(
+                list,
+                i,
+                true,
+                shift,
+                &mut sx,
+                &mut cx,
+                &mut sy,
+                &mut cy,
+                &mut sz,
+                &mut cz,
+            );
+        }
         let m = matrix_at(shift, dt, left, &sx, &cx, &sy, &cy, &sz, &cz);
         let w = helmert::forward(t, s, shift.rotated, m, v);
         lists::write4(list, i, w);
@@ -339,19 +338,20 @@ fn own_epoch_inverse(list: &mut [f64], shift: Shift)
         let dt = lapse(true, shift, v.t);
         let t = helmert::grown(p.t, dt, p.dt);
         let s = helmert::scale_at(p, dt);
-        left = ahead(
-            list,
-            i,
-            true,
-            shift,
-            left,
-            &mut sx,
-            &mut cx,
-            &mut sy,
-            &mut cy,
-            &mut sz,
-            &mut cz,
-        );
+        if left == 0 {
+            left = ahead(
+                list,
+                i,
+                true,
+                shift,
+                &mut sx,
+                &mut cx,
+                &mut sy,
+                &mut cy,
+                &mut sz,
+                &mut cz,
+            );
+        }
         let m = matrix_at(shift, dt, left, &sx, &cx, &sy, &cy, &sz, &cz);
         let w = helmert::inverse(t, s, shift.rotated, m, v);
         lists::write4(list, i, w);

@@ -4,13 +4,14 @@ use native.Mathlib.Omega.{arith}
 use borrow.Author.Needs.{needs}
 use lib.ListN.{length}
 use mathlib.Core.Bool.{true, false}
+use mathlib.Core.Logic.{⊎-elim}
 use mathlib.Core.Path.{_≡_, refl}
 use Rattle.helmert.specs.Modes.{ownTimeOf, ownEpochStepOf}
 use Rattle.lists.proofs.Laws.{Ran, ran-start, ran-again, ran-end}
 use Rattle.helmert_turns.specs.Turns.{noState, allTurns}
 use Rattle.helmert_turns.proofs.Held.{own-epoch-turn}
 use Rattle.helmert_exact_runs.specs.Ahead.{Ahead}
-use Rattle.helmert_exact_runs.proofs.Laws.{none-ahead, ahead-here, ahead-on}
+use Rattle.helmert_exact_runs.proofs.Laws.{none-ahead, same-ahead, ahead-here, ahead-on}
 use Rattle.helmert_exact_runs.proofs.own_epoch_inverse.Statement.{statement}
 use Rattle.helmert_exact_runs.proofs.own_epoch_inverse.Tie as tie
 
@@ -40,10 +41,15 @@ scale-at-requires : tie.Need-scale-at-requires Inv-loop μ-loop
 scale-at-requires c κs = search needs
 
 ahead-requires : tie.Need-ahead-requires Inv-loop μ-loop
-ahead-requires c κs = c .before .before .before .before .before .before .before .before .before .before .before .before .before .loop .inv .2
+ahead-requires c κs = c .before .before .before .before .before .before .before .before .before .before .before .before .before .before .loop .inv .0 .within
 
 matrix-at-requires : tie.Need-matrix-at-requires Inv-loop μ-loop
-matrix-at-requires c κs = ahead-here (c .before .before .before .before .before .before .before .before .before .before .before .before .before .before .before .before .before .read4 .ensures) (c .before .before .before .before .before .before .before .before .before .before .before .before .before .before .before .before .lapse .ensures) (c .before .before .before .before .before .before .ahead .ensures)
+matrix-at-requires c κs =
+    ahead-here (c .before .before .before .before .before .before .before .before .before .before .read4 .ensures) (c .before .before .before .before .before .before .before .before .before .lapse .ensures)
+    (⊎-elim
+    (λ t. same-ahead (t .9) (t .10) (t .11) (t .12) (t .13) (t .14) (t .15) (t .8 .ensures))
+    (λ t. same-ahead (t .1) (t .2) (t .3) (t .4) (t .5) (t .6) (t .7) (c .before .before .before .before .before .before .before .before .before .before .before .before .before .loop .inv .2))
+    (c .before .before .before .before .before .before .if1 .came))
 
 inverse-requires : tie.Need-inverse-requires Inv-loop μ-loop
 inverse-requires c κs = search needs
@@ -55,21 +61,25 @@ less-requires : tie.Need-less-requires Inv-loop μ-loop
 less-requires c κs = search needs
 
 add-i : tie.Need-add-i Inv-loop μ-loop
-add-i c = search (needs, c .before .before .before .before .before .before .before .before .before .before .before .before .before .before .before .before .before .before .before .before .before .before .before .before .before .before .loop-test .taken, c .before .before .before .before .before .before .before .before .before .before .before .before .before .before .before .before .before .before .before .before .before .before .before .before .before .before .before .loop .inv .0 .within, c .before .before .before .before .before .before .before .before .before .before .before .before .before .before .before .before .before .before .before .before .before .before .before .before .before .before .before .loop .inv .0 .long, c .before .before .before .before .before .before .before .before .before .before .before .before .before .before .before .before .before .before .before .before .before .before .before .before .before .before .before .loop .inv .1)
+add-i c = search (needs, c .before .before .before .before .before .before .before .before .before .before .before .before .before .before .before .before .before .before .before .loop-test .taken, c .before .before .before .before .before .before .before .before .before .before .before .before .before .before .before .before .before .before .before .before .loop .inv .0 .within, c .before .before .before .before .before .before .before .before .before .before .before .before .before .before .before .before .before .before .before .before .loop .inv .0 .long, c .before .before .before .before .before .before .before .before .before .before .before .before .before .before .before .before .before .before .before .before .loop .inv .1)
 
 loop-less : tie.Need-loop-less Inv-loop μ-loop
-loop-less c = omega (arith, c .before .before .before .before .before .before .before .before .before .before .before .before .before .before .before .before .before .before .before .before .before .before .before .before .before .before .loop-test .taken, c .before .before .before .before .before .before .before .before .before .before .before .before .before .before .before .before .before .before .before .before .before .before .before .before .before .before .before .loop .inv .0 .within, c .before .before .before .before .before .before .before .before .before .before .before .before .before .before .before .before .before .before .before .before .before .before .before .before .before .before .before .loop .inv .0 .long)
+loop-less c = omega (arith, c .before .before .before .before .before .before .before .before .before .before .before .before .before .before .before .before .before .before .before .loop-test .taken, c .before .before .before .before .before .before .before .before .before .before .before .before .before .before .before .before .before .before .before .before .loop .inv .0 .within, c .before .before .before .before .before .before .before .before .before .before .before .before .before .before .before .before .before .before .before .before .loop .inv .0 .long)
 
 loop-again : tie.Need-loop-again Inv-loop μ-loop
 loop-again c =
-    let l = c .before .before .before .before .before .before .before .before .before .before .before .before .before .before .before .before .before .before .before .before .before .before .before .before .before .before .before in
-    let v = c .before .before .before .before .before .before .before .before .before .before .before .before .before .before .before .before .before .before .before .before .before .before .before .before .read4 in
+    let l = c .before .before .before .before .before .before .before .before .before .before .before .before .before .before .before .before .before .before .before .before in
+    let v = c .before .before .before .before .before .before .before .before .before .before .before .before .before .before .before .before .before .read4 in
     let w = c .before .before .before .before .before .inverse in
     let a = l .before .before .before .args in
-    let fits : l .loop .i + 4 ≤ length (l .loop .list) = omega (arith, c .before .before .before .before .before .before .before .before .before .before .before .before .before .before .before .before .before .before .before .before .before .before .before .before .before .before .loop-test .taken) in
+    let fits : l .loop .i + 4 ≤ length (l .loop .list) = omega (arith, c .before .before .before .before .before .before .before .before .before .before .before .before .before .before .before .before .before .before .before .loop-test .taken) in
+    let sines = ⊎-elim
+    (λ t. same-ahead (t .9) (t .10) (t .11) (t .12) (t .13) (t .14) (t .15) (t .8 .ensures))
+    (λ t. same-ahead (t .1) (t .2) (t .3) (t .4) (t .5) (t .6) (t .7) (l .loop .inv .2))
+    (c .before .before .before .before .before .before .before .before .before .before .before .before .before .if1 .came) in
     let turn = own-epoch-turn (a .shift) true (v .result) {w = w .result} (ownTimeOf (a .shift) (v .result .t)) refl
-    (rw (w .ensures, c .before .before .before .before .before .before .matrix-at .ensures, c .before .before .before .before .before .before .before .before .before .before .before .before .before .before .before .before .before .before .before .before .before .scale-at .ensures, c .before .before .before .before .before .before .before .before .before .before .before .before .before .before .before .before .before .before .before .before .before .before .grown .ensures, c .before .before .before .before .before .before .before .before .before .before .before .before .before .before .before .before .before .before .before .before .before .before .before .lapse .ensures)) in
-    (ran-again fits (rw (v .ensures) at turn) (c .before .before .before .write4 .ensures) (l .loop .inv .0), search needs, ahead-on fits _ (c .before .before .before .write4 .ensures) (c .less .ensures) (c .before .before .before .before .before .before .before .before .before .before .before .before .before .ahead .ensures))
+    (rw (w .ensures, c .before .before .before .before .before .before .matrix-at .ensures, c .before .before .before .before .before .before .before .before .before .before .before .before .before .before .scale-at .ensures, c .before .before .before .before .before .before .before .before .before .before .before .before .before .before .before .grown .ensures, c .before .before .before .before .before .before .before .before .before .before .before .before .before .before .before .before .lapse .ensures)) in
+    (ran-again fits (rw (v .ensures) at turn) (c .before .before .before .write4 .ensures) (l .loop .inv .0), search needs, ahead-on fits _ (c .before .before .before .write4 .ensures) (c .less .ensures) sines)
 
 same-length : tie.Need-same-length Inv-loop μ-loop
 same-length c = search (needs, c .before .loop .inv .0 .long)

@@ -51,10 +51,15 @@ scale-at-requires-2 : tie.Need-scale-at-requires-2 Inv-loop μ-loop
 scale-at-requires-2 c κs = search needs
 
 ahead-requires : tie.Need-ahead-requires Inv-loop μ-loop
-ahead-requires c κs = c .before .before .before .before .before .before .before .before .before .before .before .before .before .before .before .before .before .loop .inv .3
+ahead-requires c κs = c .before .before .before .before .before .before .before .before .before .before .before .before .before .before .before .before .before .before .loop .inv .0 .within
 
 matrix-at-requires : tie.Need-matrix-at-requires Inv-loop μ-loop
-matrix-at-requires c κs = ahead-here (c .before .before .before .before .before .before .before .before .before .before .before .before .before .before .before .before .before .before .before .before .before .read4 .ensures) refl (c .before .before .before .before .before .before .ahead .ensures)
+matrix-at-requires c κs =
+    ahead-here (c .before .before .before .before .before .before .before .before .before .before .before .before .before .before .read4 .ensures) refl
+    (⊎-elim
+    (λ t. same-ahead (t .9) (t .10) (t .11) (t .12) (t .13) (t .14) (t .15) (t .8 .ensures))
+    (λ t. same-ahead (t .1) (t .2) (t .3) (t .4) (t .5) (t .6) (t .7) (c .before .before .before .before .before .before .before .before .before .before .before .before .before .before .before .before .before .loop .inv .3))
+    (c .before .before .before .before .before .before .if2 .came))
 
 forward-requires : tie.Need-forward-requires Inv-loop μ-loop
 forward-requires c κs = search needs
@@ -78,11 +83,15 @@ loop-again c =
     let w = c .before .before .before .before .before .forward in
     let fits : l .loop .i + 4 ≤ length (l .loop .list) = omega (arith, c .before .before .before .before .before .before .before .before .before .before .before .loop-test .taken) in
     let met = ⊎-elim
-    (λ u. met-anew _ _ _ (u .0 .taken) (u .27 ∙ u .3 .ensures) (u .28 ∙ u .4 .ensures) (u .29 ∙ u .19 .ensures))
+    (λ u. met-anew _ _ _ (u .0 .taken) (u .20 ∙ u .3 .ensures) (u .21 ∙ u .4 .ensures) (u .22 ∙ u .12 .ensures))
     (λ u. met-again _ _ _ (u .0 .left) (u .8) (u .9) (u .10) (l .loop .inv .1))
     (c .before .before .before .before .before .before .if1 .came) in
     let sines = ⊎-elim
-    (λ u. same-ahead (u .20) (u .21) (u .22) (u .23) (u .24) (u .25) (u .26) (u .12 .ensures))
+    (λ u. same-ahead (u .13) (u .14) (u .15) (u .16) (u .17) (u .18) (u .19)
+    (⊎-elim
+    (λ t. same-ahead (t .9) (t .10) (t .11) (t .12) (t .13) (t .14) (t .15) (t .8 .ensures))
+    (λ t. same-ahead (t .1) (t .2) (t .3) (t .4) (t .5) (t .6) (t .7) (l .loop .inv .3))
+    (u .5 .came)))
     (λ u. same-ahead (u .1) (u .2) (u .3) (u .4) (u .5) (u .6) (u .7) (l .loop .inv .3))
     (c .before .before .before .before .before .before .if1 .came) in
     let e = rw (v .ensures) at (held-turn _ false (l .loop .state) (v .result) {w = w .result} met (w .ensures)) in
