@@ -11,6 +11,7 @@ use Rattle.bodies.specs.declared.Step.the-variants.{Cart, Permtide, Defo
 use Rattle.bodies.specs.Kinds.{lengthOf, kindOf}
 use Rattle.bodies.specs.Read.{helmertOf, cartOf, molodenskyOf, permtideOf, deformationOf, helmertIn, cartIn, molodenskyIn, permtideIn, deformationIn, stepOf}
 use Rattle.bodies.specs.Rules.{stepInRule, writtenInRule, bodyInRule, lacksConvention, lacksEpoch, lacksDuration, lowestBroken}
+
 -- ---- two tests
 
 pub left : (a b : Bool) → a && b ≡ true → a ≡ true

@@ -32,6 +32,7 @@ use Rattle.bodies.proofs.Laws.{left, right, by-kind, length-in-rule, body-writt
 use Rattle.body_writer.specs.Write.{leVec3, leSeries, helmertBytes, cartBytes, molodenskyBytes, permtideBytes, deformationBytes, bytesOf}
 use Rattle.bodies.specs.Held.{Held, Held3, HeldHelmert, HeldCart, HeldMolodensky, HeldPermtide, HeldDeformation}
 use Rattle.body_writer.proofs.Lengths.{length-helmert, length-cart, length-molodensky, length-permtide, length-deformation}
+
 -- a body has its kind's length
 pub bytes-length : (st : Step) → length (bytesOf st) ≡ lengthOf (kindOf st)
 unfolding bytesOf kindOf lengthOf
