@@ -92,8 +92,8 @@ fn correction_block(
         × Each (now (dy .exit)) (λ (j : ℕ). correctionOf op inverse (velocityOf (now (east .entry)) (now (north .entry)) (now (up .entry)) j) (at (now (lam .entry)) j) (at (now (phi .entry)) j) (at (now (t .entry)) j) .y)
         × Each (now (dz .exit)) (λ (j : ℕ). correctionOf op inverse (velocityOf (now (east .entry)) (now (north .entry)) (now (up .entry)) j) (at (now (lam .entry)) j) (at (now (phi .entry)) j) (at (now (t .entry)) j) .z) ⌝ }
 {
-    trig::sin_cos_block(lam, slon, dz);
-    trig::sin_cos_block(phi, dx, dy);
+    trig_block::sin_cos_block(lam, slon, dz);
+    trig_block::sin_cos_block(phi, dx, dy);
     let fixed = floats::is_finite(op.dt);
     turned_block(
         op,
@@ -266,7 +266,7 @@ pub fn common_block(
 {
     let mut lam = [0.0; WIDTH];
     let mut phi = [0.0; WIDTH];
-    geocart::place_block(op.ellps, x, y, z, t, &mut lam, &mut phi);
+    geocart_block::place_block(op.ellps, x, y, z, t, &mut lam, &mut phi);
     moved_block(
         op,
         inverse,

@@ -13,7 +13,7 @@ ghost use Rattle.tuple.specs.Columns.{rowOf};
 ghost use Rattle.geocart.specs.Geocart.{placeOf};
 ghost use Rattle.lists.specs.Run.{ranOf, countOf};
 ghost use Rattle.lists.specs.Sixteen.{rowAt, turnedOf, takenOf};
-ghost use Rattle.helmert_runs.specs.Turns.{noState};
+ghost use Rattle.helmert_turns.specs.Turns.{noState};
 ghost use Rattle.deformation_runs.specs.Turns.{velocityAt, markAt, movedTurns, deformationTurns};
 use blocks::WIDTH;
 use deformation::Deformation;
@@ -172,7 +172,7 @@ fn deformation_sixteen(
     let mut lam = [0.0; WIDTH];
     let mut phi = [0.0; WIDTH];
     lists::read_block(list, i, &mut x, &mut y, &mut z, &mut t);
-    geocart::place_block(op.ellps, &x, &y, &z, &t, &mut lam, &mut phi);
+    geocart_block::place_block(op.ellps, &x, &y, &z, &t, &mut lam, &mut phi);
     moved_sixteen(
         list,
         i,
