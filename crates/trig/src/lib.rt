@@ -181,7 +181,7 @@ fn aside(k: u64) -> u64
 
 // The rows of the first half, 0 to 32. One `match` with constants becomes a table in read-only memory, where an array would be built anew at each call; with an arm for each of the 64 steps
 // it would count as too large to be put in the place of more than one call.
-fn half(d: u64) -> Row
+pub fn half(d: u64) -> Row
     ensures { λ r. ⌜ r ≡ halfOf d ⌝ }
 {
     match d {
