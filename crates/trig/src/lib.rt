@@ -21,12 +21,16 @@ pub struct SinCos {
     pub c: f64,
 }
 
-// Sine and cosine. One branch for the zeros keeps the sign of -0.
+// Sine and cosine. One branch for the zeros keeps the sign of -0; one for NaN comes before the magnitude, which of a number is a single instruction.
 pub fn sin_cos(x: f64) -> SinCos
     ensures { λ r. ⌜ r ≡ sinCosOf x ⌝ }
 {
     if x == 0.0 {
         return SinCos { s: x, c: 1.0 };
+    }
+    let none = 0.0 / 0.0;
+    if x != x {
+        return SinCos { s: none, c: none };
     }
     let a = abs(x);
     if a <= 1024.0 {
@@ -36,7 +40,6 @@ pub fn sin_cos(x: f64) -> SinCos
             c: p.c,
         }
     } else {
-        let none = 0.0 / 0.0;
         SinCos { s: none, c: none }
     }
 }

@@ -2,22 +2,26 @@
 use Prim.Native.Nat.{ℕ, zero, suc, _≤_}
 use mathlib.Core.Path.{_≡_}
 use mathlib.Core.Bool.{Bool, true, false, cond}
-use lib.Ieee.{Float, nan, neg, eq, le}
+use lib.Ieee.{Float, nan, neg, eq, ne, le}
 use Rattle.floats.specs.Binary64.{bits}
 use Rattle.floats.specs.Number.{absOf}
 use Rattle.trig.specs.declared.SinCos.{SinCos}
 use Rattle.trig.specs.declared.Row.{Row}
 use Rattle.trig.specs.Trig.{one, reach, reducedOf, bendOf, sumOf, signedOf, turnedOf}
 
--- step and rest of an angle's magnitude, and what rounding took from the rest
+-- x, or 0 in the place of a NaN
+unfoldable pub numberOf : Float → Float
+numberOf x = cond (ne x x) (bits 0) x
+
+-- step and rest of its magnitude, and what rounding took from the rest
 abbrev pub stepOf : Float → ℕ
-stepOf x = reducedOf (absOf x) .step
+stepOf x = reducedOf (absOf (numberOf x)) .step
 
 abbrev pub restOf : Float → Float
-restOf x = reducedOf (absOf x) .rest
+restOf x = reducedOf (absOf (numberOf x)) .rest
 
 abbrev pub tailOf : Float → Float
-tailOf x = reducedOf (absOf x) .tail
+tailOf x = reducedOf (absOf (numberOf x)) .tail
 
 -- an angle that is neither zero nor out of reach, and so no NaN
 unfoldable pub usualOf : Float → Bool

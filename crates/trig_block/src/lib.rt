@@ -10,7 +10,7 @@ ghost use Prim.Native.Nat.{ℕ};
 ghost use Rattle.blocks.specs.Each.{at, wholeAt, Each, EachWhole};
 ghost use Rattle.trig.specs.Table.{rowOf};
 ghost use Rattle.trig.specs.Trig.{sinOf, cosOf};
-ghost use Rattle.trig_block.specs.Block.{stepOf, restOf, tailOf, usualOf, Tells, sinFrom, cosFrom, pairFrom, usualFrom, bothFrom};
+ghost use Rattle.trig_block.specs.Block.{numberOf, stepOf, restOf, tailOf, usualOf, Tells, sinFrom, cosFrom, pairFrom, usualFrom, bothFrom};
 use blocks::WIDTH;
 use floats::abs;
 use trig::Row;
@@ -42,7 +42,7 @@ pub fn sin_cos_block(x: &[f64; WIDTH], s: &mut [f64; WIDTH], c: &mut [f64; WIDTH
     }
 }
 
-// The reductions of the magnitudes of a block.
+// The reductions of the magnitudes of a block, 0 in the place of a NaN.
 fn smalls(
     x: &[f64; WIDTH],
     step: &mut [u64; WIDTH],
@@ -56,12 +56,19 @@ fn smalls(
     *tail = [0.0; WIDTH];
     let mut i = 0;
     while i < WIDTH {
-        let g = reduce(abs(x[i]));
+        let g = reduce(abs(number(x[i])));
         step[i] = g.step;
         rest[i] = g.rest;
         tail[i] = g.tail;
         i += 1;
     }
+}
+
+// x, or 0 in the place of a NaN. The magnitude of what is no NaN is a single instruction, and so are the bits of what comes of it.
+fn number(x: f64) -> f64
+    ensures { λ r. ⌜ r ≡ numberOf x ⌝ }
+{
+    if x != x { 0.0 } else { x }
 }
 
 // The table's rows for a block of steps: the loop that is not turned into vector instructions has nothing else to do.

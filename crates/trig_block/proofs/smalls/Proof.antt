@@ -4,6 +4,7 @@ use borrow.Author.Needs.{needs}
 use mathlib.Core.Path.{refl, ap, _∙_}
 use Rattle.blocks.specs.Each.{at, UpTo, WholeUpTo}
 use Rattle.blocks.proofs.Laws.{none-filled, one-more, all-filled, none-filled-whole, one-more-whole, all-filled-whole}
+use Rattle.floats.specs.Number.{absOf}
 use Rattle.trig.specs.declared.Reduced.{Reduced}
 use Rattle.trig.specs.Trig.{reducedOf}
 use Rattle.trig_block.specs.Block.{stepOf, restOf, tailOf}
@@ -20,11 +21,14 @@ abbrev μ-loop : tie.MeasureT-loop
 loop-holds : tie.Need-loop-holds Inv-loop μ-loop
 loop-holds c = (none-filled-whole refl, none-filled refl, none-filled refl)
 
-mul-abs : tie.Need-mul-abs Inv-loop μ-loop
-mul-abs c = search needs
+mul-number : tie.Need-mul-number Inv-loop μ-loop
+mul-number c = search needs
 
-element-copy-out-abs : tie.Need-element-copy-out-abs Inv-loop μ-loop
-element-copy-out-abs c = search needs
+element-copy-out-number : tie.Need-element-copy-out-number Inv-loop μ-loop
+element-copy-out-number c = search needs
+
+number-requires : tie.Need-number-requires Inv-loop μ-loop
+number-requires c κs = search needs
 
 abs-requires : tie.Need-abs-requires Inv-loop μ-loop
 abs-requires c κs = search needs
@@ -58,8 +62,8 @@ loop-less c = search needs
 
 loop-again : tie.Need-loop-again Inv-loop μ-loop
 loop-again c =
-    let l = c .before .before .before .before .loop in
-    let reduced = c .reduce .ensures ∙ ap reducedOf (c .before .abs .ensures) in (
+    let l = c .before .before .before .before .before .loop in
+    let reduced = c .reduce .ensures ∙ ap reducedOf (c .before .abs .ensures ∙ ap absOf (c .before .before .number .ensures)) in (
       one-more-whole (search needs) (ap (λ (g : Reduced). g .step) reduced) (l .inv .0),
       one-more (search needs) (ap (λ (g : Reduced). g .rest) reduced) (l .inv .1),
       one-more (search needs) (ap (λ (g : Reduced). g .tail) reduced) (l .inv .2),
@@ -77,8 +81,9 @@ smalls-spec =
     Inv-loop
     μ-loop
     loop-holds
-    mul-abs
-    element-copy-out-abs
+    mul-number
+    element-copy-out-number
+    number-requires
     abs-requires
     reduce-requires
     mul-step
