@@ -11,7 +11,7 @@
 ghost use mathlib.Core.Path.{_≡_};
 ghost use Prim.Native.Nat.{_%_};
 ghost use Rattle.trig.specs.Table.{rowOf, asideOf, halfOf};
-ghost use Rattle.trig.specs.Trig.{reducedOf, bendOf, atMostOne, clampOf, sumOf, pairOf, turnedOf, sinOf, cosOf, sinCosOf};
+ghost use Rattle.trig.specs.Trig.{reducedOf, bendOf, atMostOne, clampOf, sumOf, sineOf, cosineOf, pairOf, turnedOf, sinOf, cosOf, sinCosOf};
 use floats::abs;
 use floats::of_bits;
 use floats::to_bits;
@@ -21,12 +21,16 @@ pub struct SinCos {
     pub c: f64,
 }
 
-// Sine and cosine. One branch for the zeros keeps the sign of -0.
+// Sine and cosine. One branch for the zeros keeps the sign of -0; one for NaN comes before the magnitude, which of a number is a single instruction.
 pub fn sin_cos(x: f64) -> SinCos
     ensures { λ r. ⌜ r ≡ sinCosOf x ⌝ }
 {
     if x == 0.0 {
         return SinCos { s: x, c: 1.0 };
+    }
+    let none = 0.0 / 0.0;
+    if x != x {
+        return SinCos { s: none, c: none };
     }
     let a = abs(x);
     if a <= 1024.0 {
@@ -36,21 +40,42 @@ pub fn sin_cos(x: f64) -> SinCos
             c: p.c,
         }
     } else {
-        let none = 0.0 / 0.0;
         SinCos { s: none, c: none }
     }
 }
 
+// The sine alone: as the pair, with one sum.
 pub fn sin(x: f64) -> f64
     ensures { λ r. ⌜ r ≡ sinOf x ⌝ }
 {
-    sin_cos(x).s
+    if x == 0.0 {
+        return x;
+    }
+    let none = 0.0 / 0.0;
+    if x != x {
+        return none;
+    }
+    let size = abs(x);
+    if size <= 1024.0 {
+        signed(sine(size), x)
+    } else {
+        none
+    }
 }
 
+// The cosine alone.
 pub fn cos(x: f64) -> f64
     ensures { λ r. ⌜ r ≡ cosOf x ⌝ }
 {
-    sin_cos(x).c
+    if x == 0.0 {
+        return 1.0;
+    }
+    let none = 0.0 / 0.0;
+    if x != x {
+        return none;
+    }
+    let size = abs(x);
+    if size <= 1024.0 { cosine(size) } else { none }
 }
 
 // s, turned where x is below zero: the sine is odd. Of a number that is not zero this is its sign, and costs no branch.
@@ -71,6 +96,26 @@ fn pair(a: f64) -> SinCos
         s: sum(w.0, w.1, w.2, g.rest, b),
         c: sum(w.2, w.3, -w.0, g.rest, b),
     }
+}
+
+// The sine of a magnitude in reach.
+fn sine(a: f64) -> f64
+    ensures { λ q. ⌜ q ≡ sineOf a ⌝ }
+{
+    let g = reduce(a);
+    let w = look_up(g.step);
+    let b = bend(g.rest, g.tail);
+    sum(w.0, w.1, w.2, g.rest, b)
+}
+
+// The cosine of a magnitude in reach.
+fn cosine(a: f64) -> f64
+    ensures { λ q. ⌜ q ≡ cosineOf a ⌝ }
+{
+    let g = reduce(a);
+    let w = look_up(g.step);
+    let b = bend(g.rest, g.tail);
+    sum(w.2, w.3, -w.0, g.rest, b)
 }
 
 // An angle as a step of the circle, counted in the last six bits, a small rest, and what rounding took from the rest.
@@ -181,7 +226,7 @@ fn aside(k: u64) -> u64
 
 // The rows of the first half, 0 to 32. One `match` with constants becomes a table in read-only memory, where an array would be built anew at each call; with an arm for each of the 64 steps
 // it would count as too large to be put in the place of more than one call.
-fn half(d: u64) -> Row
+pub fn half(d: u64) -> Row
     ensures { λ r. ⌜ r ≡ halfOf d ⌝ }
 {
     match d {

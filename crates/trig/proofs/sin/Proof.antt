@@ -1,13 +1,39 @@
--- `trig::sin` meets its contract: it is a part of the pair. Assumes nothing.
+-- `trig::sin` meets its contract: of a number that is not zero, being below zero tells the sign. Assumes nothing.
 use borrow.Author.Needs.{needs}
+use lib.Ieee.{eq, lt, le}
+use Rattle.trig.specs.Trig.{signedOf, turnedOf, sinOf}
+use Rattle.floats.specs.Number.{signOf}
+use Rattle.floats.proofs.Nan.{zero-over-zero, nan-if-differs}
+use Rattle.floats.proofs.Zero.{sign-of-other}
 use Rattle.trig.proofs.sin.Statement.{statement}
 use Rattle.trig.proofs.sin.Tie as tie
 
-sin-cos-requires : tie.Need-sin-cos-requires
-sin-cos-requires c κs = search needs
-
 returns : tie.Need-returns
-returns c = rw (c .sin-cos .ensures)
+unfolding sinOf
+returns c = rw (c .if1 .taken)
+
+returns-2 : tie.Need-returns-2
+unfolding sinOf signOf eq le lt
+returns-2 c = rw (zero-over-zero, nan-if-differs _ (c .if2 .taken))
+
+abs-requires : tie.Need-abs-requires
+abs-requires c κs = search needs
+
+sine-requires : tie.Need-sine-requires
+sine-requires c κs = search needs
+
+signed-requires : tie.Need-signed-requires
+signed-requires c κs = search needs
+
+returns-3 : tie.Need-returns-3
+unfolding sinOf signedOf turnedOf
+returns-3 c =
+    let nonzero = c .before .before .before .before .before .if1 .left in
+    rw (c .signed .ensures, c .before .sine .ensures, sign-of-other _ nonzero, nonzero, ← c .before .before .before .abs .ensures, c .before .before .if3 .taken)
+
+returns-4 : tie.Need-returns-4
+unfolding sinOf
+returns-4 c = rw (zero-over-zero, c .before .before .before .if1 .left, ← c .before .abs .ensures, c .if3 .left)
 
 pub sin-spec : {M : Type 1} → statement M
-sin-spec = tie.close (tie.spec sin-cos-requires returns)
+sin-spec = tie.close (tie.spec returns returns-2 abs-requires sine-requires signed-requires returns-3 returns-4)

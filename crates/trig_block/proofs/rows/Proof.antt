@@ -19,14 +19,14 @@ abbrev μ-loop : tie.MeasureT-loop
 loop-holds : tie.Need-loop-holds Inv-loop μ-loop
 loop-holds c = (none-filled refl, none-filled refl, none-filled refl, none-filled refl)
 
-mul-look-up : tie.Need-mul-look-up Inv-loop μ-loop
-mul-look-up c = search needs
+mul-row : tie.Need-mul-row Inv-loop μ-loop
+mul-row c = search needs
 
-element-copy-out-look-up : tie.Need-element-copy-out-look-up Inv-loop μ-loop
-element-copy-out-look-up c = search needs
+element-copy-out-row : tie.Need-element-copy-out-row Inv-loop μ-loop
+element-copy-out-row c = search needs
 
-look-up-requires : tie.Need-look-up-requires Inv-loop μ-loop
-look-up-requires c κs = search needs
+row-requires : tie.Need-row-requires Inv-loop μ-loop
+row-requires c κs = search needs
 
 mul-sh : tie.Need-mul-sh Inv-loop μ-loop
 mul-sh c = search needs
@@ -61,11 +61,11 @@ loop-less c = search needs
 loop-again : tie.Need-loop-again Inv-loop μ-loop
 loop-again c =
     let l = c .before .before .before .loop in
-    let row = c .look-up .ensures in (
-      one-more (search needs) (ap (λ (w : Row). w .0) row) (l .inv .0),
-      one-more (search needs) (ap (λ (w : Row). w .1) row) (l .inv .1),
-      one-more (search needs) (ap (λ (w : Row). w .2) row) (l .inv .2),
-      one-more (search needs) (ap (λ (w : Row). w .3) row) (l .inv .3),
+    let here = c .row .ensures in (
+      one-more (search needs) (ap (λ (w : Row). w .0) here) (l .inv .0),
+      one-more (search needs) (ap (λ (w : Row). w .1) here) (l .inv .1),
+      one-more (search needs) (ap (λ (w : Row). w .2) here) (l .inv .2),
+      one-more (search needs) (ap (λ (w : Row). w .3) here) (l .inv .3),
     )
 
 returns : tie.Need-returns Inv-loop μ-loop
@@ -80,9 +80,9 @@ rows-spec =
     Inv-loop
     μ-loop
     loop-holds
-    mul-look-up
-    element-copy-out-look-up
-    look-up-requires
+    mul-row
+    element-copy-out-row
+    row-requires
     mul-sh
     element-write-sh
     mul-sl

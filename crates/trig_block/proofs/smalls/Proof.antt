@@ -4,37 +4,37 @@ use borrow.Author.Needs.{needs}
 use mathlib.Core.Path.{refl, ap, _∙_}
 use Rattle.blocks.specs.Each.{at, UpTo, WholeUpTo}
 use Rattle.blocks.proofs.Laws.{none-filled, one-more, all-filled, none-filled-whole, one-more-whole, all-filled-whole}
+use Rattle.floats.specs.Number.{absOf}
 use Rattle.trig.specs.declared.Reduced.{Reduced}
-use Rattle.trig.specs.declared.Bends.{Bends}
-use Rattle.trig.specs.Trig.{reducedOf, bendOf}
-use Rattle.trig_block.specs.Block.{stepOf, restOf, bendsOf}
+use Rattle.trig.specs.Trig.{reducedOf}
+use Rattle.trig_block.specs.Block.{stepOf, restOf, tailOf}
 use Rattle.trig_block.proofs.smalls.Statement.{statement}
 use Rattle.trig_block.proofs.smalls.Tie as tie
 
 abbrev Inv-loop : tie.InvT-loop
-Inv-loop x step₀ rest₀ bs₀ bc₀ i₀ step rest bs bc i =
-    WholeUpTo i step (λ (j : ℕ). stepOf (at x j)) × UpTo i rest (λ (j : ℕ). restOf (at x j)) × UpTo i bs (λ (j : ℕ). bendsOf (at x j) .sine) × UpTo i bc (λ (j : ℕ). bendsOf (at x j) .cosine)
+Inv-loop x step₀ rest₀ tail₀ i₀ step rest tail i =
+    WholeUpTo i step (λ (j : ℕ). stepOf (at x j)) × UpTo i rest (λ (j : ℕ). restOf (at x j)) × UpTo i tail (λ (j : ℕ). tailOf (at x j))
 
 abbrev μ-loop : tie.MeasureT-loop
-μ-loop x step₀ rest₀ bs₀ bc₀ i₀ step rest bs bc i = 16 - i
+μ-loop x step₀ rest₀ tail₀ i₀ step rest tail i = 16 - i
 
 loop-holds : tie.Need-loop-holds Inv-loop μ-loop
-loop-holds c = (none-filled-whole refl, none-filled refl, none-filled refl, none-filled refl)
+loop-holds c = (none-filled-whole refl, none-filled refl, none-filled refl)
 
-mul-abs : tie.Need-mul-abs Inv-loop μ-loop
-mul-abs c = search needs
+mul-number : tie.Need-mul-number Inv-loop μ-loop
+mul-number c = search needs
 
-element-copy-out-abs : tie.Need-element-copy-out-abs Inv-loop μ-loop
-element-copy-out-abs c = search needs
+element-copy-out-number : tie.Need-element-copy-out-number Inv-loop μ-loop
+element-copy-out-number c = search needs
+
+number-requires : tie.Need-number-requires Inv-loop μ-loop
+number-requires c κs = search needs
 
 abs-requires : tie.Need-abs-requires Inv-loop μ-loop
 abs-requires c κs = search needs
 
 reduce-requires : tie.Need-reduce-requires Inv-loop μ-loop
 reduce-requires c κs = search needs
-
-bend-requires : tie.Need-bend-requires Inv-loop μ-loop
-bend-requires c κs = search needs
 
 mul-step : tie.Need-mul-step Inv-loop μ-loop
 mul-step c = search needs
@@ -48,17 +48,11 @@ mul-rest c = search needs
 element-write-rest : tie.Need-element-write-rest Inv-loop μ-loop
 element-write-rest c = search needs
 
-mul-bs : tie.Need-mul-bs Inv-loop μ-loop
-mul-bs c = search needs
+mul-tail : tie.Need-mul-tail Inv-loop μ-loop
+mul-tail c = search needs
 
-element-write-bs : tie.Need-element-write-bs Inv-loop μ-loop
-element-write-bs c = search needs
-
-mul-bc : tie.Need-mul-bc Inv-loop μ-loop
-mul-bc c = search needs
-
-element-write-bc : tie.Need-element-write-bc Inv-loop μ-loop
-element-write-bc c = search needs
+element-write-tail : tie.Need-element-write-tail Inv-loop μ-loop
+element-write-tail c = search needs
 
 add-i : tie.Need-add-i Inv-loop μ-loop
 add-i c = search needs
@@ -69,18 +63,16 @@ loop-less c = search needs
 loop-again : tie.Need-loop-again Inv-loop μ-loop
 loop-again c =
     let l = c .before .before .before .before .before .loop in
-    let reduced = c .before .reduce .ensures ∙ ap reducedOf (c .before .before .abs .ensures) in
-    let bends = c .bend .ensures ∙ ap (λ (g : Reduced). bendOf (g .rest) (g .tail)) reduced in (
+    let reduced = c .reduce .ensures ∙ ap reducedOf (c .before .abs .ensures ∙ ap absOf (c .before .before .number .ensures)) in (
       one-more-whole (search needs) (ap (λ (g : Reduced). g .step) reduced) (l .inv .0),
       one-more (search needs) (ap (λ (g : Reduced). g .rest) reduced) (l .inv .1),
-      one-more (search needs) (ap (λ (b : Bends). b .sine) bends) (l .inv .2),
-      one-more (search needs) (ap (λ (b : Bends). b .cosine) bends) (l .inv .3),
+      one-more (search needs) (ap (λ (g : Reduced). g .tail) reduced) (l .inv .2),
     )
 
 returns : tie.Need-returns Inv-loop μ-loop
 returns c =
     let l = c .before .loop .inv in
-    (all-filled-whole (search needs) (l .0), all-filled (search needs) (l .1), all-filled (search needs) (l .2), all-filled (search needs) (l .3))
+    (all-filled-whole (search needs) (l .0), all-filled (search needs) (l .1), all-filled (search needs) (l .2))
 
 pub smalls-spec : {M : Type 1} → statement M
 smalls-spec =
@@ -89,19 +81,17 @@ smalls-spec =
     Inv-loop
     μ-loop
     loop-holds
-    mul-abs
-    element-copy-out-abs
+    mul-number
+    element-copy-out-number
+    number-requires
     abs-requires
     reduce-requires
-    bend-requires
     mul-step
     element-write-step
     mul-rest
     element-write-rest
-    mul-bs
-    element-write-bs
-    mul-bc
-    element-write-bc
+    mul-tail
+    element-write-tail
     add-i
     loop-less
     loop-again

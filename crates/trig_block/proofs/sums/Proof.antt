@@ -10,12 +10,12 @@ use Rattle.trig_block.proofs.sums.Statement.{statement}
 use Rattle.trig_block.proofs.sums.Tie as tie
 
 abbrev Inv-loop : tie.InvT-loop
-Inv-loop x rest bs bc sh sl ch cl s₀ c₀ i₀ s c i =
-    UpTo i s (λ (j : ℕ). bothFrom (at x j) (at rest j) (record { sine = at bs j; cosine = at bc j }) (record { 0 = at sh j; 1 = at sl j; 2 = at ch j; 3 = at cl j }) .s)
-    × UpTo i c (λ (j : ℕ). bothFrom (at x j) (at rest j) (record { sine = at bs j; cosine = at bc j }) (record { 0 = at sh j; 1 = at sl j; 2 = at ch j; 3 = at cl j }) .c)
+Inv-loop x rest tail sh sl ch cl s₀ c₀ i₀ s c i =
+    UpTo i s (λ (j : ℕ). bothFrom (at x j) (at rest j) (at tail j) (record { 0 = at sh j; 1 = at sl j; 2 = at ch j; 3 = at cl j }) .s)
+    × UpTo i c (λ (j : ℕ). bothFrom (at x j) (at rest j) (at tail j) (record { 0 = at sh j; 1 = at sl j; 2 = at ch j; 3 = at cl j }) .c)
 
 abbrev μ-loop : tie.MeasureT-loop
-μ-loop x rest bs bc sh sl ch cl s₀ c₀ i₀ s c i = 16 - i
+μ-loop x rest tail sh sl ch cl s₀ c₀ i₀ s c i = 16 - i
 
 loop-holds : tie.Need-loop-holds Inv-loop μ-loop
 loop-holds c = (none-filled refl, none-filled refl)
@@ -62,12 +62,6 @@ mul-both-7 c = search needs
 element-copy-out-both-7 : tie.Need-element-copy-out-both-7 Inv-loop μ-loop
 element-copy-out-both-7 c = search needs
 
-mul-both-8 : tie.Need-mul-both-8 Inv-loop μ-loop
-mul-both-8 c = search needs
-
-element-copy-out-both-8 : tie.Need-element-copy-out-both-8 Inv-loop μ-loop
-element-copy-out-both-8 c = search needs
-
 both-requires : tie.Need-both-requires Inv-loop μ-loop
 both-requires c κs = search needs
 
@@ -91,7 +85,7 @@ loop-less c = search needs
 
 loop-again : tie.Need-loop-again Inv-loop μ-loop
 loop-again c =
-    let l = c .before .before .before .before .before .before .before .before .before .before .loop in
+    let l = c .before .before .before .before .before .before .before .before .before .loop in
     (one-more (search needs) (ap (λ (q : SinCos). q .s) (c .both .ensures)) (l .inv .0), one-more (search needs) (ap (λ (q : SinCos). q .c) (c .both .ensures)) (l .inv .1))
 
 returns : tie.Need-returns Inv-loop μ-loop
@@ -118,8 +112,6 @@ sums-spec =
     element-copy-out-both-6
     mul-both-7
     element-copy-out-both-7
-    mul-both-8
-    element-copy-out-both-8
     both-requires
     mul-s
     element-write-s

@@ -1,0 +1,30 @@
+-- `trig::sine` meets its contract. Assumes nothing.
+use borrow.Author.Needs.{needs}
+use Rattle.trig.specs.Trig.{sineOf}
+use Rattle.trig.proofs.sine.Statement.{statement}
+use Rattle.trig.proofs.sine.Tie as tie
+
+reduce-requires : tie.Need-reduce-requires
+reduce-requires c κs = search needs
+
+look-up-requires : tie.Need-look-up-requires
+look-up-requires c κs = search needs
+
+bend-requires : tie.Need-bend-requires
+bend-requires c κs = search needs
+
+sum-requires : tie.Need-sum-requires
+sum-requires c κs = search needs
+
+returns : tie.Need-returns
+unfolding sineOf
+returns c =
+    rw (
+      c .sum .ensures,
+      c .before .bend .ensures,
+      c .before .before .look-up .ensures,
+      c .before .before .before .reduce .ensures,
+    )
+
+pub sine-spec : {M : Type 1} → statement M
+sine-spec = tie.close (tie.spec reduce-requires look-up-requires bend-requires sum-requires returns)

@@ -1,0 +1,12 @@
+-- `trig_block::still` meets its contract. Assumes nothing.
+use Rattle.trig_block.proofs.still.Statement.{statement}
+use Rattle.trig_block.proofs.still.Tie as tie
+
+returns : tie.Need-returns
+returns c = rw (c .if1 .taken)
+
+returns-2 : tie.Need-returns-2
+returns-2 c = rw (c .if1 .left)
+
+pub still-spec : {M : Type 1} → statement M
+still-spec = tie.close (tie.spec returns returns-2)
