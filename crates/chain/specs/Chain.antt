@@ -9,6 +9,7 @@ use Rattle.helmert.specs.declared.State.{State}
 use Rattle.helmert.specs.Modes.{prepareOf, startOf}
 use Rattle.bodies.specs.declared.Step.{Step}
 use Rattle.bodies.specs.Kinds.{lengthOf}
+use Rattle.bodies.specs.Read.{stepOf}
 use Rattle.bodies.specs.declared.Step.the-variants.{Cart, Permtide, Deformation, Molodensky, Helmert}
 use Rattle.sheet.specs.declared.Entry.{Entry}
 use Rattle.lists.specs.Run.{Turns, ranOf, countOf}
@@ -41,6 +42,13 @@ heldKindOf kind n = cond (eqb n (lengthOf kind)) kind 0
 -- a step runs in the chain's direction, turned round where its inverted word is 1
 abbrev pub turnedOf : Bool → Entry → Bool
 turnedOf inverse e = cond (eqb (e .inverted) 1) (not inverse) inverse
+
+-- the list after a step whose body of a kind has these bytes, and how many tuples the step counted
+unfoldable pub bodyListOf : Bool → List Float → List ℕ → ℕ → List ℕ → List Float → List Float
+bodyListOf inverse velocities marks kind b l = ranOf (turnsOf inverse velocities marks (stepOf kind b)) 0 (stateOf (stepOf kind b)) l
+
+unfoldable pub bodyCountOf : Bool → List Float → List ℕ → ℕ → List ℕ → List Float → ℕ
+bodyCountOf inverse velocities marks kind b l = countOf (turnsOf inverse velocities marks (stepOf kind b)) 0 (stateOf (stepOf kind b)) l
 
 -- the list after a step, and how many tuples the step counted
 unfoldable pub stepListOf : Bool → List Float → List ℕ → Entry → List Float → List Float

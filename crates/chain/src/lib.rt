@@ -5,16 +5,15 @@
 // agree (proved there). The answer, the counts and the list are fixed for every input by specs/Rules.antt over specs/Chain.antt, which is made of the steps' own
 // definitions; nothing is written before the last test has passed. No rounding but the steps' own. Used by the program and by callers that keep lists.
 ghost use mathlib.Core.Path.{_≡_};
-ghost use mathlib.Core.Bool.{cond, not};
+ghost use mathlib.Core.Bool.{cond, not, true, false};
 ghost use Prim.Native.Nat.{_*_, _≤_, _<_};
 ghost use lib.Dec.{eqb};
 ghost use lib.ListN.{length};
 ghost use Rattle.sheet.specs.Layout.{stepCountOf as headerCountOf, kindAt, entryAt};
 ghost use Rattle.cart.specs.Record.{blankOf};
-ghost use Rattle.bodies.specs.Read.{cartIn, stepOf};
-ghost use Rattle.lists.specs.Run.{ranOf, countOf};
+ghost use Rattle.bodies.specs.Read.{cartIn};
 ghost use Rattle.sheet.specs.Rules.{ofSheet, deformationBefore};
-ghost use Rattle.chain.specs.Chain.{turnsOf, stateOf, heldKindOf, turnedOf, stepListOf, stepCountOf, forwardOf, inverseOf, placesOf, entriesOf};
+ghost use Rattle.chain.specs.Chain.{heldKindOf, bodyListOf, bodyCountOf, turnedOf, stepListOf, stepCountOf, forwardOf, inverseOf, placesOf, entriesOf};
 ghost use Rattle.chain.specs.Rules.{refusal9, overOne, lentFor, refusal10, refusedAnswer, ranAnswer, outcome, shiftOf};
 use cart::Cart;
 use sheet::Entry;
@@ -67,8 +66,9 @@ fn cart_of(kind: u32, b: &[u8]) -> Cart
     Cart::blank()
 }
 
-// A body of a kind over the list, read where it lies: the kind is decided here, once a list, and no step of any kind is made to be taken apart again.
-fn run_body(
+// A body over the list, read where it lies: the kind is decided here, once a list, and no step of any kind is made to be taken apart again. Helmert's stands apart from the others', so
+// that neither has the other's columns on the stack.
+fn run_helmert(
     inv: bool,
     kind: u32,
     b: &[u8],
@@ -76,13 +76,26 @@ fn run_body(
     velocities: &[f64],
     marks: &[u8],
 ) -> usize
-    ensures { λ r. ⌜ (now (list .exit) ≡ ranOf (turnsOf inv (now (velocities .entry)) (now (marks .entry)) (stepOf kind (now (b .entry)))) 0 (stateOf (stepOf kind (now (b .entry)))) (now (list .entry)))
-        × (r ≡ countOf (turnsOf inv (now (velocities .entry)) (now (marks .entry)) (stepOf kind (now (b .entry)))) 0 (stateOf (stepOf kind (now (b .entry)))) (now (list .entry))) ⌝ }
+    requires { ⌜ heldKindOf kind (length (now b)) ≡ 1 ⌝ }
+    ensures { λ r. ⌜ (now (list .exit) ≡ bodyListOf inv (now (velocities .entry)) (now (marks .entry)) kind (now (b .entry)) (now (list .entry)))
+        × (r ≡ bodyCountOf inv (now (velocities .entry)) (now (marks .entry)) kind (now (b .entry)) (now (list .entry))) ⌝ }
+{
+    helmert_runs::run_helmert(list, inv, bodies::read_helmert(b))
+}
+
+fn run_other(
+    inv: bool,
+    kind: u32,
+    b: &[u8],
+    list: &mut [f64],
+    velocities: &[f64],
+    marks: &[u8],
+) -> usize
+    requires { ⌜ (heldKindOf kind (length (now b)) ≡ 1 → ⊥) ⌝ }
+    ensures { λ r. ⌜ (now (list .exit) ≡ bodyListOf inv (now (velocities .entry)) (now (marks .entry)) kind (now (b .entry)) (now (list .entry)))
+        × (r ≡ bodyCountOf inv (now (velocities .entry)) (now (marks .entry)) kind (now (b .entry)) (now (list .entry))) ⌝ }
 {
     let held = held_kind(kind, b.len());
-    if held == 1 {
-        return helmert_runs::run_helmert(list, inv, bodies::read_helmert(b));
-    }
     if held == 3 {
         return runs::run_molodensky(list, inv, bodies::read_molodensky(b));
     }
@@ -101,25 +114,39 @@ fn run_body(
     runs::run_cart(list, inv, cart_of(held, b))
 }
 
-// The step at an index over the list.
-fn run_at(
-    inverse: bool,
-    s: &[u8],
-    i: usize,
-    list: &mut [f64],
-    velocities: &[f64],
-    marks: &[u8],
-) -> usize
+// The step at an index over the list, in the chain's direction. One function a direction: what both call is then not laid into their own frame.
+fn forward_at(s: &[u8], i: usize, list: &mut [f64], velocities: &[f64], marks: &[u8]) -> usize
     requires { ⌜ (i < 16) × (i < headerCountOf (now s)) ⌝ }
-    ensures { λ r. ⌜ (now (list .exit) ≡ stepListOf inverse (now (velocities .entry)) (now (marks .entry)) (entryAt (now (s .entry)) i) (now (list .entry)))
-        × (r ≡ stepCountOf inverse (now (velocities .entry)) (now (marks .entry)) (entryAt (now (s .entry)) i) (now (list .entry))) ⌝ }
+    ensures { λ r. ⌜ (now (list .exit) ≡ stepListOf false (now (velocities .entry)) (now (marks .entry)) (entryAt (now (s .entry)) i) (now (list .entry)))
+        × (r ≡ stepCountOf false (now (velocities .entry)) (now (marks .entry)) (entryAt (now (s .entry)) i) (now (list .entry))) ⌝ }
 {
     let place = 16 + 16 * i;
-    let inv = turned_by(inverse, words::read32(s, place + 4));
+    let inv = turned_by(false, words::read32(s, place + 4));
     let kind = words::read32(s, place);
     let offset = wide(words::read32(s, place + 8));
     let length = wide(words::read32(s, place + 12));
-    run_body(inv, kind, sheet::part(s, offset, length), list, velocities, marks)
+    let b = sheet::part(s, offset, length);
+    if held_kind(kind, b.len()) == 1 {
+        return run_helmert(inv, kind, b, list, velocities, marks);
+    }
+    run_other(inv, kind, b, list, velocities, marks)
+}
+
+fn backward_at(s: &[u8], i: usize, list: &mut [f64], velocities: &[f64], marks: &[u8]) -> usize
+    requires { ⌜ (i < 16) × (i < headerCountOf (now s)) ⌝ }
+    ensures { λ r. ⌜ (now (list .exit) ≡ stepListOf true (now (velocities .entry)) (now (marks .entry)) (entryAt (now (s .entry)) i) (now (list .entry)))
+        × (r ≡ stepCountOf true (now (velocities .entry)) (now (marks .entry)) (entryAt (now (s .entry)) i) (now (list .entry))) ⌝ }
+{
+    let place = 16 + 16 * i;
+    let inv = turned_by(true, words::read32(s, place + 4));
+    let kind = words::read32(s, place);
+    let offset = wide(words::read32(s, place + 8));
+    let length = wide(words::read32(s, place + 12));
+    let b = sheet::part(s, offset, length);
+    if held_kind(kind, b.len()) == 1 {
+        return run_helmert(inv, kind, b, list, velocities, marks);
+    }
+    run_other(inv, kind, b, list, velocities, marks)
 }
 
 // ----- a sheet's steps, one after another ------------------------------------------------------
@@ -132,7 +159,7 @@ fn forward(s: &[u8], n: usize, list: &mut [f64], velocities: &[f64], marks: &[u8
     let mut counts = [0usize; 16];
     let mut i = 0;
     while i < n {
-        let count = run_at(false, s, i, list, velocities, marks); // the first step first
+        let count = forward_at(s, i, list, velocities, marks); // the first step first
         counts[i] = count; // in the sheet's order
         i += 1;
     }
@@ -148,7 +175,7 @@ fn backward(s: &[u8], n: usize, list: &mut [f64], velocities: &[f64], marks: &[u
     let mut i = n;
     while 0 < i {
         i -= 1;
-        let count = run_at(true, s, i, list, velocities, marks); // the last step first
+        let count = backward_at(s, i, list, velocities, marks); // the last step first
         counts[i] = count;
     }
     counts

@@ -22,7 +22,7 @@ use Rattle.geocart.proofs.Laws.{geographic-time}
 use Rattle.deformation.specs.declared.Motion.{Motion}
 use Rattle.deformation.specs.declared.Velocity.{Velocity}
 use Rattle.deformation.specs.Step.{durationOf, scaleOf, metresOf, turnedOf, integratedOf, withLengthOf, deformedOf, commonOf}
-use Rattle.deformation_block.specs.Places.{velocityOf, shiftedOf, correctionOf, movedOf, movedAt, lastingOf, metreOf, turnedAt, correctionAt, keptOf}
+use Rattle.deformation_block.specs.Places.{velocityOf, correctionOf, movedOf, movedAt, lastingOf, metreOf, turnedAt, correctionAt, keptOf}
 
 -- ---- a count
 
@@ -190,28 +190,3 @@ module _ (op : Motion) (inverse : Bool) (east north up : List Float) (marks : Li
     where
       keeps : (j : ℕ) → j < 16 → (f : Tuple → Float) → f nanTuple ≡ nan → keptOf (wholeAt marks j) (f (addOf (rowOf x y z t j) (correctionAt dx dy dz j))) ≡ f (movedAt op inverse east north up marks lam phi x y z t j .tuple)
       keeps j i f nans = kept-sum op inverse (velocityOf east north up j) (wholeAt marks j) (at lam j) (at phi j) (rowOf x y z t j) f raw nans (columns-correct op inverse (velocityOf east north up j) (at lam j) (at phi j) (at t j) (cx .held j i) (cy .held j i) (cz .held j i))
-
-  -- with the places of the tuples themselves
-  pub common-all :
-      {ox oy oz ot : List Float} {n : ℕ}
-      → Each lam (λ (j : ℕ). placeOf (op .ellps) (rowOf x y z t j) .lam) → Each phi (λ (j : ℕ). placeOf (op .ellps) (rowOf x y z t j) .phi)
-      → Each ox (λ (j : ℕ). movedAt op inverse east north up marks lam phi x y z t j .tuple .x)
-      → Each oy (λ (j : ℕ). movedAt op inverse east north up marks lam phi x y z t j .tuple .y)
-      → Each oz (λ (j : ℕ). movedAt op inverse east north up marks lam phi x y z t j .tuple .z)
-      → Each ot (λ (j : ℕ). movedAt op inverse east north up marks lam phi x y z t j .tuple .t)
-      → n ≡ countTo 16 (λ (j : ℕ). movedAt op inverse east north up marks lam phi x y z t j .counted)
-      → Each ox (λ (j : ℕ). shiftedOf op inverse east north up marks x y z t j .tuple .x)
-      × Each oy (λ (j : ℕ). shiftedOf op inverse east north up marks x y z t j .tuple .y)
-      × Each oz (λ (j : ℕ). shiftedOf op inverse east north up marks x y z t j .tuple .z)
-      × Each ot (λ (j : ℕ). shiftedOf op inverse east north up marks x y z t j .tuple .t)
-      × (n ≡ countTo 16 (λ (j : ℕ). shiftedOf op inverse east north up marks x y z t j .counted))
-  common-all hl hp hx hy hz ht count = (
-    told (λ j i. ap (λ (s : Shifted). s .tuple .x) (same j i)) hx,
-    told (λ j i. ap (λ (s : Shifted). s .tuple .y) (same j i)) hy,
-    told (λ j i. ap (λ (s : Shifted). s .tuple .z) (same j i)) hz,
-    told (λ j i. ap (λ (s : Shifted). s .tuple .t) (same j i)) ht,
-    count ∙ count-told 16 _ _ (λ j i. ap (λ (s : Shifted). s .counted) (same j i)),
-  )
-    where
-      same : (j : ℕ) → j < 16 → movedAt op inverse east north up marks lam phi x y z t j ≡ shiftedOf op inverse east north up marks x y z t j
-      same j i = moved-common op inverse (velocityOf east north up j) (wholeAt marks j) (rowOf x y z t j) (hl .held j i) (hp .held j i)

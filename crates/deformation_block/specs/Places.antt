@@ -1,4 +1,5 @@
--- The step over columns: sixteen velocities, marks and tuples, and what `common` gives at a place of them; and the parts that it is worked out in, one loop each.
+-- The step over columns: sixteen velocities, marks, places and tuples, and what `common` gives where the place is the tuple's own (law `moved-common`); and the parts that it is worked out in, one
+-- loop each.
 use Prim.Native.Nat.{ℕ}
 use mathlib.Core.Bool.{Bool, true, false, cond}
 use mathlib.Core.List.{List}
@@ -13,17 +14,11 @@ use Rattle.tuple.specs.Sums.{nanTuple, addOf}
 use Rattle.tuple.specs.Columns.{rowOf}
 use Rattle.deformation.specs.declared.Motion.{Motion}
 use Rattle.deformation.specs.declared.Velocity.{Velocity}
-use Rattle.deformation.specs.Step.{durationOf, scaleOf, metresOf, turnedOf, integratedOf, withLengthOf, commonOf}
+use Rattle.deformation.specs.Step.{durationOf, scaleOf, metresOf, turnedOf, integratedOf, withLengthOf}
 
 -- the velocity at a place of the columns
 abbrev pub velocityOf : List Float → List Float → List Float → ℕ → Velocity
 velocityOf east north up j = record { east = at east j; north = at north j; up = at up j }
-
--- the step at a place
-abbrev pub shiftedOf :
-    Motion → Bool → List Float → List Float → List Float → List ℕ → List Float → List Float → List Float → List Float → ℕ → Shifted
-shiftedOf op inverse east north up marks x y z t j =
-    commonOf op inverse (velocityOf east north up j) (wholeAt marks j) (rowOf x y z t j)
 
 -- what is added to a tuple whose longitude and latitude are lam and phi, or written in its place
 unfoldable pub correctionOf : Motion → Bool → Velocity → Float → Float → Float → Tuple

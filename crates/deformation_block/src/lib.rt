@@ -1,4 +1,4 @@
-// Kinematic datum shift by velocities of the ground, sixteen tuples at a time: the step of `deformation` over columns.
+// Kinematic datum shift by velocities of the ground, sixteen tuples at a time: the step of `deformation` over columns, with the tuples' longitudes and latitudes at hand.
 //
 // Each loop is straight arithmetic over the places, so that a compiler makes vectors of it; what depends on the step and not on the tuple is decided before.
 // An absent velocity is worked on like the others, and NaN is written in the end. The columns that the results go to serve for the parts before.
@@ -12,7 +12,7 @@ ghost use Rattle.floats.specs.Binary64.{_⊕_, bits};
 ghost use Rattle.blocks.specs.Each.{at, wholeAt, Each, countTo};
 ghost use Rattle.root.specs.Sqrt.{sqrtOf};
 ghost use Rattle.tuple.specs.Sums.{dotOf};
-ghost use Rattle.deformation_block.specs.Places.{velocityOf, shiftedOf, correctionOf, movedAt, lastingOf, metreOf, turnedAt, correctionAt, keptOf};
+ghost use Rattle.deformation_block.specs.Places.{velocityOf, correctionOf, movedAt, lastingOf, metreOf, turnedAt, correctionAt, keptOf};
 use blocks::WIDTH;
 use deformation::Motion;
 use deformation::Velocity;
@@ -239,50 +239,4 @@ pub fn moved_block(
     add_block(marks, z, oz);
     time_block(marks, t, ot);
     count_block(marks)
-}
-
-// Sixteen tuples as columns, each shifted as `common` shifts it, and how many of them count.
-pub fn common_block(
-    op: Motion,
-    inverse: bool,
-    east: &[f64; WIDTH],
-    north: &[f64; WIDTH],
-    up: &[f64; WIDTH],
-    marks: &[u8; WIDTH],
-    x: &[f64; WIDTH],
-    y: &[f64; WIDTH],
-    z: &[f64; WIDTH],
-    t: &[f64; WIDTH],
-    ox: &mut [f64; WIDTH],
-    oy: &mut [f64; WIDTH],
-    oz: &mut [f64; WIDTH],
-    ot: &mut [f64; WIDTH],
-) -> usize
-    ensures { λ r. ⌜ Each (now (ox .exit)) (λ (j : ℕ). shiftedOf op inverse (now (east .entry)) (now (north .entry)) (now (up .entry)) (now (marks .entry)) (now (x .entry)) (now (y .entry)) (now (z .entry)) (now (t .entry)) j .tuple .x)
-        × Each (now (oy .exit)) (λ (j : ℕ). shiftedOf op inverse (now (east .entry)) (now (north .entry)) (now (up .entry)) (now (marks .entry)) (now (x .entry)) (now (y .entry)) (now (z .entry)) (now (t .entry)) j .tuple .y)
-        × Each (now (oz .exit)) (λ (j : ℕ). shiftedOf op inverse (now (east .entry)) (now (north .entry)) (now (up .entry)) (now (marks .entry)) (now (x .entry)) (now (y .entry)) (now (z .entry)) (now (t .entry)) j .tuple .z)
-        × Each (now (ot .exit)) (λ (j : ℕ). shiftedOf op inverse (now (east .entry)) (now (north .entry)) (now (up .entry)) (now (marks .entry)) (now (x .entry)) (now (y .entry)) (now (z .entry)) (now (t .entry)) j .tuple .t)
-        × (r ≡ countTo 16 (λ (j : ℕ). shiftedOf op inverse (now (east .entry)) (now (north .entry)) (now (up .entry)) (now (marks .entry)) (now (x .entry)) (now (y .entry)) (now (z .entry)) (now (t .entry)) j .counted)) ⌝ }
-{
-    let mut lam = [0.0; WIDTH];
-    let mut phi = [0.0; WIDTH];
-    geocart_block::place_block(op.ellps, x, y, z, t, &mut lam, &mut phi);
-    moved_block(
-        op,
-        inverse,
-        east,
-        north,
-        up,
-        marks,
-        &lam,
-        &phi,
-        x,
-        y,
-        z,
-        t,
-        ox,
-        oy,
-        oz,
-        ot,
-    )
 }

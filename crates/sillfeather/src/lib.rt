@@ -147,7 +147,15 @@ pub extern "C" fn sillfeather_correct(
     ensures { λ r. ⌜ corrected r (now (redone .exit)) (keptOf (now (list .exit)) (now (results .exit)) (now (track .exit)))
         ≡ correctedOf (correctOf (isInverse inverse) (now (s .entry)) (keptOf (now (list .entry)) (now (results .entry)) (now (track .entry))) index (tupleOf (now (fix .entry)))) ⌝ }
 {
-    let answer = kept::correct(inverse != 0, s, list, results, track, index, arrays::tuple_of(fix));
+    let answer = kept::correct(
+        inverse != 0,
+        s,
+        list,
+        results,
+        track,
+        index,
+        arrays::tuple_of(fix),
+    );
     let refusal = answer.refusal;
     *redone = answer.redone;
     code(refusal)

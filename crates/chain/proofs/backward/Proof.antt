@@ -20,8 +20,8 @@ loop-holds c = backward-start _ _ _ _ _ (c .before .before .before .before .pre 
 sub-i : tie.Need-sub-i Inv-loop μ-loop
 sub-i c = search needs
 
-run-at-requires : tie.Need-run-at-requires Inv-loop μ-loop
-run-at-requires c κs = search needs
+backward-at-requires : tie.Need-backward-at-requires Inv-loop μ-loop
+backward-at-requires c κs = search needs
 
 mul-counts : tie.Need-mul-counts Inv-loop μ-loop
 mul-counts c = search needs
@@ -36,7 +36,7 @@ loop-again : tie.Need-loop-again Inv-loop μ-loop
 loop-again c =
     let l = c .before .before .before .before .before .loop in
     let j : l .i - 1 + 1 ≡ l .i = omega (arith, c .before .before .before .before .loop-test .taken) in
-    backward-again (c .before .before .before .before .before .before .before .before .before .before .pre .0) (l .i - 1) j refl (c .before .before .run-at .ensures .0) (c .before .before .run-at .ensures .1) (l .inv)
+    backward-again (c .before .before .before .before .before .before .before .before .before .before .pre .0) (l .i - 1) j refl (c .before .before .backward-at .ensures .0) (c .before .before .backward-at .ensures .1) (l .inv)
 
 same-length : tie.Need-same-length Inv-loop μ-loop
 same-length c = c .before .loop .inv .long
@@ -52,7 +52,7 @@ backward-spec =
     μ-loop
     loop-holds
     sub-i
-    run-at-requires
+    backward-at-requires
     mul-counts
     array-write-counts
     loop-less

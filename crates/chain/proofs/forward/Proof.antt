@@ -16,8 +16,8 @@ abbrev μ-loop : tie.MeasureT-loop
 loop-holds : tie.Need-loop-holds Inv-loop μ-loop
 loop-holds c = forward-start _ _ _ _ _ (c .before .before .before .before .pre .0)
 
-run-at-requires : tie.Need-run-at-requires Inv-loop μ-loop
-run-at-requires c κs = search needs
+forward-at-requires : tie.Need-forward-at-requires Inv-loop μ-loop
+forward-at-requires c κs = search needs
 
 mul-counts : tie.Need-mul-counts Inv-loop μ-loop
 mul-counts c = search needs
@@ -33,7 +33,7 @@ loop-less c = search needs
 
 loop-again : tie.Need-loop-again Inv-loop μ-loop
 loop-again c =
-    forward-again (c .before .before .before .before .before .before .before .before .before .before .pre .0) (search needs) refl (c .before .before .run-at .ensures .0) (c .before .before .run-at .ensures .1) (c .before .before .before .before .before .loop .inv)
+    forward-again (c .before .before .before .before .before .before .before .before .before .before .pre .0) (search needs) refl (c .before .before .forward-at .ensures .0) (c .before .before .forward-at .ensures .1) (c .before .before .before .before .before .loop .inv)
 
 same-length : tie.Need-same-length Inv-loop μ-loop
 same-length c = c .before .loop .inv .long
@@ -48,7 +48,7 @@ forward-spec =
     Inv-loop
     μ-loop
     loop-holds
-    run-at-requires
+    forward-at-requires
     mul-counts
     array-write-counts
     add-i
