@@ -1,4 +1,4 @@
-// Helmert over a lent flat list, a loop for each mode, convention and direction, written where the list stands.
+// Helmert over a lent flat list, a loop for each mode, convention and direction, written where the list stands. The exact loops: `helmert_exact_runs`.
 //
 // The prepared shift and the matrix of a static or fixed one are worked out once a list. Mode, convention, exactness, rotation and direction are decided before
 // a loop starts. Every function is proved equal, list and count, to the step's own definition from tuple to tuple (helmert_turns over `lists`).
