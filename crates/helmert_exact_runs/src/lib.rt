@@ -78,14 +78,13 @@ fn fill(
     let p = shift.parameters;
     let r = p.r;
     let rate = p.dr;
-    let mut dt = [0.0; WIDTH];
     let mut a = [0.0; WIDTH];
-    lapses(list, i, own, shift, &mut dt);
-    turned(r.x, rate.x, &dt, &mut a);
+    lapses(list, i, own, shift, sz); // the last column to be filled holds them until then
+    turned(r.x, rate.x, sz, &mut a);
     trig_block::sin_cos_block(&a, sx, cx);
-    turned(r.y, rate.y, &dt, &mut a);
+    turned(r.y, rate.y, sz, &mut a);
     trig_block::sin_cos_block(&a, sy, cy);
-    turned(r.z, rate.z, &dt, &mut a);
+    turned(r.z, rate.z, sz, &mut a);
     trig_block::sin_cos_block(&a, sz, cz);
 }
 
