@@ -82,7 +82,7 @@ int main(void) {
         const char *name;
         uint32_t (*call)(void);
         size_t limit;
-    } calls[] = {{"check", check, 4096}, {"shift", shift, 8192}, {"keep", keep, 4096}, {"correct", correct, 4096}, {"add", add, 65536}};
+    } calls[] = {{"check", check, 4096}, {"shift", shift, 5120}, {"keep", keep, 4096}, {"correct", correct, 4096}, {"add", add, 65536}};
     int passed = 0, failed = 0;
     void *stack;
     if (posix_memalign(&stack, 4096, STACK) != 0) return 1;
