@@ -58,9 +58,9 @@ fn cart_forward(list: &mut [f64], ellps: Ellipsoid) -> usize
     while 64 <= list.len() - i {
         let m = cart_forward_sixteen(list, i, ellps);
         n += m;
-        i += 64; // on to the next sixteen
+        i += 64;
     }
-    while 4 <= list.len() - i { // the rest
+    while 4 <= list.len() - i {
         let r = cart::cart_fwd(ellps, lists::read4(list, i));
         lists::write4(list, i, r.tuple);
         n = tally(n, r.counted);
@@ -135,7 +135,7 @@ fn permtide_forward(list: &mut [f64], op: Tide)
     let mut i = 0;
     while 64 <= list.len() - i {
         permtide_forward_sixteen(list, i, op);
-        i += 64;
+        i += 64; // on to the next sixteen
     }
     while 4 <= list.len() - i {
         let v = permtide::fwd(op, lists::read4(list, i));
@@ -209,7 +209,7 @@ fn molodensky_common(list: &mut [f64], op: Moped, inverse: bool)
         molodensky_sixteen(list, i, op, inverse);
         i += 64;
     }
-    while 4 <= list.len() - i {
+    while 4 <= list.len() - i { // the rest
         let v = molodensky::common(op, inverse, lists::read4(list, i));
         lists::write4(list, i, v);
         i += 4;
