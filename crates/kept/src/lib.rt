@@ -111,7 +111,7 @@ pub fn keep(
     let entry = sheet::entry_at(s, 0);
     stretch::fresh(
         step_of(entry),
-        chain::turned(inverse, entry),
+        chain::turned(inverse, entry), // turned round where the step is inverted
         list,
         results,
         track,
@@ -142,7 +142,7 @@ pub fn correct(
     if refusal.number != 0 {
         return Corrected {
             refusal: refusal,
-            redone: 0,
+            redone: 0, // a refused call redoes nothing
         };
     }
     if index_broken(list.len(), index) {

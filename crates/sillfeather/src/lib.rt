@@ -189,7 +189,7 @@ pub extern "C" fn sillfeather_add_helmert(
     add(
         room,
         len,
-        inverted,
+        inverted, // any other word than 0 or 1 is refused by 4
         Step::Helmert(arrays::helmert_of(flags, convention, numbers)),
     )
 }
