@@ -15,8 +15,8 @@ use Rattle.bodies.specs.Kinds.{lengthOf as bodyLengthOf}
 use Rattle.bodies.specs.Read.{stepOf as readOf, cartOf as cartRecordOf}
 use Rattle.bodies.specs.Rules.{stepInRule, lacksConvention, lacksEpoch, lacksDuration, writtenInRule, bodyInRule}
 use Rattle.sheet.specs.Layout.{bodyAt, entryAt}
-use Rattle.sheet.specs.Rules.{refusal1, refusal2, refusal3, refusal4, refusal5, endBefore, placeBroken, someFrom, deformationBefore, refusal11, rulesOfStep, fiveToEight, elevens, readerOrder, firstBroken, refusalOf}
-use Rattle.chain.specs.Chain.{forwardOf as chainForwardOf, entriesOf, stepListOf, stepCountOf}
+use Rattle.sheet.specs.Rules.{refusal1, refusal2, refusal3, refusal4, refusal5, endBefore, placeBroken, someFrom, hasDeformation, refusal11, rulesOfStep, fiveToEight, elevens, readerOrder, firstBroken, refusalOf}
+use Rattle.chain.specs.Chain.{chainForwardOf, entriesOf, stepListOf, tuplesCountedOf}
 use Rattle.chain.specs.Rules.{shiftOf, outcomeOf, shiftRefusalOf, refusal9, refusal10, overOne}
 use Rattle.text.specs.Ascii.{ascii}
 use Rattle.text.specs.Digits.{digitsOf, placesOf, decimalOf, hexOf}
@@ -35,7 +35,7 @@ p1 = bytes (0 ∷ 40 ∷ 1 ∷ 0 ∷ 1 ∷ 40 ∷ 1 ∷ 16 ∷ 2 ∷ 0 ∷ 32 �
 
 -- P1, complete
 p1-complete : answerOf p1 ≡ ascii "steps 1 tuples 1\nstep 1 counted 1\n415854a640000000 0000000000000000 0000000000000000 0000000000000000\n"
-unfolding bytes p1 answerOf jobText toldOf refusal16 numbersOf sheetOf tuplesOf velocitiesOf marksOf ranText lineOf countsText tuplesText tupleText wordOf decimalOf placesOf digitsOf hexOf shiftOf outcomeOf shiftRefusalOf refusal9 refusal10 overOne chainForwardOf entriesOf stepListOf stepCountOf word32 word64 numberAt oneNanAt le32 bodyLengthOf bodyAt readOf cartRecordOf stepInRule lacksConvention lacksEpoch lacksDuration writtenInRule bodyInRule refusal1 refusal2 refusal3 refusal4 refusal5 endBefore placeBroken someFrom deformationBefore refusal11 rulesOfStep fiveToEight elevens readerOrder firstBroken refusalOf entryAt cartesianOf namedOf ellipsoidOf primeVerticalOf wOf sqrtOf sinOf cosOf signedOf sineOf cosineOf reducedOf rowOf bendOf sumOf clampOf atMostOne signOf isNan ofBits toBits neg add sub mul div lt le eq ne sum round size
+unfolding bytes p1 answerOf jobText toldOf refusal16 numbersOf sheetOf tuplesOf velocitiesOf marksOf ranText lineOf countsText tuplesText tupleText wordOf decimalOf placesOf digitsOf hexOf shiftOf outcomeOf shiftRefusalOf refusal9 refusal10 overOne chainForwardOf entriesOf stepListOf tuplesCountedOf word32 word64 numberAt oneNanAt le32 bodyLengthOf bodyAt readOf cartRecordOf stepInRule lacksConvention lacksEpoch lacksDuration writtenInRule bodyInRule refusal1 refusal2 refusal3 refusal4 refusal5 endBefore placeBroken someFrom hasDeformation refusal11 rulesOfStep fiveToEight elevens readerOrder firstBroken refusalOf entryAt cartesianOf namedOf ellipsoidOf primeVerticalOf wOf sqrtOf sinOf cosOf signedOf sineOf cosineOf reducedOf rowOf bendOf sumOf clampOf atMostOne signOf isNan ofBits toBits neg add sub mul div lt le eq ne sum round size
 p1-complete = refl
 
 -- A bad job is 16, whatever stands in it: nothing, P1 without its last byte and with one more, a direction of 2, 4,241 bytes of sheet, 513 tuples, 2

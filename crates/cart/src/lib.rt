@@ -6,7 +6,7 @@
 // Sixteen tuples at a time: the crate cart_block.
 ghost use mathlib.Core.Path.{_≡_};
 ghost use Rattle.cart.specs.Record.{blankOf, inRuleOf};
-ghost use Rattle.cart.specs.Step.{countedOf, cartFwdOf, inverseOf, meridianOf, heightOf, offAxisOf, onAxisOf, cartInvOf};
+ghost use Rattle.cart.specs.Step.{countedOf, cartFwdOf, inverseFiguresOf, latitudeLegsOf, heightOf, offAxisOf, onAxisOf, cartInvOf};
 use ellipsoid::Ellipsoid;
 use tuple::Shifted;
 use tuple::Tuple;
@@ -67,7 +67,7 @@ pub fn cart_fwd(ellps: Ellipsoid, coord: Tuple) -> Shifted
 
 impl Inverse {
     pub fn new(ellps: Ellipsoid) -> Self
-        ensures { λ r. ⌜ r ≡ inverseOf ellps ⌝ }
+        ensures { λ r. ⌜ r ≡ inverseFiguresOf ellps ⌝ }
     {
         let ra = 1.0 / ellps.a;
         Inverse {
@@ -85,7 +85,7 @@ impl Inverse {
 
 // S1 and CC, the legs of the latitude's angle, of a point of the meridian plane: p, s0 and c0 reduced by the semimajor axis, a the hypotenuse of s0 and c0.
 pub fn meridian(k: Inverse, p: f64, s0: f64, c0: f64, a: f64) -> Legs
-    ensures { λ r. ⌜ r ≡ meridianOf k p s0 c0 a ⌝ }
+    ensures { λ r. ⌜ r ≡ latitudeLegsOf k p s0 c0 a ⌝ }
 {
     let es = k.ellps.es;
     let f = p * a * a * a - es * c0 * c0 * c0;

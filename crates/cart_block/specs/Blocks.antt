@@ -9,11 +9,11 @@ use Rattle.tuple.specs.Sums.{anyNanOf}
 use Rattle.geocart.specs.Geocart.{poleHeightOf}
 use Rattle.cart.specs.declared.Inverse.{Inverse}
 use Rattle.cart.specs.declared.Legs.{Legs}
-use Rattle.cart.specs.Step.{meridianOf, heightOf}
+use Rattle.cart.specs.Step.{latitudeLegsOf, heightOf}
 
 -- S1 and CC of a point of the meridian plane, p from the axis and Z above the equator, given the hypotenuse A of S0 and C0
 abbrev pub reducedLegsOf : Inverse → Float → Float → Float → Legs
-reducedLegsOf k p Z A = meridianOf k (k .ra ⊗ p) (k .ra ⊗ Z) (k .ar ⊗ (k .ra ⊗ p)) A
+reducedLegsOf k p Z A = latitudeLegsOf k (k .ra ⊗ p) (k .ra ⊗ Z) (k .ar ⊗ (k .ra ⊗ p)) A
 
 unfoldable pub legsOf : Inverse → Float → Float → Legs
 legsOf k p Z = reducedLegsOf k p Z (hypotOf (k .ra ⊗ Z) (k .ar ⊗ (k .ra ⊗ p)))

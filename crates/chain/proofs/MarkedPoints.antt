@@ -16,10 +16,10 @@ use Rattle.arctan.specs.Arctan.{tailOf, headOf, smallAngleOf, cutAngleOf, cellI
 use Rattle.hypot.specs.Hypot.{infinite, larger, smaller, squaresOf, ordinary, guessOf, reciprocalRootOf, rootOf, scaledRootOf, rescaledOf, lengthOf, boundedOf, hypotOf}
 use Rattle.ellipsoid.specs.Figure.{ellipsoidOf, namedOf, wOf, primeVerticalOf, meridianOf, geocentricOf}
 use Rattle.geocart.specs.Geocart.{cartesianOf, poleOf, poleHeightOf, halfPi}
-use Rattle.cart.specs.Step.{inverseOf, onAxisOf, cartInvOf}
+use Rattle.cart.specs.Step.{inverseFiguresOf, onAxisOf, cartInvOf}
 use Rattle.permtide.specs.Record.{coefficientOf}
 use Rattle.permtide.specs.Step.{tideOf, liftOf}
-use Rattle.molodensky.specs.Step.{figureOf, mopedOf, placeOf, fullOffsetsOf, offsetsOf}
+use Rattle.molodensky.specs.Step.{figureOf, mopedOf, figuresAtOf, fullOffsetsOf, offsetsOf}
 use Rattle.rotation.specs.Matrix.{firstOrderOf, rowsOf, rotationMatrixOf}
 use Rattle.helmert.specs.Units.{winnerOf, lengthsOf, anglesOf, parametersOf}
 use Rattle.helmert.specs.Rules.{fieldsInRuleOf, vectorsFiniteOf, scalesFiniteOf, finite3Of, timeOf, lacksConventionOf, lacksEpochOf, rotatedOf, dynamicOf, someOf}
@@ -30,8 +30,8 @@ use Rattle.bodies.specs.Kinds.{lengthOf as bodyLengthOf}
 use Rattle.bodies.specs.Read.{stepOf as readOf, vec3At, helmertOf as helmertRecordOf, cartOf as cartRecordOf, molodenskyOf as molodenskyRecordOf, permtideOf as permtideRecordOf}
 use Rattle.bodies.specs.Rules.{stepInRule, lacksConvention, lacksEpoch, lacksDuration, writtenInRule, bodyInRule}
 use Rattle.sheet.specs.Layout.{bodyAt, entryAt}
-use Rattle.sheet.specs.Rules.{refusal1, refusal2, refusal3, refusal4, refusal5, endBefore, placeBroken, someFrom, deformationBefore, refusal11, rulesOfStep, fiveToEight, elevens, readerOrder, firstBroken, refusalOf, ofSheet, ofStep}
-use Rattle.chain.specs.Chain.{forwardOf as chainForwardOf, inverseOf as chainInverseOf, entriesOf, stepListOf, stepCountOf}
+use Rattle.sheet.specs.Rules.{refusal1, refusal2, refusal3, refusal4, refusal5, endBefore, placeBroken, someFrom, hasDeformation, refusal11, rulesOfStep, fiveToEight, elevens, readerOrder, firstBroken, refusalOf, ofCall, ofStep}
+use Rattle.chain.specs.Chain.{chainForwardOf, chainInverseOf, entriesOf, stepListOf, tuplesCountedOf}
 use Rattle.chain.specs.Rules.{Outcome, outcome, refusedAnswer, ranAnswer, shiftOf, outcomeOf, shiftRefusalOf, refusal9, refusal10, overOne}
 
 -- ---- sheets and lists to look at
@@ -111,7 +111,7 @@ OfTheChain =
     -- P5: 2001, NaN, 2001 running
     × (shifted-x 0 (y2001 ∷ nan ∷ y2001 ∷ []) ≡ one ∷ nan ∷ nan ∷ [])
     -- P7: P1's sheet cut by a byte
-    × (shiftOf false (take 39 p1) (fixes (bits 0 ∷ [])) [] [] ≡ outcome (refusedAnswer (ofSheet 1)) (fixes (bits 0 ∷ [])))
+    × (shiftOf false (take 39 p1) (fixes (bits 0 ∷ [])) [] [] ≡ outcome (refusedAnswer (ofCall 1)) (fixes (bits 0 ∷ [])))
     -- P8: cart inverse (0, 0, 7000000, 0): h = 7000000 - b, count 0
     × (shiftOf true p1 (bits 0 ∷ bits 0 ∷ bits 0x415a_b3f0_0000_0000 ∷ bits 0 ∷ []) [] []
     ≡ outcome (ranAnswer (only 0)) (bits 0 ∷ halfPi ∷ (bits 0x415a_b3f0_0000_0000 ⊖ namedOf 1 .b) ∷ bits 0 ∷ []))
@@ -127,5 +127,5 @@ OfTheChain =
     × (shiftOf false (helmertSheet 0 0x3ff00000 0 0x7ff80000) [] [] [] ≡ outcome (refusedAnswer (ofStep 7 0)) [])
 
 pub marked-points : OfTheChain
-unfolding bytes p1 helmertSheet p9 p10 fixes xs one y2001 y2002 shifted-x only shiftOf outcomeOf shiftRefusalOf refusal9 refusal10 overOne chainForwardOf chainInverseOf entriesOf stepListOf stepCountOf word32 word64 numberAt oneNanAt le32 bodyLengthOf bodyAt readOf vec3At helmertRecordOf cartRecordOf molodenskyRecordOf permtideRecordOf stepInRule lacksConvention lacksEpoch lacksDuration writtenInRule bodyInRule fieldsInRuleOf vectorsFiniteOf scalesFiniteOf finite3Of timeOf lacksConventionOf lacksEpochOf refusal1 refusal2 refusal3 refusal4 refusal5 endBefore placeBroken someFrom deformationBefore refusal11 rulesOfStep fiveToEight elevens readerOrder firstBroken refusalOf entryAt parametersOf winnerOf lengthsOf anglesOf rotatedOf dynamicOf someOf prepareOf startOf stepOf runningOf nextOf ownEpochStepOf ownTimeOf grownOf scaleAtOf rotationMatrixOf firstOrderOf rowsOf forwardOf offsetOf poleOf poleHeightOf inverseOf onAxisOf cartInvOf coefficientOf tideOf liftOf figureOf mopedOf placeOf fullOffsetsOf offsetsOf cartesianOf namedOf ellipsoidOf primeVerticalOf meridianOf wOf geocentricOf sqrtOf sinOf cosOf signedOf sineOf cosineOf reducedOf rowOf bendOf sumOf clampOf atMostOne atan2Of angleOf insideOf octantIndexOf withinOf extremeAngleOf moderate scaleOf quotientAngleOf small smallAngleOf headOf cellIndexOf cellAt cells octantAt octants cutAngleOf tailOf alongOf diagonalOf hypotOf lengthOf boundedOf infinite larger smaller squaresOf ordinary guessOf reciprocalRootOf rootOf scaledRootOf rescaledOf signOf isNan ofBits toBits neg add sub mul div lt le eq ne sum round size
+unfolding bytes p1 helmertSheet p9 p10 fixes xs one y2001 y2002 shifted-x only shiftOf outcomeOf shiftRefusalOf refusal9 refusal10 overOne chainForwardOf chainInverseOf entriesOf stepListOf tuplesCountedOf word32 word64 numberAt oneNanAt le32 bodyLengthOf bodyAt readOf vec3At helmertRecordOf cartRecordOf molodenskyRecordOf permtideRecordOf stepInRule lacksConvention lacksEpoch lacksDuration writtenInRule bodyInRule fieldsInRuleOf vectorsFiniteOf scalesFiniteOf finite3Of timeOf lacksConventionOf lacksEpochOf refusal1 refusal2 refusal3 refusal4 refusal5 endBefore placeBroken someFrom hasDeformation refusal11 rulesOfStep fiveToEight elevens readerOrder firstBroken refusalOf entryAt parametersOf winnerOf lengthsOf anglesOf rotatedOf dynamicOf someOf prepareOf startOf stepOf runningOf nextOf ownEpochStepOf ownTimeOf grownOf scaleAtOf rotationMatrixOf firstOrderOf rowsOf forwardOf offsetOf poleOf poleHeightOf inverseFiguresOf onAxisOf cartInvOf coefficientOf tideOf liftOf figureOf mopedOf figuresAtOf fullOffsetsOf offsetsOf cartesianOf namedOf ellipsoidOf primeVerticalOf meridianOf wOf geocentricOf sqrtOf sinOf cosOf signedOf sineOf cosineOf reducedOf rowOf bendOf sumOf clampOf atMostOne atan2Of angleOf insideOf octantIndexOf withinOf extremeAngleOf moderate scaleOf quotientAngleOf small smallAngleOf headOf cellIndexOf cellAt cells octantAt octants cutAngleOf tailOf alongOf diagonalOf hypotOf lengthOf boundedOf infinite larger smaller squaresOf ordinary guessOf reciprocalRootOf rootOf scaledRootOf rescaledOf signOf isNan ofBits toBits neg add sub mul div lt le eq ne sum round size
 marked-points = (refl, refl, refl, refl, refl, refl, refl, refl, refl, refl, refl)

@@ -9,11 +9,11 @@ ghost use mathlib.Core.Bool.{cond, not, true, false};
 ghost use Prim.Native.Nat.{_*_, _≤_, _<_};
 ghost use lib.Dec.{eqb};
 ghost use lib.ListN.{length};
-ghost use Rattle.sheet.specs.Layout.{stepCountOf as headerCountOf, kindAt, entryAt};
+ghost use Rattle.sheet.specs.Layout.{stepCountOf, kindAt, entryAt};
 ghost use Rattle.cart.specs.Record.{blankOf};
 ghost use Rattle.bodies.specs.Read.{cartIn};
-ghost use Rattle.sheet.specs.Rules.{ofSheet, deformationBefore};
-ghost use Rattle.chain.specs.Chain.{heldKindOf, bodyListOf, bodyCountOf, turnedOf, stepListOf, stepCountOf, forwardOf, inverseOf, placesOf, entriesOf};
+ghost use Rattle.sheet.specs.Rules.{ofCall, hasDeformation};
+ghost use Rattle.chain.specs.Chain.{heldKindOf, bodyListOf, bodyCountOf, reversedOf, stepListOf, tuplesCountedOf, chainForwardOf, chainInverseOf, placesOf, entriesOf};
 ghost use Rattle.chain.specs.Rules.{refusal9, overOne, lentFor, refusal10, refusedAnswer, ranAnswer, outcome, shiftOf};
 use cart::Cart;
 use sheet::Entry;
@@ -28,16 +28,16 @@ pub struct Answer {
 // ----- one step over the list ----------------------------------------------------------------
 
 // A step's direction: turned round where its inverted word is 1.
-fn turned_by(inverse: bool, inverted: u32) -> bool
+fn reversed_by(inverse: bool, inverted: u32) -> bool
     ensures { λ r. ⌜ r ≡ cond (eqb inverted 1) (not inverse) inverse ⌝ }
 {
     if inverted == 1 { !inverse } else { inverse }
 }
 
-pub fn turned(inverse: bool, entry: Entry) -> bool
-    ensures { λ r. ⌜ r ≡ turnedOf inverse entry ⌝ }
+pub fn reversed(inverse: bool, entry: Entry) -> bool
+    ensures { λ r. ⌜ r ≡ reversedOf inverse entry ⌝ }
 {
-    turned_by(inverse, entry.inverted)
+    reversed_by(inverse, entry.inverted)
 }
 
 fn wide(x: u32) -> usize
@@ -116,12 +116,12 @@ fn run_other(
 
 // The step at an index over the list, in the chain's direction. One function a direction: what both call is then not laid into their own frame.
 fn forward_at(s: &[u8], i: usize, list: &mut [f64], velocities: &[f64], marks: &[u8]) -> usize
-    requires { ⌜ (i < 16) × (i < headerCountOf (now s)) ⌝ }
+    requires { ⌜ (i < 16) × (i < stepCountOf (now s)) ⌝ }
     ensures { λ r. ⌜ (now (list .exit) ≡ stepListOf false (now (velocities .entry)) (now (marks .entry)) (entryAt (now (s .entry)) i) (now (list .entry)))
-        × (r ≡ stepCountOf false (now (velocities .entry)) (now (marks .entry)) (entryAt (now (s .entry)) i) (now (list .entry))) ⌝ }
+        × (r ≡ tuplesCountedOf false (now (velocities .entry)) (now (marks .entry)) (entryAt (now (s .entry)) i) (now (list .entry))) ⌝ }
 {
     let place = 16 + 16 * i;
-    let inv = turned_by(false, words::read32(s, place + 4));
+    let inv = reversed_by(false, words::read32(s, place + 4));
     let kind = words::read32(s, place);
     let offset = wide(words::read32(s, place + 8));
     let length = wide(words::read32(s, place + 12));
@@ -133,12 +133,12 @@ fn forward_at(s: &[u8], i: usize, list: &mut [f64], velocities: &[f64], marks: &
 }
 
 fn backward_at(s: &[u8], i: usize, list: &mut [f64], velocities: &[f64], marks: &[u8]) -> usize
-    requires { ⌜ (i < 16) × (i < headerCountOf (now s)) ⌝ }
+    requires { ⌜ (i < 16) × (i < stepCountOf (now s)) ⌝ }
     ensures { λ r. ⌜ (now (list .exit) ≡ stepListOf true (now (velocities .entry)) (now (marks .entry)) (entryAt (now (s .entry)) i) (now (list .entry)))
-        × (r ≡ stepCountOf true (now (velocities .entry)) (now (marks .entry)) (entryAt (now (s .entry)) i) (now (list .entry))) ⌝ }
+        × (r ≡ tuplesCountedOf true (now (velocities .entry)) (now (marks .entry)) (entryAt (now (s .entry)) i) (now (list .entry))) ⌝ }
 {
     let place = 16 + 16 * i;
-    let inv = turned_by(true, words::read32(s, place + 4));
+    let inv = reversed_by(true, words::read32(s, place + 4));
     let kind = words::read32(s, place);
     let offset = wide(words::read32(s, place + 8));
     let length = wide(words::read32(s, place + 12));
@@ -152,9 +152,9 @@ fn backward_at(s: &[u8], i: usize, list: &mut [f64], velocities: &[f64], marks: 
 // ----- a sheet's steps, one after another ------------------------------------------------------
 
 fn forward(s: &[u8], n: usize, list: &mut [f64], velocities: &[f64], marks: &[u8]) -> [usize; 16]
-    requires { ⌜ (n ≤ 16) × (n ≡ headerCountOf (now s)) ⌝ }
-    ensures { λ r. ⌜ (now (list .exit) ≡ forwardOf (now (velocities .entry)) (now (marks .entry)) (entriesOf (entryAt (now (s .entry))) n 0) (now (list .entry)) .list)
-        × (r ≡ placesOf (forwardOf (now (velocities .entry)) (now (marks .entry)) (entriesOf (entryAt (now (s .entry))) n 0) (now (list .entry)) .counts)) ⌝ }
+    requires { ⌜ (n ≤ 16) × (n ≡ stepCountOf (now s)) ⌝ }
+    ensures { λ r. ⌜ (now (list .exit) ≡ chainForwardOf (now (velocities .entry)) (now (marks .entry)) (entriesOf (entryAt (now (s .entry))) n 0) (now (list .entry)) .list)
+        × (r ≡ placesOf (chainForwardOf (now (velocities .entry)) (now (marks .entry)) (entriesOf (entryAt (now (s .entry))) n 0) (now (list .entry)) .counts)) ⌝ }
 {
     let mut counts = [0usize; 16];
     let mut i = 0;
@@ -167,9 +167,9 @@ fn forward(s: &[u8], n: usize, list: &mut [f64], velocities: &[f64], marks: &[u8
 }
 
 fn backward(s: &[u8], n: usize, list: &mut [f64], velocities: &[f64], marks: &[u8]) -> [usize; 16]
-    requires { ⌜ (n ≤ 16) × (n ≡ headerCountOf (now s)) ⌝ }
-    ensures { λ r. ⌜ (now (list .exit) ≡ inverseOf (now (velocities .entry)) (now (marks .entry)) (entriesOf (entryAt (now (s .entry))) n 0) (now (list .entry)) .list)
-        × (r ≡ placesOf (inverseOf (now (velocities .entry)) (now (marks .entry)) (entriesOf (entryAt (now (s .entry))) n 0) (now (list .entry)) .counts)) ⌝ }
+    requires { ⌜ (n ≤ 16) × (n ≡ stepCountOf (now s)) ⌝ }
+    ensures { λ r. ⌜ (now (list .exit) ≡ chainInverseOf (now (velocities .entry)) (now (marks .entry)) (entriesOf (entryAt (now (s .entry))) n 0) (now (list .entry)) .list)
+        × (r ≡ placesOf (chainInverseOf (now (velocities .entry)) (now (marks .entry)) (entriesOf (entryAt (now (s .entry))) n 0) (now (list .entry)) .counts)) ⌝ }
 {
     let mut counts = [0usize; 16];
     let mut i = n;
@@ -231,7 +231,7 @@ pub fn lent_broken(deforms: bool, numbers: usize, velocities: &[f64], marks: &[u
 // Whether one of the first n steps is a deformation step.
 fn deforms(s: &[u8], n: usize) -> bool
     requires { ⌜ n < 4294967296 ⌝ }
-    ensures { λ r. ⌜ r ≡ deformationBefore (kindAt (now (s .entry))) n ⌝ }
+    ensures { λ r. ⌜ r ≡ hasDeformation (kindAt (now (s .entry))) n ⌝ }
 {
     let mut found = false;
     let mut i = 0;
@@ -244,7 +244,7 @@ fn deforms(s: &[u8], n: usize) -> bool
 
 // Whether a sheet has a deformation step.
 pub fn has_deformation(s: &[u8]) -> bool
-    ensures { λ r. ⌜ r ≡ deformationBefore (kindAt (now (s .entry))) (headerCountOf (now (s .entry))) ⌝ }
+    ensures { λ r. ⌜ r ≡ hasDeformation (kindAt (now (s .entry))) (stepCountOf (now (s .entry))) ⌝ }
 {
     deforms(s, sheet::step_count(s))
 }
@@ -253,7 +253,7 @@ pub fn has_deformation(s: &[u8]) -> bool
 
 // A refusal of the lent lists carries no step.
 pub fn of_lists(number: u32) -> Refusal
-    ensures { λ r. ⌜ r ≡ ofSheet number ⌝ }
+    ensures { λ r. ⌜ r ≡ ofCall number ⌝ }
 {
     Refusal {
         number: number,

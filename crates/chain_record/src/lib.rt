@@ -6,8 +6,8 @@
 ghost use mathlib.Core.Path.{_≡_};
 ghost use Prim.Native.Nat.{_≤_};
 ghost use Rattle.sheet.specs.Layout.{entryOf, kindIn};
-ghost use Rattle.sheet.specs.Rules.{deformationBefore};
-ghost use Rattle.chain.specs.Chain.{stepListOf, stepCountOf, forwardOf, inverseOf, placesOf, entriesOf};
+ghost use Rattle.sheet.specs.Rules.{hasDeformation};
+ghost use Rattle.chain.specs.Chain.{stepListOf, tuplesCountedOf, chainForwardOf, chainInverseOf, placesOf, entriesOf};
 ghost use Rattle.chain.specs.Rules.{outcome};
 ghost use Rattle.chain_record.specs.Record.{shiftRecordOf};
 use bodies::Step;
@@ -24,9 +24,9 @@ fn run_step(
     marks: &[u8],
 ) -> usize
     ensures { λ r. ⌜ (now (list .exit) ≡ stepListOf inverse (now (velocities .entry)) (now (marks .entry)) entry (now (list .entry)))
-        × (r ≡ stepCountOf inverse (now (velocities .entry)) (now (marks .entry)) entry (now (list .entry))) ⌝ }
+        × (r ≡ tuplesCountedOf inverse (now (velocities .entry)) (now (marks .entry)) entry (now (list .entry))) ⌝ }
 {
-    let inv = chain::turned(inverse, entry);
+    let inv = chain::reversed(inverse, entry);
     let step = entry.step;
     match step {
         Step::Cart(r) => {
@@ -61,8 +61,8 @@ fn forward_record(
     marks: &[u8],
 ) -> [usize; 16]
     requires { ⌜ n ≤ 16 ⌝ }
-    ensures { λ r. ⌜ (now (list .exit) ≡ forwardOf (now (velocities .entry)) (now (marks .entry)) (entriesOf (entryOf kept) n 0) (now (list .entry)) .list)
-        × (r ≡ placesOf (forwardOf (now (velocities .entry)) (now (marks .entry)) (entriesOf (entryOf kept) n 0) (now (list .entry)) .counts)) ⌝ }
+    ensures { λ r. ⌜ (now (list .exit) ≡ chainForwardOf (now (velocities .entry)) (now (marks .entry)) (entriesOf (entryOf kept) n 0) (now (list .entry)) .list)
+        × (r ≡ placesOf (chainForwardOf (now (velocities .entry)) (now (marks .entry)) (entriesOf (entryOf kept) n 0) (now (list .entry)) .counts)) ⌝ }
 {
     let mut counts = [0usize; 16];
     let mut i = 0;
@@ -83,8 +83,8 @@ fn backward_record(
     marks: &[u8],
 ) -> [usize; 16]
     requires { ⌜ n ≤ 16 ⌝ }
-    ensures { λ r. ⌜ (now (list .exit) ≡ inverseOf (now (velocities .entry)) (now (marks .entry)) (entriesOf (entryOf kept) n 0) (now (list .entry)) .list)
-        × (r ≡ placesOf (inverseOf (now (velocities .entry)) (now (marks .entry)) (entriesOf (entryOf kept) n 0) (now (list .entry)) .counts)) ⌝ }
+    ensures { λ r. ⌜ (now (list .exit) ≡ chainInverseOf (now (velocities .entry)) (now (marks .entry)) (entriesOf (entryOf kept) n 0) (now (list .entry)) .list)
+        × (r ≡ placesOf (chainInverseOf (now (velocities .entry)) (now (marks .entry)) (entriesOf (entryOf kept) n 0) (now (list .entry)) .counts)) ⌝ }
 {
     let mut counts = [0usize; 16];
     let mut i = n;
@@ -100,7 +100,7 @@ fn backward_record(
 // Whether one of the first n steps is a deformation step.
 fn deforms_record(kept: Sheet, n: usize) -> bool
     requires { ⌜ n ≤ 16 ⌝ }
-    ensures { λ r. ⌜ r ≡ deformationBefore (kindIn kept) n ⌝ }
+    ensures { λ r. ⌜ r ≡ hasDeformation (kindIn kept) n ⌝ }
 {
     let mut found = false;
     let mut i = 0;

@@ -6,7 +6,7 @@
 // Sixteen tuples at a time: `deformation_block`.
 ghost use mathlib.Core.Path.{_≡_};
 ghost use Rattle.deformation.specs.Record.{blankOf, rawOf, finiteOrNot, inRuleOf, neitherOf};
-ghost use Rattle.deformation.specs.Step.{motionOf, durationOf, scaleOf, metresOf, turnedOf, integratedOf, withLengthOf, deformedOf, commonOf};
+ghost use Rattle.deformation.specs.Step.{motionOf, durationOf, scaleOf, metresOf, eastNorthUpOf, integratedOf, withLengthOf, deformedOf, commonOf};
 use ellipsoid::Ellipsoid;
 use trig::SinCos;
 use tuple::Shifted;
@@ -154,7 +154,7 @@ pub fn rotate_and_integrate_velocity(
 
 // The same with the sines and cosines of longitude and latitude at hand.
 pub fn turned(v: Velocity, lon: SinCos, lat: SinCos, duration: f64) -> Tuple
-    ensures { λ r. ⌜ r ≡ turnedOf v lon lat duration ⌝ }
+    ensures { λ r. ⌜ r ≡ eastNorthUpOf v lon lat duration ⌝ }
 {
     Tuple {
         x: duration * (-lat.s * lon.c * v.north - lon.s * v.east + lat.c * lon.c * v.up),

@@ -21,8 +21,8 @@ use Rattle.geocart.specs.Geocart.{placeOf}
 use Rattle.geocart.proofs.Laws.{geographic-time}
 use Rattle.deformation.specs.declared.Motion.{Motion}
 use Rattle.deformation.specs.declared.Velocity.{Velocity}
-use Rattle.deformation.specs.Step.{durationOf, scaleOf, metresOf, turnedOf, integratedOf, withLengthOf, deformedOf, commonOf}
-use Rattle.deformation_block.specs.Places.{velocityOf, correctionOf, movedOf, movedAt, lastingOf, metreOf, turnedAt, correctionAt, keptOf}
+use Rattle.deformation.specs.Step.{durationOf, scaleOf, metresOf, eastNorthUpOf, integratedOf, withLengthOf, deformedOf, commonOf}
+use Rattle.deformation_block.specs.Places.{velocityOf, correctionOf, deformedAtOf, movedAt, lastingOf, metreOf, turnedAt, correctionAt, keptOf}
 
 -- ---- a count
 
@@ -68,8 +68,8 @@ pub turned-corrects :
     (op : Motion) (inverse : Bool) (v : Velocity) (lam phi t : Float) {fixed : Bool} {k slon clon slat clat : Float}
     → fixed ≡ finite (op .dt) → k ≡ metreOf inverse
     → slon ≡ sinOf lam → clon ≡ cosOf lam → slat ≡ sinOf phi → clat ≡ cosOf phi
-    → turnedOf (scaleOf v k) (record { s = slon; c = clon }) (record { s = slat; c = clat }) (lastingOf op fixed t) ≡ correctionOf op inverse v lam phi t
-unfolding correctionOf integratedOf durationOf turnedOf
+    → eastNorthUpOf (scaleOf v k) (record { s = slon; c = clon }) (record { s = slat; c = clat }) (lastingOf op fixed t) ≡ correctionOf op inverse v lam phi t
+unfolding correctionOf integratedOf durationOf eastNorthUpOf
 turned-corrects op inverse v lam phi t given metre slon clon slat clat = rw (slon, clon, slat, clat, given, metre, ← scale-metre inverse v)
 
 -- from its columns
@@ -94,29 +94,29 @@ counts false u = refl
 pub kept-raw :
     (op : Motion) (inverse : Bool) (v : Velocity) (mark : ℕ) (lam phi : Float) (cart : Tuple) (f : Tuple → Float) {d : Tuple}
     → op .raw ≡ true → f nanTuple ≡ nan → d ≡ correctionOf op inverse v lam phi (cart .t)
-    → keptOf mark (f (withLengthOf d)) ≡ f (movedOf op inverse v mark lam phi cart .tuple)
-unfolding movedOf
+    → keptOf mark (f (withLengthOf d)) ≡ f (deformedAtOf op inverse v mark lam phi cart .tuple)
+unfolding deformedAtOf
 kept-raw op inverse v mark lam phi cart f raw nans e = rw (e, raw) (either (eqb mark 1) _ f nans)
 
 -- the sum
 pub kept-sum :
     (op : Motion) (inverse : Bool) (v : Velocity) (mark : ℕ) (lam phi : Float) (cart : Tuple) (f : Tuple → Float) {d : Tuple}
     → op .raw ≡ false → f nanTuple ≡ nan → d ≡ correctionOf op inverse v lam phi (cart .t)
-    → keptOf mark (f (addOf cart d)) ≡ f (movedOf op inverse v mark lam phi cart .tuple)
-unfolding movedOf
+    → keptOf mark (f (addOf cart d)) ≡ f (deformedAtOf op inverse v mark lam phi cart .tuple)
+unfolding deformedAtOf
 kept-sum op inverse v mark lam phi cart f raw nans e = rw (e, raw) (either (eqb mark 1) _ f nans)
 
 -- a tuple counts where its mark is 1
-pub mark-counts : (op : Motion) (inverse : Bool) (v : Velocity) (mark : ℕ) (lam phi : Float) (cart : Tuple) → eqb mark 1 ≡ movedOf op inverse v mark lam phi cart .counted
-unfolding movedOf
+pub mark-counts : (op : Motion) (inverse : Bool) (v : Velocity) (mark : ℕ) (lam phi : Float) (cart : Tuple) → eqb mark 1 ≡ deformedAtOf op inverse v mark lam phi cart .counted
+unfolding deformedAtOf
 mark-counts op inverse v mark lam phi cart = counts (eqb mark 1) _
 
 -- with the place of the tuple itself it is the step
 pub moved-common :
     (op : Motion) (inverse : Bool) (v : Velocity) (mark : ℕ) (cart : Tuple) {lam phi : Float}
     → lam ≡ placeOf (op .ellps) cart .lam → phi ≡ placeOf (op .ellps) cart .phi
-    → movedOf op inverse v mark lam phi cart ≡ commonOf op inverse v mark cart
-unfolding movedOf correctionOf commonOf deformedOf
+    → deformedAtOf op inverse v mark lam phi cart ≡ commonOf op inverse v mark cart
+unfolding deformedAtOf correctionOf commonOf deformedOf
 moved-common op inverse v mark cart lam phi = rw (lam, phi, geographic-time)
 
 -- ---- the same over columns

@@ -14,7 +14,7 @@ use Rattle.tuple.specs.Sums.{nanTuple, addOf}
 use Rattle.tuple.specs.Columns.{rowOf}
 use Rattle.deformation.specs.declared.Motion.{Motion}
 use Rattle.deformation.specs.declared.Velocity.{Velocity}
-use Rattle.deformation.specs.Step.{durationOf, scaleOf, metresOf, turnedOf, integratedOf, withLengthOf}
+use Rattle.deformation.specs.Step.{durationOf, scaleOf, metresOf, eastNorthUpOf, integratedOf, withLengthOf}
 
 -- the velocity at a place of the columns
 abbrev pub velocityOf : List Float → List Float → List Float → ℕ → Velocity
@@ -25,8 +25,8 @@ unfoldable pub correctionOf : Motion → Bool → Velocity → Float → Float �
 correctionOf op inverse v lam phi t = integratedOf (metresOf inverse v) lam phi (durationOf op t)
 
 -- the step with longitude and latitude at hand
-unfoldable pub movedOf : Motion → Bool → Velocity → ℕ → Float → Float → Tuple → Shifted
-movedOf op inverse v mark lam phi cart =
+unfoldable pub deformedAtOf : Motion → Bool → Velocity → ℕ → Float → Float → Tuple → Shifted
+deformedAtOf op inverse v mark lam phi cart =
     let d = correctionOf op inverse v lam phi (cart .t) in
     cond (eqb mark 1)
     (record { tuple = cond (op .raw) (withLengthOf d) (addOf cart d); counted = true })
@@ -36,7 +36,7 @@ movedOf op inverse v mark lam phi cart =
 abbrev pub movedAt :
     Motion → Bool → List Float → List Float → List Float → List ℕ → List Float → List Float → List Float → List Float → List Float → List Float → ℕ → Shifted
 movedAt op inverse east north up marks lam phi x y z t j =
-    movedOf op inverse (velocityOf east north up j) (wholeAt marks j) (at lam j) (at phi j) (rowOf x y z t j)
+    deformedAtOf op inverse (velocityOf east north up j) (wholeAt marks j) (at lam j) (at phi j) (rowOf x y z t j)
 
 -- ---- parts
 
@@ -56,7 +56,7 @@ sinCosAt s c j = record { s = at s j; c = at c j }
 abbrev pub turnedAt :
     Motion → Bool → Float → List Float → List Float → List Float → List Float → List Float → List Float → List Float → List Float → ℕ → Tuple
 turnedAt op fixed k east north up t slon clon slat clat j =
-    turnedOf (scaleOf (velocityOf east north up j) k) (sinCosAt slon clon j) (sinCosAt slat clat j) (lastingOf op fixed (at t j))
+    eastNorthUpOf (scaleOf (velocityOf east north up j) k) (sinCosAt slon clon j) (sinCosAt slat clat j) (lastingOf op fixed (at t j))
 
 -- the correction at a place of its columns
 abbrev pub correctionAt : List Float → List Float → List Float → ℕ → Tuple

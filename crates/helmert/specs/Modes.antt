@@ -19,15 +19,15 @@ use Rattle.helmert.specs.Apply.{applyOf}
 -- ---- the prepared shift
 
 -- moved once by rate·d
-abbrev pub movedOf : Vec3 → Vec3 → Float → Vec3
-movedOf v rate d = record { x = v .x ⊕ rate .x ⊗ d; y = v .y ⊕ rate .y ⊗ d; z = v .z ⊕ rate .z ⊗ d }
+abbrev pub advancedOf : Vec3 → Vec3 → Float → Vec3
+advancedOf v rate d = record { x = v .x ⊕ rate .x ⊗ d; y = v .y ⊕ rate .y ⊗ d; z = v .z ⊕ rate .z ⊗ d }
 
 -- Fixed, d being t_obs - t_epoch: T and R move once by rate·d, S moves by it three times, one rounding after another. The rates stay.
 unfoldable pub observedOf : Parameters → Float → Parameters
 observedOf p d =
     record {
-      t = movedOf (p .t) (p .dt) d;
-      r = movedOf (p .r) (p .dr) d;
+      t = advancedOf (p .t) (p .dt) d;
+      r = advancedOf (p .r) (p .dr) d;
       s = p .s ⊕ p .ds ⊗ d ⊕ p .ds ⊗ d ⊕ p .ds ⊗ d;
       dt = p .dt;
       dr = p .dr;

@@ -11,7 +11,7 @@ ghost use Rattle.helmert.specs.Record.{exactOf, uasOf, mmOf, ownEpochOf,
 ghost use Rattle.helmert.specs.Units.{linearScaleOf, angularScaleOf, winnerOf, lengthsOf, anglesOf, parametersOf};
 ghost use Rattle.helmert.specs.Rules.{someOf, rotatedOf, dynamicOf, finite3Of, timeOf, vectorsFiniteOf, scalesFiniteOf, fieldsInRuleOf, lacksConventionOf, lacksEpochOf};
 ghost use Rattle.helmert.specs.Apply.{offsetOf, deoffsetOf, forwardOf, inverseOf, applyOf};
-ghost use Rattle.helmert.specs.Modes.{movedOf, observedOf, prepareOf, grownOf, rotationAtOf, scaleAtOf, shiftedOf, fixedStepOf, startOf, nextOf, runningOf, ownTimeOf, ownEpochStepOf, isOwnEpochOf, isRunningOf, stepOf};
+ghost use Rattle.helmert.specs.Modes.{advancedOf, observedOf, prepareOf, grownOf, rotationAtOf, scaleAtOf, shiftedOf, fixedStepOf, startOf, nextOf, runningOf, ownTimeOf, ownEpochStepOf, isOwnEpochOf, isRunningOf, stepOf};
 use rotation::Vec3;
 use tuple::Tuple;
 
@@ -270,7 +270,7 @@ pub struct Shift {
 
 // A parameter moved once by rate·d.
 fn moved(v: Vec3, rate: Vec3, d: f64) -> Vec3
-    ensures { λ r. ⌜ r ≡ movedOf v rate d ⌝ }
+    ensures { λ r. ⌜ r ≡ advancedOf v rate d ⌝ }
 {
     Vec3 {
         x: v.x + rate.x * d,

@@ -46,8 +46,8 @@ unfoldable pub numbersOf : ℕ → List ℕ → List Float
 numbersOf zero bs = []
 numbersOf (suc k) bs = numberAt bs 0 ∷ numbersOf k (drop 8 bs)
 
-abbrev pub inverseOf : List ℕ → Bool
-inverseOf j = eqb (headOf j .direction) 1
+abbrev pub asksInverse : List ℕ → Bool
+asksInverse j = eqb (headOf j .direction) 1
 
 unfoldable pub sheetOf : List ℕ → List ℕ
 sheetOf j = take (headOf j .sheet) (drop 16 j)

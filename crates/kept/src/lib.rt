@@ -111,7 +111,7 @@ pub fn keep(
     let entry = sheet::entry_at(s, 0);
     stretch::fresh(
         step_of(entry),
-        chain::turned(inverse, entry), // turned round where the step is inverted
+        chain::reversed(inverse, entry), // turned round where the step is inverted
         list,
         results,
         track,
@@ -158,7 +158,7 @@ pub fn correct(
     let entry = sheet::entry_at(s, 0);
     let n = stretch::put_right(
         step_of(entry),
-        chain::turned(inverse, entry),
+        chain::reversed(inverse, entry),
         list,
         results,
         track,

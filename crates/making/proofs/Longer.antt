@@ -17,7 +17,7 @@ use Rattle.sheet.specs.Layout.{blankEntry, blankSheet, entryOf, stepIn, kindIn}
 use Rattle.sheet_writer.specs.Bytes.{bodyStart, sheetLength}
 use Rattle.sheet.specs.Rules.{accepted, refusal3, fiveToEight, elevens}
 use Rattle.sheet_writer.specs.Rules.{recordRefusal4, recordRefusal5, refusal15, invertedBrokenIn, writerOrder, writerRefusalOf}
-use Rattle.sheet.proofs.Order.{Kept, none-broken, kept-append}
+use Rattle.sheet.proofs.Order.{Unbroken, none-broken, kept-append}
 use Rattle.sheet.proofs.Each.{every-step, every-eleven, every-kept, eleven-same}
 use Rattle.sheet_writer.proofs.Forth.{Taken}
 use Rattle.sheet_writer.proofs.Laws.{HeldSheet, SameSheet}
@@ -158,8 +158,8 @@ module _ (sheet : Sheet) (t : Taken sheet) where
   unfolding writerRefusalOf writerOrder refusal15
   writer-takes room h =
       let n = sheet .count in
-      let steps : Kept (fiveToEight (recordRefusal5 sheet) (stepIn sheet) n 0) =
+      let steps : Unbroken (fiveToEight (recordRefusal5 sheet) (stepIn sheet) n 0) =
       every-step (recordRefusal5 sheet) (stepIn sheet) n 0 (λ i l. rw zero-add (t .steps i l)) in
-      let second : Kept (elevens (kindIn sheet) n 0) = every-eleven (kindIn sheet) n 0 (λ i l. rw zero-add (t .one-deformation i l)) in
+      let second : Unbroken (elevens (kindIn sheet) n 0) = every-eleven (kindIn sheet) n 0 (λ i l. rw zero-add (t .one-deformation i l)) in
       none-broken (writerOrder sheet room)
-      (Kept.next three (Kept.next four (kept-append steps (kept-append second (Kept.next (le-ltb room (sheetLength sheet) h) Kept.none)))))
+      (Unbroken.next three (Unbroken.next four (kept-append steps (kept-append second (Unbroken.next (le-ltb room (sheetLength sheet) h) Unbroken.none)))))

@@ -5,7 +5,7 @@
 // NaN, as the Rust's sums with a NaN do. The time stays, and every tuple counts. Sixteen tuples at a time: the crate molodensky_block.
 ghost use mathlib.Core.Path.{_≡_};
 ghost use Rattle.molodensky.specs.Record.{blankOf, abridgedOf, twoEllipsoidsOf, secondInRuleOf, figureInRuleOf, finiteOf, inRuleOf};
-ghost use Rattle.molodensky.specs.Step.{figureOf, mopedOf, placeOf, abridgedOffsetsOf, fullOffsetsOf, offsetsOf, commonOf};
+ghost use Rattle.molodensky.specs.Step.{figureOf, mopedOf, figuresAtOf, abridgedOffsetsOf, fullOffsetsOf, offsetsOf, commonOf};
 use ellipsoid::Ellipsoid;
 use tuple::Tuple;
 
@@ -166,7 +166,7 @@ impl Moped {
 
 impl Place {
     fn at(op: Moped, lam: f64, phi: f64) -> Self
-        ensures { λ r. ⌜ r ≡ placeOf op lam phi ⌝ }
+        ensures { λ r. ⌜ r ≡ figuresAtOf op lam phi ⌝ }
     {
         let l = trig::sin_cos(lam);
         let p = trig::sin_cos(phi);

@@ -11,12 +11,12 @@ use Rattle.molodensky.specs.declared.Moped.{Moped}
 use Rattle.molodensky.specs.declared.Place.{Place}
 use Rattle.molodensky.specs.declared.Offsets.{Offsets}
 use Rattle.molodensky.specs.declared.Offsets.the-variants.{Three, Nothing}
-use Rattle.molodensky.specs.Step.{placeOf, abridgedOffsetsOf, fullOffsetsOf, offsetsOf, movedOf, commonOf}
+use Rattle.molodensky.specs.Step.{figuresAtOf, abridgedOffsetsOf, fullOffsetsOf, offsetsOf, offsetByOf, commonOf}
 use Rattle.molodensky_block.specs.Block.{shiftOf, placeWith, abridgedWith}
 
 -- a place, given its sines and cosines and the root of w
-pub placed : (op : Moped) (lam phi : Float) {slam clam sphi cphi w q : Float} → slam ≡ sinOf lam → clam ≡ cosOf lam → sphi ≡ sinOf phi → cphi ≡ cosOf phi → w ≡ wOf (op .ellps) sphi → q ≡ sqrtOf w → placeWith op slam clam sphi cphi q ≡ placeOf op lam phi
-unfolding placeWith placeOf primeVerticalOf meridianOf
+pub placed : (op : Moped) (lam phi : Float) {slam clam sphi cphi w q : Float} → slam ≡ sinOf lam → clam ≡ cosOf lam → sphi ≡ sinOf phi → cphi ≡ cosOf phi → w ≡ wOf (op .ellps) sphi → q ≡ sqrtOf w → placeWith op slam clam sphi cphi q ≡ figuresAtOf op lam phi
+unfolding placeWith figuresAtOf primeVerticalOf meridianOf
 placed op lam phi sl cl sp cp ew eq = rw (eq, ew, sp, cp, sl, cl)
 
 first : (b : Bool) (x y : Offsets) → b ≡ true → x ≡ cond b x y
@@ -25,7 +25,7 @@ first b x y h = rw h
 second : (b : Bool) (x y : Offsets) → b ≡ false → y ≡ cond b x y
 second b x y h = rw h
 
-pub full : (op : Moped) (v : Tuple) {p : Place} → op .abridged ≡ false → p ≡ placeOf op (v .x) (v .y) → shiftOf (fullOffsetsOf op p (v .z)) ≡ shiftOf (offsetsOf op v)
+pub full : (op : Moped) (v : Tuple) {p : Place} → op .abridged ≡ false → p ≡ figuresAtOf op (v .x) (v .y) → shiftOf (fullOffsetsOf op p (v .z)) ≡ shiftOf (offsetsOf op v)
 unfolding offsetsOf
 full op v mode e = ap shiftOf (ap (λ (q : Place). fullOffsetsOf op q (v .z)) e ∙ second (op .abridged) _ _ mode)
 
@@ -33,12 +33,12 @@ with-the-sine : (op : Moped) (q : Place) (phi : Float) {s : Float} → s ≡ sin
 unfolding abridgedWith abridgedOffsetsOf
 with-the-sine op q phi e = rw e
 
-pub abridged : (op : Moped) (v : Tuple) {p : Place} {s : Float} → op .abridged ≡ true → p ≡ placeOf op (v .x) (v .y) → s ≡ sinOf (two ⊗ v .y) → shiftOf (abridgedWith op p s) ≡ shiftOf (offsetsOf op v)
+pub abridged : (op : Moped) (v : Tuple) {p : Place} {s : Float} → op .abridged ≡ true → p ≡ figuresAtOf op (v .x) (v .y) → s ≡ sinOf (two ⊗ v .y) → shiftOf (abridgedWith op p s) ≡ shiftOf (offsetsOf op v)
 unfolding offsetsOf
 abridged op v {s = s} mode e es =
     ap shiftOf
     (ap (λ (q : Place). abridgedWith op q s) e
-    ∙ with-the-sine op (placeOf op (v .x) (v .y)) (v .y) es
+    ∙ with-the-sine op (figuresAtOf op (v .x) (v .y)) (v .y) es
     ∙ first (op .abridged) _ _ mode)
 
 plus-nan : (x : Float) → x ⊕ nan ≡ nan
@@ -51,11 +51,11 @@ minus-nan : (x : Float) → x ⊖ nan ≡ nan
 unfolding sub neg
 minus-nan x = plus-nan x
 
-added-to : (v : Tuple) (o : Offsets) → record { x = v .x ⊕ shiftOf o .dlam; y = v .y ⊕ shiftOf o .dphi; z = v .z ⊕ shiftOf o .dh; t = v .t } ≡ movedOf false v o
+added-to : (v : Tuple) (o : Offsets) → record { x = v .x ⊕ shiftOf o .dlam; y = v .y ⊕ shiftOf o .dphi; z = v .z ⊕ shiftOf o .dh; t = v .t } ≡ offsetByOf false v o
 added-to v (Three dlam dphi dh) = refl
 added-to v Nothing = rw (plus-nan (v .x), plus-nan (v .y), plus-nan (v .z))
 
-subtracted-from : (v : Tuple) (o : Offsets) → record { x = v .x ⊖ shiftOf o .dlam; y = v .y ⊖ shiftOf o .dphi; z = v .z ⊖ shiftOf o .dh; t = v .t } ≡ movedOf true v o
+subtracted-from : (v : Tuple) (o : Offsets) → record { x = v .x ⊖ shiftOf o .dlam; y = v .y ⊖ shiftOf o .dphi; z = v .z ⊖ shiftOf o .dh; t = v .t } ≡ offsetByOf true v o
 subtracted-from v (Three dlam dphi dh) = refl
 subtracted-from v Nothing = rw (minus-nan (v .x), minus-nan (v .y), minus-nan (v .z))
 

@@ -18,7 +18,7 @@ abbrev pub shiftOf : Offsets → Shift
 shiftOf (Three dlam dphi dh) = record { dlam = dlam; dphi = dphi; dh = dh }
 shiftOf Nothing = record { dlam = nan; dphi = nan; dh = nan }
 
--- `placeOf`, given the sines and cosines and q, the root of w
+-- `figuresAtOf`, given the sines and cosines and q, the root of w
 unfoldable pub placeWith : Moped → Float → Float → Float → Float → Float → Place
 placeWith op slam clam sphi cphi q =
     record {

@@ -4,7 +4,7 @@ use Rattle.tuple.specs.declared.Tuple.{Tuple}
 use Rattle.tuple.specs.declared.Shifted.{Shifted}
 use Rattle.ellipsoid.specs.Figure.{namedOf}
 use Rattle.cart.specs.declared.Cart.{Cart}
-use Rattle.cart.specs.Step.{cartFwdOf, cartInvOf, inverseOf}
+use Rattle.cart.specs.Step.{cartFwdOf, cartInvOf, inverseFiguresOf}
 use Rattle.permtide.specs.declared.Permtide.{Permtide}
 use Rattle.permtide.specs.Step.{tideOf, fwdOf, invOf}
 use Rattle.molodensky.specs.declared.Molodensky.{Molodensky}
@@ -21,7 +21,7 @@ plainTurns f k state v = record { state = state; tuple = f v .tuple; counted = f
 
 abbrev pub cartTurns : Bool → Cart → Turns State
 cartTurns inverse r =
-    cond inverse (plainTurns (cartInvOf (inverseOf (namedOf (r .ellipsoid))))) (plainTurns (cartFwdOf (namedOf (r .ellipsoid))))
+    cond inverse (plainTurns (cartInvOf (inverseFiguresOf (namedOf (r .ellipsoid))))) (plainTurns (cartFwdOf (namedOf (r .ellipsoid))))
 
 abbrev pub permtideTurns : Bool → Permtide → Turns State
 permtideTurns inverse r = cond inverse (allTurns (invOf (tideOf r))) (allTurns (fwdOf (tideOf r)))

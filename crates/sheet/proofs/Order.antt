@@ -12,7 +12,7 @@ use Rattle.bodies.specs.Read.{stepOf}
 use Rattle.bodies.specs.Rules.{bodyInRule, lacksConvention, lacksEpoch, lacksDuration, lowestBroken}
 use Rattle.sheet.specs.declared.Refusal.{Refusal}
 use Rattle.sheet.specs.Layout.{offsetAt, lengthAt, stepCountOf, kindAt, stepAt}
-use Rattle.sheet.specs.Rules.{Rule, rule, ofSheet, ofStep, accepted, firstBroken, rulesOfStep, fiveToEight, elevens, refusal6, refusal7, refusal8, refusal11, deformationBefore, someFrom, endBefore, refusal1, refusal2, refusal3, refusal4, refusal5, refusal5At, readerOrder, refusalOf}
+use Rattle.sheet.specs.Rules.{Rule, rule, ofCall, ofStep, accepted, firstBroken, rulesOfStep, fiveToEight, elevens, refusal6, refusal7, refusal8, refusal11, hasDeformation, someFrom, endBefore, refusal1, refusal2, refusal3, refusal4, refusal5, refusal5At, readerOrder, refusalOf}
 
 -- every rule has a number
 pub data Numbered : List Rule → Type 0 where
@@ -119,8 +119,8 @@ module _ (kind : ℕ → ℕ) where
   unfolding elevens firstBroken
   elevens-end n i e = rw e
 
-  pub before-next : (i : ℕ) → deformationBefore kind (i + 1) ≡ (deformationBefore kind i || eqb (kind i) 5)
-  unfolding deformationBefore
+  pub before-next : (i : ℕ) → hasDeformation kind (i + 1) ≡ (hasDeformation kind i || eqb (kind i) 5)
+  unfolding hasDeformation
   before-next i = rw add-one
 
 module _ (broken : ℕ → Bool) where
@@ -143,16 +143,16 @@ end-next s i = rw add-one
 
 -- ---- kept: no rule of a list is broken
 
-pub data Kept : List Rule → Type 0 where
-  none : Kept []
-  next : {r : Rule} {l : List Rule} → r .broken ≡ false → Kept l → Kept (r ∷ l)
+pub data Unbroken : List Rule → Type 0 where
+  none : Unbroken []
+  next : {r : Rule} {l : List Rule} → r .broken ≡ false → Unbroken l → Unbroken (r ∷ l)
 
 kept-head : (b : Bool) (a x : Refusal) → (a .number ≡ 0 → ⊥) → cond b a x .number ≡ 0 → (b ≡ false) × (x .number ≡ 0)
 kept-head true a x h e = absurd (h e)
 kept-head false a x h e = (refl, e)
 
 -- where nothing is answered nothing is broken
-pub all-kept : (l : List Rule) → Numbered l → firstBroken l .number ≡ 0 → Kept l
+pub all-kept : (l : List Rule) → Numbered l → firstBroken l .number ≡ 0 → Unbroken l
 unfolding firstBroken
 all-kept [] n e = none
 all-kept (r ∷ l) (next h n) e =
@@ -160,20 +160,20 @@ all-kept (r ∷ l) (next h n) e =
     next (p .0) (all-kept l n (p .1))
 
 -- and where nothing is broken nothing is answered
-pub none-broken : (l : List Rule) → Kept l → firstBroken l ≡ accepted
+pub none-broken : (l : List Rule) → Unbroken l → firstBroken l ≡ accepted
 unfolding firstBroken
 none-broken [] k = refl
 none-broken (r ∷ l) (next h k) = rw h (none-broken l k)
 
-pub kept-append : {l m : List Rule} → Kept l → Kept m → Kept (l ++ m)
+pub kept-append : {l m : List Rule} → Unbroken l → Unbroken m → Unbroken (l ++ m)
 kept-append none k = k
 kept-append (next h l) k = next h (kept-append l k)
 
-pub kept-left : (l m : List Rule) → Kept (l ++ m) → Kept l
+pub kept-left : (l m : List Rule) → Unbroken (l ++ m) → Unbroken l
 kept-left [] m k = none
 kept-left (r ∷ l) m (next h k) = next h (kept-left l m k)
 
-pub kept-right : (l m : List Rule) → Kept (l ++ m) → Kept m
+pub kept-right : (l m : List Rule) → Unbroken (l ++ m) → Unbroken m
 kept-right [] m k = k
 kept-right (r ∷ l) m (next h k) = kept-right l m k
 
@@ -213,7 +213,7 @@ module _ (s : List ℕ) (kept1 : refusal1 s ≡ false) (kept2 : refusal2 s ≡ f
       ∙ rw (← count)
       (kept-then (fiveToEight (refusal5At s) (stepAt s) n 0) (elevens (kindAt s) n 0) (numbered-steps (refusal5At s) (stepAt s) n 0) (rw answer at h))
 
-kept-count : (s : List ℕ) → Kept (readerOrder s) → refusal3 (stepCountOf s) ≡ false
+kept-count : (s : List ℕ) → Unbroken (readerOrder s) → refusal3 (stepCountOf s) ≡ false
 unfolding readerOrder
 kept-count s (next a (next b (next c k))) = c
 

@@ -79,13 +79,13 @@ abbrev pub refusal8 : Step → Bool
 refusal8 step = lacksDuration step
 
 -- whether a step before step i is a deformation step, by the steps' kinds
-unfoldable pub deformationBefore : (ℕ → ℕ) → ℕ → Bool
-deformationBefore kind zero = false
-deformationBefore kind (suc i) = deformationBefore kind i || eqb (kind i) 5
+unfoldable pub hasDeformation : (ℕ → ℕ) → ℕ → Bool
+hasDeformation kind zero = false
+hasDeformation kind (suc i) = hasDeformation kind i || eqb (kind i) 5
 
 -- second deformation step: a deformation step after another; the first such is the second one
 unfoldable pub refusal11 : (ℕ → ℕ) → ℕ → Bool
-refusal11 kind i = eqb (kind i) 5 && deformationBefore kind i
+refusal11 kind i = eqb (kind i) 5 && hasDeformation kind i
 
 -- ---- the order
 
@@ -99,8 +99,8 @@ abbrev pub accepted : Refusal
 accepted = record { number = 0; step = 0 }
 
 -- of the sheet as a whole: step 0
-abbrev pub ofSheet : ℕ → Refusal
-ofSheet number = record { number = number; step = 0 }
+abbrev pub ofCall : ℕ → Refusal
+ofCall number = record { number = number; step = 0 }
 
 -- of step i, which is answered from 1
 abbrev pub ofStep : ℕ → ℕ → Refusal
@@ -127,10 +127,10 @@ elevens kind (suc k) i = rule (ofStep 11 i) (refusal11 kind i) ∷ elevens kind 
 -- the reader's order: 1, 2, 3, 4; then step by step 5 to 8; then 11
 unfoldable pub readerOrder : List ℕ → List Rule
 readerOrder s =
-    rule (ofSheet 1) (refusal1 s)
-    ∷ rule (ofSheet 2) (refusal2 s)
-    ∷ rule (ofSheet 3) (refusal3 (stepCountOf s))
-    ∷ rule (ofSheet 4) (refusal4 s)
+    rule (ofCall 1) (refusal1 s)
+    ∷ rule (ofCall 2) (refusal2 s)
+    ∷ rule (ofCall 3) (refusal3 (stepCountOf s))
+    ∷ rule (ofCall 4) (refusal4 s)
     ∷ (fiveToEight (refusal5At s) (stepAt s) (stepCountOf s) 0
     ++ elevens (kindAt s) (stepCountOf s) 0)
 

@@ -8,7 +8,7 @@ ghost use mathlib.Core.Path.{_≡_};
 ghost use Prim.Native.Nat.{_+_, _*_, _<_, _≤_};
 ghost use lib.ListN.{length, take, drop};
 ghost use Rattle.sheet.specs.Layout.{stepCountOf, kindAt, bodyAt, stepAt, blankEntry, blankSheet, entryAt, recordOf};
-ghost use Rattle.sheet.specs.Rules.{refusal1, refusal3, refusal4, refusal5At, endBefore, placeBroken, ofSheet, ofStep, rulesOfStep, fiveToEight, elevens, accepted, firstBroken, refusalOf, readingOf};
+ghost use Rattle.sheet.specs.Rules.{refusal1, refusal3, refusal4, refusal5At, endBefore, placeBroken, ofCall, ofStep, rulesOfStep, fiveToEight, elevens, accepted, firstBroken, refusalOf, readingOf};
 use bodies::Step;
 
 // ----- records ---------------------------------------------------------------------------
@@ -73,7 +73,7 @@ impl Refusal {
 
     // Of the sheet as a whole.
     pub fn of_sheet(number: u32) -> Self
-        ensures { λ r. ⌜ r ≡ ofSheet number ⌝ }
+        ensures { λ r. ⌜ r ≡ ofCall number ⌝ }
     {
         Refusal {
             number: number,

@@ -19,8 +19,8 @@ use Rattle.sheet.specs.declared.Sheet.{Sheet}
 use Rattle.sheet.specs.Layout.{stepCountOf, kindAt, bodyAt, recordOf, entryOf, stepIn, kindIn}
 use Rattle.sheet_writer.specs.Bytes.{sheetLength, sheetBytesOf}
 use Rattle.sheet.specs.Rules.{accepted, firstBroken, refusalOf, refusal3, refusal6, refusal7, refusal8, refusal11, fiveToEight, elevens}
-use Rattle.sheet_writer.specs.Rules.{writerOrder, writerRefusalOf, writtenOf, recordRefusal4, recordRefusal5, refusal15, invertedBrokenIn}
-use Rattle.sheet.proofs.Order.{Kept, none-broken, kept-append}
+use Rattle.sheet_writer.specs.Rules.{writerOrder, writerRefusalOf, roomAfterOf, recordRefusal4, recordRefusal5, refusal15, invertedBrokenIn}
+use Rattle.sheet.proofs.Order.{Unbroken, none-broken, kept-append}
 use Rattle.sheet.proofs.Each.{StepKept, every-step, every-eleven, every-kept, eleven-same}
 use Rattle.sheet.proofs.Accepted.{Accepted, accepted-keeps, keeps-accepted, body-kept}
 use Rattle.sheet_writer.proofs.Forth.{taken, count-back, accepted-back, entry-back}
@@ -89,16 +89,16 @@ module _ (s : List ℕ) (bytes : Bytes s) (e : refusalOf s ≡ accepted) where
   unfolding writerRefusalOf writerOrder
   writer-takes-what-was-read room h =
       let r = recordOf s in
-      let steps : Kept (fiveToEight (recordRefusal5 r) (stepIn r) (r .count) 0) =
+      let steps : Unbroken (fiveToEight (recordRefusal5 r) (stepIn r) (r .count) 0) =
       every-step (recordRefusal5 r) (stepIn r) (r .count) 0 (λ i l. rw zero-add (takes-step i (omega (arith, count)))) in
-      let second : Kept (elevens (kindIn r) (r .count) 0) =
+      let second : Unbroken (elevens (kindIn r) (r .count) 0) =
       every-eleven (kindIn r) (r .count) 0 (λ i l. rw zero-add (takes-eleven i (omega (arith, count)))) in
       none-broken (writerOrder r room)
-      (Kept.next takes-three (Kept.next takes-four (kept-append steps (kept-append second (Kept.next (takes-room room h) Kept.none)))))
+      (Unbroken.next takes-three (Unbroken.next takes-four (kept-append steps (kept-append second (Unbroken.next (takes-room room h) Unbroken.none)))))
 
   -- and gives the same bytes
-  pub read-then-written : (room : List ℕ) → length s ≤ length room → writtenOf (recordOf s) room ≡ put room 0 s
-  unfolding writtenOf
+  pub read-then-written : (room : List ℕ) → length s ≤ length room → roomAfterOf (recordOf s) room ≡ put room 0 s
+  unfolding roomAfterOf
   read-then-written room h =
       rw (writer-takes-what-was-read (length room) h) (ap (put room 0) (bytes-same s bytes ok))
 
@@ -127,8 +127,8 @@ written-then-read sheet room held e =
 
 -- the room then starts with those bytes
 pub room-starts-with-the-sheet : (sheet : Sheet) (room : List ℕ) → writerRefusalOf sheet (length room) ≡ accepted
-    → take (sheetLength sheet) (writtenOf sheet room) ≡ sheetBytesOf sheet
-unfolding writtenOf put
+    → take (sheetLength sheet) (roomAfterOf sheet room) ≡ sheetBytesOf sheet
+unfolding roomAfterOf put
 room-starts-with-the-sheet sheet room e = rw e (take-at (sheetBytesOf sheet) _ (sheetLength sheet) (sheet-bytes-length sheet))
 
 -- ---- read in one way only

@@ -8,24 +8,24 @@ use Rattle.sheet.specs.declared.Refusal.{Refusal}
 use Rattle.sheet.specs.declared.Sheet.{Sheet}
 use Rattle.sheet.specs.Layout.{stepIn, kindIn}
 use Rattle.sheet_writer.specs.Bytes.{sheetLength}
-use Rattle.sheet.specs.Rules.{Rule, rule, ofSheet, accepted, firstBroken, fiveToEight, elevens, refusal3}
+use Rattle.sheet.specs.Rules.{Rule, rule, ofCall, accepted, firstBroken, fiveToEight, elevens, refusal3}
 use Rattle.sheet_writer.specs.Rules.{recordRefusal4, recordRefusal5, refusal15, writerOrder, writerRefusalOf}
-use Rattle.sheet.proofs.Order.{Numbered, not-zero, numbered-append, numbered-steps, numbered-elevens, kept-then, broken-first, Kept, all-kept, kept-right, count-kept}
+use Rattle.sheet.proofs.Order.{Numbered, not-zero, numbered-append, numbered-steps, numbered-elevens, kept-then, broken-first, Unbroken, all-kept, kept-right, count-kept}
 
 -- after step by step 5 to 8 and 11: 15
 abbrev pub last : Sheet → ℕ → List Rule
-last sheet room = rule (ofSheet 15) (refusal15 sheet room) ∷ []
+last sheet room = rule (ofCall 15) (refusal15 sheet room) ∷ []
 
 -- 5 to 8 of n steps, 11, then 15
 abbrev pub after : Sheet → ℕ → ℕ → List Rule
 after sheet room n = fiveToEight (recordRefusal5 sheet) (stepIn sheet) n 0 ++ (elevens (kindIn sheet) n 0 ++ last sheet room)
 
 module _ (sheet : Sheet) (room : ℕ) where
-  pub writer-three : refusal3 (sheet .count) ≡ true → writerRefusalOf sheet room ≡ ofSheet 3
+  pub writer-three : refusal3 (sheet .count) ≡ true → writerRefusalOf sheet room ≡ ofCall 3
   unfolding writerRefusalOf writerOrder firstBroken
   writer-three e = rw e
 
-  pub writer-four : refusal3 (sheet .count) ≡ false → recordRefusal4 sheet ≡ true → writerRefusalOf sheet room ≡ ofSheet 4
+  pub writer-four : refusal3 (sheet .count) ≡ false → recordRefusal4 sheet ≡ true → writerRefusalOf sheet room ≡ ofCall 4
   unfolding writerRefusalOf writerOrder firstBroken
   writer-four e h = rw (e, h)
 
@@ -67,7 +67,7 @@ module _ (sheet : Sheet) (room : ℕ) where
           elevens-kept g =
               steps-kept ∙ kept-then (elevens (kindIn sheet) n 0) (last sheet room) (numbered-elevens (kindIn sheet) n 0) (rw second at g)
 
-          pub writer-short : q .number ≡ 0 → refusal15 sheet room ≡ true → writerRefusalOf sheet room ≡ ofSheet 15
+          pub writer-short : q .number ≡ 0 → refusal15 sheet room ≡ true → writerRefusalOf sheet room ≡ ofCall 15
           unfolding firstBroken
           writer-short g e = elevens-kept g ∙ rw e
 
@@ -75,16 +75,16 @@ module _ (sheet : Sheet) (room : ℕ) where
           unfolding firstBroken
           writer-accepts g e = elevens-kept g ∙ rw e
 
-kept-three : (sheet : Sheet) (room : ℕ) → Kept (writerOrder sheet room) → refusal3 (sheet .count) ≡ false
+kept-three : (sheet : Sheet) (room : ℕ) → Unbroken (writerOrder sheet room) → refusal3 (sheet .count) ≡ false
 unfolding writerOrder
-kept-three sheet room (Kept.next a k) = a
+kept-three sheet room (Unbroken.next a k) = a
 
-only : {r : Rule} → Kept (r ∷ []) → r .broken ≡ false
-only (Kept.next a k) = a
+only : {r : Rule} → Unbroken (r ∷ []) → r .broken ≡ false
+only (Unbroken.next a k) = a
 
-kept-last : (sheet : Sheet) (room : ℕ) → Kept (writerOrder sheet room) → refusal15 sheet room ≡ false
+kept-last : (sheet : Sheet) (room : ℕ) → Unbroken (writerOrder sheet room) → refusal15 sheet room ≡ false
 unfolding writerOrder
-kept-last sheet room (Kept.next a (Kept.next b k)) =
+kept-last sheet room (Unbroken.next a (Unbroken.next b k)) =
     only (kept-right (elevens (kindIn sheet) (sheet .count) 0) (last sheet room)
     (kept-right (fiveToEight (recordRefusal5 sheet) (stepIn sheet) (sheet .count) 0) (elevens (kindIn sheet) (sheet .count) 0 ++ last sheet room) k))
 

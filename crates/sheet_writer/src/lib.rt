@@ -13,7 +13,7 @@ ghost use Rattle.body_writer.specs.Write.{bytesOf};
 ghost use Rattle.sheet.specs.Layout.{entryOf, stepIn, kindIn};
 ghost use Rattle.sheet_writer.specs.Bytes.{lengthIn, bodyStart, sheetLength, placeBytes, directoryBytes, bodiesBytes, sheetBytesOf};
 ghost use Rattle.sheet.specs.Rules.{someFrom, ofStep, rulesOfStep, fiveToEight, elevens, firstBroken};
-ghost use Rattle.sheet_writer.specs.Rules.{recordRefusal5, invertedBrokenIn, writerRefusalOf, writtenOf};
+ghost use Rattle.sheet_writer.specs.Rules.{recordRefusal5, invertedBrokenIn, writerRefusalOf, roomAfterOf};
 use bodies::Step;
 use sheet::Entry;
 use sheet::Refusal;
@@ -260,7 +260,7 @@ fn put_sheet(room: &mut [u8], sheet: Sheet)
 
 // Writes the sheet's bytes at the room's start and nothing after them. On refusal the room holds what it held.
 pub fn write(sheet: Sheet, room: &mut [u8]) -> Refusal
-    ensures { λ r. ⌜ (r ≡ writerRefusalOf sheet (length (now (room .entry)))) × (now (room .exit) ≡ writtenOf sheet (now (room .entry))) ⌝ }
+    ensures { λ r. ⌜ (r ≡ writerRefusalOf sheet (length (now (room .entry)))) × (now (room .exit) ≡ roomAfterOf sheet (now (room .entry))) ⌝ }
 {
     let refusal = check_record(sheet, room.len());
     if refusal.number != 0 {

@@ -10,7 +10,7 @@ use Rattle.bodies.specs.Kinds.{lengthOf}
 use Rattle.bodies.specs.Read.{stepOf, cartOf}
 use Rattle.bodies.specs.Rules.{stepInRule, lacksConvention, lacksEpoch, lacksDuration, writtenInRule, bodyInRule}
 use Rattle.sheet.specs.Layout.{bodyAt}
-use Rattle.sheet.specs.Rules.{refusal1, refusal2, refusal3, refusal4, refusal5, endBefore, placeBroken, someFrom, deformationBefore, refusal11, rulesOfStep, fiveToEight, elevens, readerOrder, firstBroken, refusalOf}
+use Rattle.sheet.specs.Rules.{refusal1, refusal2, refusal3, refusal4, refusal5, endBefore, placeBroken, someFrom, hasDeformation, refusal11, rulesOfStep, fiveToEight, elevens, readerOrder, firstBroken, refusalOf}
 use Rattle.text.specs.Ascii.{ascii}
 use Rattle.text.specs.Digits.{digitsOf, placesOf, decimalOf}
 use Rattle.decimal.specs.Places.{tenTo, wholeOf, digitsOf as triedOf, readOf, passesOf, firstFrom, decimalOf as foundOf}
@@ -33,7 +33,7 @@ P1-is-shown :
     showText p1
     ≡ ascii
     "form: 1\ntotal length: 40\nstep count: 1\ndirectory offset: 16\nstep 1\n  kind: 2 cart\n  inverted: 0 no\n  body offset: 32\n  body length: 8\n  ellipsoid: 1 GRS80, a 6378137 m, 1/f 298.257222101\n  reserved: 0\n"
-unfolding p1 bytes le32 word32 lengthOf stepOf cartOf stepInRule lacksConvention lacksEpoch lacksDuration writtenInRule bodyInRule bodyAt refusal1 refusal2 refusal3 refusal4 refusal5 endBefore placeBroken someFrom deformationBefore refusal11 rulesOfStep fiveToEight elevens readerOrder firstBroken refusalOf digitsOf placesOf decimalOf tenTo wholeOf triedOf readOf passesOf firstFrom foundOf signText fractionText fixedText eitherText numberText wordLine ellipsoidText ellipsoidLine kindText kindLine invertedText invertedLine cartText fieldsText lineOf headerText headText entryText stepText stepsText acceptedText showText sameOf signOf ofBits toBits ofInt neg add mul div lt round size
+unfolding p1 bytes le32 word32 lengthOf stepOf cartOf stepInRule lacksConvention lacksEpoch lacksDuration writtenInRule bodyInRule bodyAt refusal1 refusal2 refusal3 refusal4 refusal5 endBefore placeBroken someFrom hasDeformation refusal11 rulesOfStep fiveToEight elevens readerOrder firstBroken refusalOf digitsOf placesOf decimalOf tenTo wholeOf triedOf readOf passesOf firstFrom foundOf signText fractionText fixedText eitherText numberText wordLine ellipsoidText ellipsoidLine kindText kindLine invertedText invertedLine cartText fieldsText lineOf headerText headText entryText stepText stepsText acceptedText showText sameOf signOf ofBits toBits ofInt neg add mul div lt round size
 P1-is-shown = refl
 
 P7-is-shown :

@@ -8,8 +8,8 @@ use lib.Ieee.{Float}
 use Rattle.sheet.specs.declared.Refusal.{Refusal}
 use Rattle.chain.specs.Rules.{Outcome}
 use Rattle.stretch.specs.Kept.{Kept}
-use Rattle.kept.specs.Entries.{Outcome as CorrectOutcome}
-use Rattle.making.specs.Adding.{Outcome as AddOutcome}
+use Rattle.kept.specs.Entries.{CorrectOutcome}
+use Rattle.making.specs.Adding.{AddOutcome}
 
 -- 0 is done; otherwise the refusal's number plus 65536 times the step
 abbrev pub codeOf : Refusal → ℕ

@@ -19,7 +19,7 @@ use Rattle.lists.specs.Flat.{numbersOf, tupleAt, putAt}
 use Rattle.lists.specs.Run.{Turns, ranOf, trackOf, stateAfterOf}
 use Rattle.lists.proofs.Places.{from-place, put-there, put-none, put-length, put-drop}
 use Rattle.lists.proofs.Laws.{ran-length}
-use Rattle.stretch.specs.Kept.{trackedOf, heldOf, Kept, keptOf, freshOf, writtenOf, carriedAt, keptAt, Stretch, Redone, redoOf, beforeOf, putFix, correctedOf}
+use Rattle.stretch.specs.Kept.{trackedOf, heldOf, Kept, keptOf, freshOf, splicedOf, carriedAt, keptAt, Stretch, Redone, redoOf, beforeOf, putFix, correctedOf}
 use Rattle.helmert_turns.specs.Turns.{helmertTurns}
 use Rattle.stretch.proofs.Again.{Again, againOf, again-short}
 use Rattle.stretch.proofs.Stretch.{redo-is-again}
@@ -216,7 +216,7 @@ pub record Unwritten (old new : List Float) (start end : ℕ) : Type 0 where
   pub after : drop end new ≡ drop end old
   pub long : length new ≡ length old
 
-written-between : (old new : List Float) (at n : ℕ) → at + n ≤ length old → n ≤ length new → Unwritten old (writtenOf old at new n) at (at + n)
+written-between : (old new : List Float) (at n : ℕ) → at + n ≤ length old → n ≤ length new → Unwritten old (splicedOf old at new n) at (at + n)
 written-between old new at n h k =
     record {
       before =

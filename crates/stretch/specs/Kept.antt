@@ -89,8 +89,8 @@ pub record Stretch (carried kept : ℕ → State) (index count n : ℕ) : Type 0
 -- ---- a correction
 
 -- a list with n numbers of another written into it from a place on
-abbrev pub writtenOf : List Float → ℕ → List Float → ℕ → List Float
-writtenOf old at new n = take at old ++ take n new ++ drop (at + n) old
+abbrev pub splicedOf : List Float → ℕ → List Float → ℕ → List Float
+splicedOf old at new n = take at old ++ take n new ++ drop (at + n) old
 
 -- what a correction leaves, and how many fixes it redid
 pub record Redone : Type 0 where
@@ -107,7 +107,7 @@ redoOf f state old index =
     let results = ranOf f index state (drop at (old .list)) in
     let track = trackOf trackedOf f index state (drop at (old .list)) in
     let n = stretchOf track (drop at (old .track)) in
-    redoneOf n (keptOf (old .list) (writtenOf (old .results) at results (4 * n)) (writtenOf (old .track) at track (4 * n)))
+    redoneOf n (keptOf (old .list) (splicedOf (old .results) at results (4 * n)) (splicedOf (old .track) at track (4 * n)))
 
 -- where redoing starts: in running mode from the track before the index, at index 0 from the sheet's start; else from the sheet's T
 unfoldable pub beforeOf : Shift → List Float → ℕ → State

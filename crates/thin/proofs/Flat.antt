@@ -14,7 +14,7 @@ use Rattle.lists.specs.Run.{ranOf, countOf}
 use Rattle.helmert_turns.specs.Turns.{noState, helmertTurns}
 use Rattle.runs.specs.Turns.{cartTurns}
 use Rattle.chain.specs.declared.Answer.{Answer}
-use Rattle.chain.specs.Chain.{turnedOf, turnsOf, stateOf, stepListOf, stepCountOf}
+use Rattle.chain.specs.Chain.{reversedOf, turnsOf, stateOf, stepListOf, tuplesCountedOf}
 use Rattle.chain.specs.Rules.{Outcome, outcome}
 use Rattle.thin.specs.Tuples.{flatOf, stepTuplesOf, stepTallyOf}
 use Rattle.thin.proofs.Laws.{flat-tuples, flat-tally, flat-injective}
@@ -23,11 +23,11 @@ module _ (inverse : Bool) (velocities : List Float) (marks : List ℕ) (us : Lis
   -- ---- a step of any kind: `chain`'s step over the flat list
 
   pub step-is-flat : (e : Entry)
-      → (flatOf (stepTuplesOf (turnedOf inverse e) velocities marks (e .step) us) ≡ stepListOf inverse velocities marks e (flatOf us))
-      × (stepTallyOf (turnedOf inverse e) velocities marks (e .step) us ≡ stepCountOf inverse velocities marks e (flatOf us))
-  unfolding stepListOf stepCountOf
+      → (flatOf (stepTuplesOf (reversedOf inverse e) velocities marks (e .step) us) ≡ stepListOf inverse velocities marks e (flatOf us))
+      × (stepTallyOf (reversedOf inverse e) velocities marks (e .step) us ≡ tuplesCountedOf inverse velocities marks e (flatOf us))
+  unfolding stepListOf tuplesCountedOf
   step-is-flat e =
-      let turns = turnsOf (turnedOf inverse e) velocities marks (e .step) in
+      let turns = turnsOf (reversedOf inverse e) velocities marks (e .step) in
       (flat-tuples turns 0 (stateOf (e .step)) us, flat-tally turns 0 (stateOf (e .step)) us)
 
   -- ---- Helmert in every mode, with its carried state: `helmert_runs::run_helmert`'s list and count

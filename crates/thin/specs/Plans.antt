@@ -5,7 +5,7 @@ use mathlib.Core.List.{List}
 use lib.Ieee.{Float}
 use Rattle.tuple.specs.declared.Tuple.{Tuple}
 use Rattle.ellipsoid.specs.Figure.{namedOf}
-use Rattle.cart.specs.Step.{cartFwdOf, cartInvOf, inverseOf}
+use Rattle.cart.specs.Step.{cartFwdOf, cartInvOf, inverseFiguresOf}
 use Rattle.permtide.specs.Step.{tideOf, fwdOf, invOf}
 use Rattle.molodensky.specs.Step.{mopedOf, commonOf}
 use Rattle.deformation.specs.Step.{motionOf}
@@ -24,7 +24,7 @@ use Rattle.thin.specs.declared.Turned.{Turned}
 
 -- the plan of a step in a direction
 unfoldable pub planOf : Bool → Step → Plan
-planOf inverse (Cart r) = cond inverse (CartInverse (inverseOf (namedOf (r .ellipsoid)))) (CartForward (namedOf (r .ellipsoid)))
+planOf inverse (Cart r) = cond inverse (CartInverse (inverseFiguresOf (namedOf (r .ellipsoid)))) (CartForward (namedOf (r .ellipsoid)))
 planOf inverse (Permtide r) = cond inverse (PermtideInverse (tideOf r)) (PermtideForward (tideOf r))
 planOf inverse (Deformation r) = DeformationEither (motionOf r) inverse
 planOf inverse (Molodensky r) = MolodenskyEither (mopedOf r) inverse

@@ -11,11 +11,11 @@ ghost use mathlib.Core.Path.{_≡_};
 ghost use mathlib.Core.Bool.{true, false, cond};
 ghost use Prim.Native.Nat.{_+_, _<_};
 ghost use Rattle.helmert_turns.specs.Turns.{noState};
-ghost use Rattle.sheet.specs.Rules.{ofSheet};
+ghost use Rattle.sheet.specs.Rules.{ofCall};
 ghost use Rattle.chain.specs.Rules.{refusedAnswer, outcome, shiftOf};
 ghost use Rattle.thin.specs.Tuples.{stepTuplesOf, stepTallyOf, flatOf};
 ghost use Rattle.thin.specs.Plans.{planOf, startsOf, beginOf, tallied, turnOf};
-ghost use Rattle.thin.specs.Sheets.{placeOf, todoOf, thinRefusalOf, stepsOf, notedOf};
+ghost use Rattle.thin.specs.Sheets.{stepIndexOf, todoOf, thinRefusalOf, stepsOf, notedOf};
 use bodies::Step;
 use cart::Inverse;
 use chain::Answer;
@@ -221,7 +221,7 @@ pub struct Todo {
 // The place of the step that comes i-th of n: the first first, inverse the last first.
 fn place_of(inverse: bool, n: usize, i: usize) -> usize
     requires { ⌜ i < n ⌝ }
-    ensures { λ r. ⌜ r ≡ placeOf inverse n i ⌝ }
+    ensures { λ r. ⌜ r ≡ stepIndexOf inverse n i ⌝ }
 {
     if inverse { n - 1 - i } else { i }
 }
@@ -234,17 +234,17 @@ fn next_step(inverse: bool, s: &[u8], n: usize, i: usize) -> Todo
     let place = place_of(inverse, n, i);
     let entry = sheet::entry_at(s, place);
     let step = entry.step;
-    let turned = chain::turned(inverse, entry);
+    let reversed = chain::reversed(inverse, entry);
     Todo {
         place: place,
-        inverse: turned,
+        inverse: reversed,
         step: step,
     }
 }
 
 // A refusal of the lent lists carries no step.
 fn of_lists(number: u32) -> Refusal
-    ensures { λ r. ⌜ r ≡ ofSheet number ⌝ }
+    ensures { λ r. ⌜ r ≡ ofCall number ⌝ }
 {
     Refusal {
         number: number,

@@ -114,8 +114,8 @@ unfoldable pub signedOf : Float → Float → Float
 signedOf s x = cond (signOf x) (neg s) s
 
 -- s, turned where x is below zero
-unfoldable pub turnedOf : Float → Float → Float
-turnedOf s x = cond (lt x zero) (neg s) s
+unfoldable pub mirroredOf : Float → Float → Float
+mirroredOf s x = cond (lt x zero) (neg s) s
 
 -- The sine of x: a zero is its own; out of reach, and of NaN, it is NaN; else that of |x|, with the sign of x.
 unfoldable pub sinOf : Float → Float

@@ -11,7 +11,7 @@
 ghost use mathlib.Core.Path.{_≡_};
 ghost use Prim.Native.Nat.{_%_};
 ghost use Rattle.trig.specs.Table.{rowOf, asideOf, halfOf};
-ghost use Rattle.trig.specs.Trig.{reducedOf, bendOf, atMostOne, clampOf, sumOf, sineOf, cosineOf, pairOf, turnedOf, sinOf, cosOf, sinCosOf};
+ghost use Rattle.trig.specs.Trig.{reducedOf, bendOf, atMostOne, clampOf, sumOf, sineOf, cosineOf, pairOf, mirroredOf, sinOf, cosOf, sinCosOf};
 use floats::abs;
 use floats::of_bits;
 use floats::to_bits;
@@ -80,7 +80,7 @@ pub fn cos(x: f64) -> f64
 
 // s, turned where x is below zero: the sine is odd. Of a number that is not zero this is its sign, and costs no branch.
 pub fn signed(s: f64, x: f64) -> f64
-    ensures { λ r. ⌜ r ≡ turnedOf s x ⌝ }
+    ensures { λ r. ⌜ r ≡ mirroredOf s x ⌝ }
 {
     if x < 0.0 { -s } else { s }
 }

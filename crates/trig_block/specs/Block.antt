@@ -7,7 +7,7 @@ use Rattle.floats.specs.Binary64.{bits}
 use Rattle.floats.specs.Number.{absOf}
 use Rattle.trig.specs.declared.SinCos.{SinCos}
 use Rattle.trig.specs.declared.Row.{Row}
-use Rattle.trig.specs.Trig.{one, reach, reducedOf, bendOf, sumOf, signedOf, turnedOf}
+use Rattle.trig.specs.Trig.{one, reach, reducedOf, bendOf, sumOf, signedOf, mirroredOf}
 
 -- x, or 0 in the place of a NaN
 unfoldable pub numberOf : Float → Float
@@ -53,7 +53,7 @@ pairFrom r tail w =
 
 -- both of a usual x
 abbrev pub usualFrom : Float → Float → Float → Row → SinCos
-usualFrom x r tail w = record { s = turnedOf (pairFrom r tail w .s) x; c = pairFrom r tail w .c }
+usualFrom x r tail w = record { s = mirroredOf (pairFrom r tail w .s) x; c = pairFrom r tail w .c }
 
 -- both of any x
 abbrev pub bothFrom : Float → Float → Float → Row → SinCos

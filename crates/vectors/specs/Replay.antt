@@ -96,5 +96,5 @@ four v = v .x ∷ v .y ∷ v .z ∷ v .t ∷ []
 abbrev pub tupleIn : List ℕ → ℕ → Tuple
 tupleIn s at = record { x = numberAt s at; y = numberAt s (at + 8); z = numberAt s (at + 16); t = numberAt s (at + 24) }
 
-unfoldable pub placeOf : List ℕ → ℕ
-placeOf s = differingNumbers s 40 (four (geographicOf (namedOf (word32 s 0)) (tupleIn s 8)))
+unfoldable pub geographicDifferingOf : List ℕ → ℕ
+geographicDifferingOf s = differingNumbers s 40 (four (geographicOf (namedOf (word32 s 0)) (tupleIn s 8)))

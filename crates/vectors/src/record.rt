@@ -7,7 +7,7 @@ ghost use Prim.Native.Nat.{_+_, _*_, _≤_, _<_};
 ghost use lib.ListN.{length};
 ghost use Rattle.words.specs.Words.{word32};
 ghost use Rattle.chain.specs.Rules.{outcome};
-ghost use Rattle.vectors.specs.Replay.{differ, differingCounts, differingNumbers, numbersOf, sheetLength, tupleCount, velocityCount, marksAt, laidOut, shiftedOf, comparedOf, replayOf, placeOf};
+ghost use Rattle.vectors.specs.Replay.{differ, differingCounts, differingNumbers, numbersOf, sheetLength, tupleCount, velocityCount, marksAt, laidOut, shiftedOf, comparedOf, replayOf, geographicDifferingOf};
 use chain::Answer;
 use ellipsoid::Ellipsoid;
 use tuple::Tuple;
@@ -159,7 +159,7 @@ pub fn replay(job: &[u8], told: &[u8]) -> usize
 
 // A place as told beside `geographic` of its tuple.
 pub fn place(s: &[u8]) -> usize
-    ensures { λ r. ⌜ r ≡ placeOf (now (s .entry)) ⌝ }
+    ensures { λ r. ⌜ r ≡ geographicDifferingOf (now (s .entry)) ⌝ }
 {
     let there = Tuple {
         x: words::number(s, 8),

@@ -3,7 +3,7 @@ use mathlib.Core.Path.{_≡_, sym, _∙_}
 use borrow.Author.Needs.{needs}
 use borrow.Author.Tests.{lt-ltb}
 use Rattle.sheet.specs.Layout.{bodyAt, entryAt}
-use Rattle.chain.specs.Chain.{bodyListOf, bodyCountOf, stepListOf, stepCountOf}
+use Rattle.chain.specs.Chain.{bodyListOf, bodyCountOf, stepListOf, tuplesCountedOf}
 use Rattle.chain.proofs.backward_at.Statement.{statement}
 use Rattle.chain.proofs.backward_at.Tie as tie
 
@@ -19,8 +19,8 @@ add-read32 c = search needs
 read32-requires : tie.Need-read32-requires
 read32-requires c κs = search needs
 
-turned-by-requires : tie.Need-turned-by-requires
-turned-by-requires c κs = search needs
+reversed-by-requires : tie.Need-reversed-by-requires
+reversed-by-requires c κs = search needs
 
 read32-requires-2 : tie.Need-read32-requires-2
 read32-requires-2 c κs = search needs
@@ -56,7 +56,7 @@ same-length : tie.Need-same-length
 same-length c = search needs
 
 returns : tie.Need-returns
-unfolding stepListOf stepCountOf entryAt bodyAt bodyListOf bodyCountOf
+unfolding stepListOf tuplesCountedOf entryAt bodyAt bodyListOf bodyCountOf
 returns c =
     let f = c .before .before .before .before .before .before in
     rw (lt-ltb _ _ (f .before .before .before .before .before .before .before .before .before .before .before .before .pre .1))
@@ -67,7 +67,7 @@ returns c =
       f .before .before .before .wide .ensures,
       f .before .before .before .before .read323 .ensures,
       f .before .before .before .before .before .read322 .ensures,
-      f .before .before .before .before .before .before .turned-by .ensures,
+      f .before .before .before .before .before .before .reversed-by .ensures,
       f .before .before .before .before .before .before .before .read32 .ensures,
     )
     at (c .before .before .run-helmert .ensures))
@@ -79,7 +79,7 @@ same-length-2 : tie.Need-same-length-2
 same-length-2 c = search needs
 
 returns-2 : tie.Need-returns-2
-unfolding stepListOf stepCountOf entryAt bodyAt bodyListOf bodyCountOf
+unfolding stepListOf tuplesCountedOf entryAt bodyAt bodyListOf bodyCountOf
 returns-2 c =
     let f = c .before .before .before .before .before .before in
     rw (lt-ltb _ _ (f .before .before .before .before .before .before .before .before .before .before .before .before .pre .1))
@@ -90,7 +90,7 @@ returns-2 c =
       f .before .before .before .wide .ensures,
       f .before .before .before .before .read323 .ensures,
       f .before .before .before .before .before .read322 .ensures,
-      f .before .before .before .before .before .before .turned-by .ensures,
+      f .before .before .before .before .before .before .reversed-by .ensures,
       f .before .before .before .before .before .before .before .read32 .ensures,
     )
     at (c .before .before .run-other .ensures))
@@ -103,7 +103,7 @@ backward-at-spec =
     add-place
     add-read32
     read32-requires
-    turned-by-requires
+    reversed-by-requires
     read32-requires-2
     add-read32-2
     read32-requires-3

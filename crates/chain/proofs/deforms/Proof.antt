@@ -4,19 +4,19 @@ use native.Mathlib.Omega.{arith}
 use Prim.Native.Nat.{_+_, _*_, _-_, _≤_}
 use mathlib.Core.Path.{_≡_, refl, ap, _∙_}
 use Rattle.sheet.specs.Layout.{kindAt}
-use Rattle.sheet.specs.Rules.{deformationBefore}
+use Rattle.sheet.specs.Rules.{hasDeformation}
 use Rattle.sheet.proofs.Order.{before-next}
 use Rattle.chain.proofs.deforms.Statement.{statement}
 use Rattle.chain.proofs.deforms.Tie as tie
 
 abbrev Inv-loop : tie.InvT-loop
-Inv-loop s n found₀ i₀ found i = (i ≤ n) × (found ≡ deformationBefore (kindAt s) i)
+Inv-loop s n found₀ i₀ found i = (i ≤ n) × (found ≡ hasDeformation (kindAt s) i)
 
 abbrev μ-loop : tie.MeasureT-loop
 μ-loop s n found₀ i₀ found i = n - i
 
 loop-holds : tie.Need-loop-holds Inv-loop μ-loop
-unfolding deformationBefore
+unfolding hasDeformation
 loop-holds c = (search needs, refl)
 
 mul-read32 : tie.Need-mul-read32 Inv-loop μ-loop
@@ -38,7 +38,7 @@ loop-again : tie.Need-loop-again Inv-loop μ-loop
 loop-again c = (search needs, rw (before-next, ← c .read32 .ensures, ← c .before .before .loop .inv .1))
 
 returns : tie.Need-returns Inv-loop μ-loop
-returns c = let l = c .before .loop in let s : l .i ≡ c .before .before .before .args .n = omega arith in l .inv .1 ∙ ap (deformationBefore (kindAt (c .before .before .before .args .s .now))) s
+returns c = let l = c .before .loop in let s : l .i ≡ c .before .before .before .args .n = omega arith in l .inv .1 ∙ ap (hasDeformation (kindAt (c .before .before .before .args .s .now))) s
 
 pub deforms-spec : {M : Type 1} → statement M
 deforms-spec =

@@ -10,7 +10,7 @@ use Rattle.helmert.specs.declared.Stepped.{Stepped}
 use Rattle.helmert.specs.Modes.{runningOf}
 use Rattle.lists.proofs.Laws.{Ran, ran-start, ran-again, ran-end}
 use Rattle.helmert_turns.specs.Turns.{steppedTurns}
-use Rattle.helmert_turns.proofs.Held.{Held, met-anew, met-again, held-turn}
+use Rattle.helmert_turns.proofs.Current.{Current, met-anew, met-again, held-turn}
 use Rattle.helmert_exact_runs.specs.Ahead.{Ahead}
 use Rattle.helmert_exact_runs.proofs.Laws.{none-ahead, same-ahead, ahead-here, ahead-on}
 use Rattle.helmert_exact_runs.proofs.running_inverse.Statement.{statement}
@@ -18,7 +18,7 @@ use Rattle.helmert_exact_runs.proofs.running_inverse.Tie as tie
 
 abbrev Inv-loop : tie.InvT-loop
 Inv-loop list₀ shift p sx₀ cx₀ sy₀ cy₀ sz₀ cz₀ left₀ state₀ s₀ m₀ i₀ list sx cx sy cy sz cz left state s m i =
-    Ran (steppedTurns (runningOf shift true)) state₀ list₀ i state list × Held shift state s m × (length list < 2 ^ 64) × Ahead false shift list i left sx cx sy cy sz cz
+    Ran (steppedTurns (runningOf shift true)) state₀ list₀ i state list × Current shift state s m × (length list < 2 ^ 64) × Ahead false shift list i left sx cx sy cy sz cz
 
 abbrev μ-loop : tie.MeasureT-loop
 μ-loop list₀ shift p sx₀ cx₀ sy₀ cy₀ sz₀ cz₀ left₀ state₀ s₀ m₀ i₀ list sx cx sy cy sz cz left state s m i = length list₀ - i

@@ -10,12 +10,12 @@ use Rattle.helmert.specs.declared.Stepped.{Stepped}
 use Rattle.helmert.specs.Modes.{runningOf}
 use Rattle.lists.proofs.Laws.{Ran, ran-start, ran-again, ran-end}
 use Rattle.helmert_turns.specs.Turns.{steppedTurns}
-use Rattle.helmert_turns.proofs.Held.{Held, met-anew, met-again, held-turn}
+use Rattle.helmert_turns.proofs.Current.{Current, met-anew, met-again, held-turn}
 use Rattle.helmert_runs.proofs.running_coordinate_frame_inverse.Statement.{statement}
 use Rattle.helmert_runs.proofs.running_coordinate_frame_inverse.Tie as tie
 
 abbrev Inv-loop : tie.InvT-loop
-Inv-loop list₀ shift p state₀ s₀ m₀ i₀ list state s m i = Ran (steppedTurns (runningOf shift true)) state₀ list₀ i state list × Held shift state s m × (length list < 2 ^ 64)
+Inv-loop list₀ shift p state₀ s₀ m₀ i₀ list state s m i = Ran (steppedTurns (runningOf shift true)) state₀ list₀ i state list × Current shift state s m × (length list < 2 ^ 64)
 
 abbrev μ-loop : tie.MeasureT-loop
 μ-loop list₀ shift p state₀ s₀ m₀ i₀ list state s m i = length list₀ - i

@@ -29,8 +29,8 @@ entry-at-requires c κs = search needs
 step-of-requires : tie.Need-step-of-requires
 step-of-requires c κs = search needs
 
-turned-requires : tie.Need-turned-requires
-turned-requires c κs = search needs
+reversed-requires : tie.Need-reversed-requires
+reversed-requires c κs = search needs
 
 put-right-requires : tie.Need-put-right-requires
 put-right-requires c κs = search needs
@@ -54,7 +54,7 @@ returns-3 c =
     correct-done _ _ _ _ _ e none there
     (c .before .before .before .before .before .before .put-right .ensures
     ∙ right-fits _ _ _ _ _ (fit-told _ _ _ (p .whole) (p .long-results) (p .long-track)) (below _ _ there)
-    ∙ rw (c .before .before .before .before .before .before .before .before .before .before .turned .ensures, c .before .before .before .before .before .before .before .before .before .before .before .step-of .ensures, c .before .before .before .before .before .before .before .before .before .before .before .before .entry-at .ensures))
+    ∙ rw (c .before .before .before .before .before .before .before .before .before .before .reversed .ensures, c .before .before .before .before .before .before .before .before .before .before .before .step-of .ensures, c .before .before .before .before .before .before .before .before .before .before .before .before .entry-at .ensures))
 
 pub correct-spec : {M : Type 1} → statement M
 correct-spec =
@@ -66,7 +66,7 @@ correct-spec =
     returns-2
     entry-at-requires
     step-of-requires
-    turned-requires
+    reversed-requires
     put-right-requires
     same-length
     same-length-2

@@ -5,20 +5,20 @@ use mathlib.Core.Path.{_≡_, refl, sym, ap, _∙_}
 use Prim.Native.Nat.{suc, _+_, _*_, _-_, _≤_, _<_}
 use native.Mathlib.Nat.{sub-zero}
 use mathlib.Core.Bool.{true, false}
-use Rattle.sheet.specs.Rules.{refusal11, deformationBefore, elevens, firstBroken}
+use Rattle.sheet.specs.Rules.{refusal11, hasDeformation, elevens, firstBroken}
 use Rattle.sheet.specs.Layout.{kindAt}
 use Rattle.sheet.proofs.Order.{elevens-on, elevens-off, elevens-end, before-next}
 use Rattle.sheet.proofs.check_kinds.Statement.{statement}
 use Rattle.sheet.proofs.check_kinds.Tie as tie
 
 abbrev Inv-loop : tie.InvT-loop
-Inv-loop s n before₀ i₀ before i = (i ≤ n) × ((before ≡ deformationBefore (kindAt s) i) × (firstBroken (elevens (kindAt s) n 0) ≡ firstBroken (elevens (kindAt s) (n - i) i)))
+Inv-loop s n before₀ i₀ before i = (i ≤ n) × ((before ≡ hasDeformation (kindAt s) i) × (firstBroken (elevens (kindAt s) n 0) ≡ firstBroken (elevens (kindAt s) (n - i) i)))
 
 abbrev μ-loop : tie.MeasureT-loop
 μ-loop s n before₀ i₀ before i = n - i
 
 loop-holds : tie.Need-loop-holds Inv-loop μ-loop
-unfolding deformationBefore
+unfolding hasDeformation
 loop-holds c = (omega arith, (refl, rw sub-zero))
 
 mul-read32 : tie.Need-mul-read32 Inv-loop μ-loop

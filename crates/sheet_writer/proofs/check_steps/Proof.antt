@@ -5,20 +5,20 @@ use mathlib.Core.Path.{_≡_, refl, sym, ap, _∙_}
 use Prim.Native.Nat.{suc, _+_, _*_, _-_, _≤_, _<_}
 use native.Mathlib.Nat.{sub-zero}
 use mathlib.Core.Bool.{true, false}
-use Rattle.sheet.specs.Rules.{refusal11, deformationBefore, elevens, firstBroken}
+use Rattle.sheet.specs.Rules.{refusal11, hasDeformation, elevens, firstBroken}
 use Rattle.sheet.specs.Layout.{kindIn}
 use Rattle.sheet.proofs.Order.{elevens-on, elevens-off, elevens-end, before-next}
 use Rattle.sheet_writer.proofs.check_steps.Statement.{statement}
 use Rattle.sheet_writer.proofs.check_steps.Tie as tie
 
 abbrev Inv-loop : tie.InvT-loop
-Inv-loop sheet n before₀ i₀ before i = (i ≤ n) × ((before ≡ deformationBefore (kindIn sheet) i) × (firstBroken (elevens (kindIn sheet) n 0) ≡ firstBroken (elevens (kindIn sheet) (n - i) i)))
+Inv-loop sheet n before₀ i₀ before i = (i ≤ n) × ((before ≡ hasDeformation (kindIn sheet) i) × (firstBroken (elevens (kindIn sheet) n 0) ≡ firstBroken (elevens (kindIn sheet) (n - i) i)))
 
 abbrev μ-loop : tie.MeasureT-loop
 μ-loop sheet n before₀ i₀ before i = n - i
 
 loop-holds : tie.Need-loop-holds Inv-loop μ-loop
-unfolding deformationBefore
+unfolding hasDeformation
 loop-holds c = (omega arith, (refl, rw sub-zero))
 
 kind-in-requires : tie.Need-kind-in-requires Inv-loop μ-loop

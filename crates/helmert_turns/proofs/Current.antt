@@ -19,14 +19,14 @@ abbrev pub matrixOf : Shift → Float → Matrix
 matrixOf shift time = rotationMatrixOf (rotationAtOf (shift .parameters) (time ⊖ shift .epoch)) (shift .exact) (shift .«position_vector»)
 
 -- a state, and S and the matrix at its last time
-pub record Held (shift : Shift) (state : State) (s : Float) (m : Matrix) : Type 0 where
+pub record Current (shift : Shift) (state : State) (s : Float) (m : Matrix) : Type 0 where
   pub scale : s ≡ scaleOf shift (state .last)
   pub matrix : m ≡ matrixOf shift (state .last)
 
 -- the same after a tuple's time was met
 pub record Met (shift : Shift) (state : State) (time : Float) (now : State) (s : Float) (m : Matrix) : Type 0 where
   pub next : now ≡ nextOf shift state time
-  pub held : Held shift now s m
+  pub held : Current shift now s m
 
 module _ (shift : Shift) (state : State) (time : Float) where
   stays : ne time (state .last) ≡ false → nextOf shift state time ≡ state
@@ -45,7 +45,7 @@ module _ (shift : Shift) (state : State) (time : Float) where
       record { next = en; held = record { scale = es ∙ ap (scaleOf shift) last; matrix = em ∙ ap (matrixOf shift) last } }
 
   -- the last time again: all stays
-  pub met-again : ne time (state .last) ≡ false → {now : State} {s s₀ : Float} {m m₀ : Matrix} → now ≡ state → s ≡ s₀ → m ≡ m₀ → Held shift state s₀ m₀
+  pub met-again : ne time (state .last) ≡ false → {now : State} {s s₀ : Float} {m m₀ : Matrix} → now ≡ state → s ≡ s₀ → m ≡ m₀ → Current shift state s₀ m₀
       → Met shift state time now s m
   met-again h en es em held =
       let last = ap (λ (q : State). q .last) (sym en) in
@@ -56,7 +56,7 @@ module _ (shift : Shift) (state : State) (time : Float) where
       → Met shift state time now s (matrixOf shift (now .last))
   scaled-anew h en es = met-anew h en es (ap (matrixOf shift) (ap (λ (q : State). q .last) en ∙ moves h))
 
-  pub scaled-again : ne time (state .last) ≡ false → {now : State} {s s₀ : Float} → now ≡ state → s ≡ s₀ → Held shift state s₀ (matrixOf shift (state .last))
+  pub scaled-again : ne time (state .last) ≡ false → {now : State} {s s₀ : Float} → now ≡ state → s ≡ s₀ → Current shift state s₀ (matrixOf shift (state .last))
       → Met shift state time now s (matrixOf shift (now .last))
   scaled-again h en es held = met-again h en es (ap (matrixOf shift) (ap (λ (q : State). q .last) en)) held
 
