@@ -13,7 +13,7 @@ use Rattle.bodies.specs.Read.{stepOf}
 use Rattle.bodies.specs.declared.Step.the-variants.{Cart, Permtide, Deformation, Molodensky, Helmert}
 use Rattle.sheet.specs.declared.Entry.{Entry}
 use Rattle.lists.specs.Run.{Turns, ranOf, countOf}
-use Rattle.helmert_turns.specs.Turns.{noState, helmertTurns}
+use Rattle.helmert.specs.Turns.{noState, helmertTurns}
 use Rattle.runs.specs.Turns.{cartTurns, permtideTurns, molodenskyTurns}
 use Rattle.deformation_runs.specs.Turns.{deformationTurns}
 

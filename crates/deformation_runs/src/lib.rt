@@ -13,7 +13,7 @@ ghost use Rattle.tuple.specs.Columns.{rowOf};
 ghost use Rattle.geocart.specs.Geocart.{placeOf};
 ghost use Rattle.lists.specs.Run.{ranOf, countOf};
 ghost use Rattle.lists.specs.Sixteen.{rowAt, turnedOf, takenOf};
-ghost use Rattle.helmert_turns.specs.Turns.{noState};
+ghost use Rattle.helmert.specs.Turns.{noState};
 ghost use Rattle.deformation_runs.specs.Turns.{velocityAt, markAt, movedTurns, deformationTurns};
 use blocks::WIDTH;
 use deformation::Deformation;

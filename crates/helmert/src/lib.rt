@@ -504,7 +504,7 @@ pub fn running(shift: Shift, inv: bool, state: State, v: Tuple) -> Stepped
 }
 
 // A NaN time is read as t_epoch.
-fn own_time(shift: Shift, time: f64) -> f64
+pub fn own_time(shift: Shift, time: f64) -> f64
     ensures { λ r. ⌜ r ≡ ownTimeOf shift time ⌝ }
 {
     if floats::is_nan(time) {

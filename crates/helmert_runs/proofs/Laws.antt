@@ -13,7 +13,7 @@ use Rattle.helmert.specs.Modes.{stepOf, startOf, runningOf, ownEpochStepOf, fix
 use Rattle.lists.specs.Flat.{fourOf, numbersOf}
 use Rattle.lists.specs.Run.{Turn, ranOf}
 use Rattle.lists.proofs.Laws.{ran-alike}
-use Rattle.helmert_turns.specs.Turns.{noState, allTurns, steppedTurns, helmertTurns}
+use Rattle.helmert.specs.Turns.{noState, allTurns, steppedTurns, helmertTurns}
 
 -- ---- a step that leaves the state alone makes the same of a list from any
 

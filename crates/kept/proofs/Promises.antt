@@ -30,7 +30,7 @@ use Rattle.lists.specs.Flat.{numbersOf, tupleAt, putAt}
 use Rattle.lists.specs.Run.{Turns, ranOf, stateAfterOf}
 use Rattle.lists.proofs.Places.{put-none, put-length, put-take}
 use Rattle.lists.proofs.Laws.{ran-length}
-use Rattle.helmert_turns.specs.Turns.{helmertTurns}
+use Rattle.helmert.specs.Turns.{helmertTurns}
 use Rattle.chain.specs.Chain.{turnsOf, stateOf, reversedOf, stepListOf, Run, chainOf, entriesOf}
 use Rattle.chain.specs.Rules.{refusal10, overOne, ranOutcome, shiftOf}
 use Rattle.chain.proofs.Laws.{one-step-forward, one-step-inverse}

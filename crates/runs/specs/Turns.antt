@@ -11,7 +11,7 @@ use Rattle.molodensky.specs.declared.Molodensky.{Molodensky}
 use Rattle.molodensky.specs.Step.{mopedOf, commonOf}
 use Rattle.helmert.specs.declared.State.{State}
 use Rattle.lists.specs.Run.{Turns}
-use Rattle.helmert_turns.specs.Turns.{allTurns}
+use Rattle.helmert.specs.Turns.{allTurns}
 
 -- a step that sees the tuple alone, and says whether it counts
 abbrev pub plainTurns : (Tuple → Shifted) → Turns State

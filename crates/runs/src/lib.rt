@@ -12,7 +12,7 @@ ghost use Rattle.permtide.specs.Step.{fwdOf, invOf};
 ghost use Rattle.molodensky.specs.Step.{commonOf};
 ghost use Rattle.lists.specs.Run.{ranOf, countOf};
 ghost use Rattle.lists.specs.Sixteen.{turnedOf, takenOf};
-ghost use Rattle.helmert_turns.specs.Turns.{noState, allTurns};
+ghost use Rattle.helmert.specs.Turns.{noState, allTurns};
 ghost use Rattle.runs.specs.Turns.{plainTurns, cartTurns, permtideTurns, molodenskyTurns};
 use blocks::WIDTH;
 use cart::Cart;

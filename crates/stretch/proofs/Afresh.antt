@@ -16,7 +16,7 @@ use Rattle.lists.specs.Flat.{fourOf, numbersOf, tupleAt, putAt}
 use Rattle.lists.specs.Run.{Turns, ranOf, trackOf}
 use Rattle.lists.proofs.Places.{put-length}
 use Rattle.lists.proofs.Laws.{tracked-again}
-use Rattle.helmert_turns.specs.Turns.{helmertTurns}
+use Rattle.helmert.specs.Turns.{helmertTurns}
 use Rattle.stretch.specs.Kept.{trackedOf, keptOf, freshOf, stateTurns}
 
 -- ---- the list copied

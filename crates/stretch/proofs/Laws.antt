@@ -20,7 +20,7 @@ use Rattle.lists.specs.Run.{Turns, ranOf, trackOf, stateAfterOf}
 use Rattle.lists.proofs.Places.{from-place, put-there, put-none, put-length, put-drop}
 use Rattle.lists.proofs.Laws.{ran-length}
 use Rattle.stretch.specs.Kept.{trackedOf, heldOf, Kept, keptOf, freshOf, splicedOf, carriedAt, keptAt, Stretch, Redone, redoOf, beforeOf, putFix, correctedOf}
-use Rattle.helmert_turns.specs.Turns.{helmertTurns}
+use Rattle.helmert.specs.Turns.{helmertTurns}
 use Rattle.stretch.proofs.Again.{Again, againOf, again-short}
 use Rattle.stretch.proofs.Stretch.{redo-is-again}
 use Rattle.stretch.proofs.Meeting.{track-at, state-stays, Renewed, again-first, whole-take, ran-append, track-append, track-length}

@@ -13,7 +13,7 @@ use Rattle.helmert.specs.declared.State.{State}
 use Rattle.helmert.specs.Modes.{startOf, nextOf, isRunningOf}
 use Rattle.lists.specs.Flat.{fourOf, tupleAt, putAt}
 use Rattle.lists.specs.Run.{Turns, ranOf, trackOf, stateAfterOf}
-use Rattle.helmert_turns.specs.Turns.{helmertTurns}
+use Rattle.helmert.specs.Turns.{helmertTurns}
 use Rattle.stretch.specs.Same.{alikeOf}
 
 -- ---- a run

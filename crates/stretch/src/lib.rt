@@ -16,7 +16,7 @@ ghost use Rattle.stretch.specs.Same.{alikeNumberOf, alikeOf};
 ghost use Rattle.stretch.specs.Kept.{trackedOf, heldOf, keptOf, freshOf, redoneOf, redoOf, beforeOf, correctedOf, stateTurns, fitOf, freshRunOf, putRightOf};
 ghost use Rattle.helmert.specs.Modes.{prepareOf, startOf, isRunningOf};
 ghost use Rattle.lists.specs.Run.{trackOf};
-ghost use Rattle.helmert_turns.specs.Turns.{helmertTurns};
+ghost use Rattle.helmert.specs.Turns.{helmertTurns};
 use helmert::Helmert;
 use helmert::Shift;
 use helmert::State;

@@ -11,7 +11,7 @@ use Rattle.helmert.specs.Modes.{prepareOf, startOf}
 use Rattle.bodies.specs.declared.Step.the-variants.{Cart as cartStep, Helmert as helmertStep}
 use Rattle.sheet.specs.declared.Entry.{Entry}
 use Rattle.lists.specs.Run.{ranOf, countOf}
-use Rattle.helmert_turns.specs.Turns.{noState, helmertTurns}
+use Rattle.helmert.specs.Turns.{noState, helmertTurns}
 use Rattle.runs.specs.Turns.{cartTurns}
 use Rattle.chain.specs.declared.Answer.{Answer}
 use Rattle.chain.specs.Chain.{reversedOf, turnsOf, stateOf, stepListOf, tuplesCountedOf}

@@ -14,7 +14,7 @@ use Rattle.helmert.specs.Modes.{prepareOf, startOf}
 use Rattle.bodies.specs.declared.Step.{Step}
 use Rattle.bodies.specs.declared.Step.the-variants.{Cart, Permtide, Deformation, Molodensky, Helmert}
 use Rattle.lists.specs.Run.{Turn, Turns}
-use Rattle.helmert_turns.specs.Turns.{noState, allTurns, helmertTurns}
+use Rattle.helmert.specs.Turns.{noState, allTurns, helmertTurns}
 use Rattle.runs.specs.Turns.{plainTurns}
 use Rattle.deformation_runs.specs.Turns.{movedTurns}
 use Rattle.thin.specs.declared.Plan.{Plan}

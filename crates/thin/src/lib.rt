@@ -10,7 +10,7 @@
 ghost use mathlib.Core.Path.{_≡_};
 ghost use mathlib.Core.Bool.{true, false, cond};
 ghost use Prim.Native.Nat.{_+_, _<_};
-ghost use Rattle.helmert_turns.specs.Turns.{noState};
+ghost use Rattle.helmert.specs.Turns.{noState};
 ghost use Rattle.sheet.specs.Rules.{ofCall};
 ghost use Rattle.chain.specs.Rules.{refusedAnswer, outcome, shiftOf};
 ghost use Rattle.thin.specs.Tuples.{stepTuplesOf, stepTallyOf, flatOf};

@@ -7,7 +7,7 @@ use mathlib.Core.Path.{_≡_, refl, ap}
 use Rattle.tuple.specs.declared.Shifted.{Shifted}
 use Rattle.lists.proofs.Laws.{Ran, Counted, Onward, CountedOnward, ran-start, ran-end, onward-start, onward-again, count-start, count-end, count-onward-start, count-onward-again}
 use Rattle.lists.proofs.Sixteen.{taken-few, ran-again-sixteen, count-again-sixteen}
-use Rattle.helmert_turns.specs.Turns.{noState}
+use Rattle.helmert.specs.Turns.{noState}
 use Rattle.deformation_runs.specs.Turns.{movedTurns}
 use Rattle.deformation_runs.proofs.deformation_common.Statement.{statement}
 use Rattle.deformation_runs.proofs.deformation_common.Tie as tie

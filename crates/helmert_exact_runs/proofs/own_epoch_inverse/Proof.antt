@@ -8,8 +8,8 @@ use mathlib.Core.Logic.{⊎-elim}
 use mathlib.Core.Path.{_≡_, refl}
 use Rattle.helmert.specs.Modes.{ownTimeOf, ownEpochStepOf}
 use Rattle.lists.proofs.Laws.{Ran, ran-start, ran-again, ran-end}
-use Rattle.helmert_turns.specs.Turns.{noState, allTurns}
-use Rattle.helmert_turns.proofs.Current.{own-epoch-turn}
+use Rattle.helmert.specs.Turns.{noState, allTurns}
+use Rattle.helmert.proofs.Current.{own-epoch-turn}
 use Rattle.helmert_exact_runs.specs.Ahead.{Ahead}
 use Rattle.helmert_exact_runs.proofs.Laws.{none-ahead, same-ahead, ahead-here, ahead-on}
 use Rattle.helmert_exact_runs.proofs.own_epoch_inverse.Statement.{statement}

@@ -4,7 +4,7 @@ use borrow.Author.Needs.{needs}
 use lib.ListN.{length}
 use Rattle.helmert.specs.Apply.{forwardOf}
 use Rattle.lists.proofs.Laws.{Ran, ran-start, ran-again, ran-end}
-use Rattle.helmert_turns.specs.Turns.{noState, allTurns}
+use Rattle.helmert.specs.Turns.{noState, allTurns}
 use Rattle.helmert_runs.proofs.helmert_forward.Statement.{statement}
 use Rattle.helmert_runs.proofs.helmert_forward.Tie as tie
 

@@ -6,8 +6,8 @@ use lib.ListN.{length}
 use mathlib.Core.Bool.{true, false}
 use Rattle.helmert.specs.Modes.{ownEpochStepOf}
 use Rattle.lists.proofs.Laws.{Ran, ran-start, ran-again, ran-end}
-use Rattle.helmert_turns.specs.Turns.{noState, allTurns}
-use Rattle.helmert_turns.proofs.Current.{own-epoch-turn}
+use Rattle.helmert.specs.Turns.{noState, allTurns}
+use Rattle.helmert.proofs.Current.{own-epoch-turn}
 use Rattle.helmert_runs.proofs.own_epoch_coordinate_frame_forward.Statement.{statement}
 use Rattle.helmert_runs.proofs.own_epoch_coordinate_frame_forward.Tie as tie
 

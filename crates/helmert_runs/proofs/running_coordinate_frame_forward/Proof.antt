@@ -9,8 +9,8 @@ use mathlib.Core.Path.{_≡_, ap, _∙_}
 use Rattle.helmert.specs.declared.Stepped.{Stepped}
 use Rattle.helmert.specs.Modes.{runningOf}
 use Rattle.lists.proofs.Laws.{Ran, ran-start, ran-again, ran-end}
-use Rattle.helmert_turns.specs.Turns.{steppedTurns}
-use Rattle.helmert_turns.proofs.Current.{Current, met-anew, met-again, held-turn}
+use Rattle.helmert.specs.Turns.{steppedTurns}
+use Rattle.helmert.proofs.Current.{Current, met-anew, met-again, held-turn}
 use Rattle.helmert_runs.proofs.running_coordinate_frame_forward.Statement.{statement}
 use Rattle.helmert_runs.proofs.running_coordinate_frame_forward.Tie as tie
 

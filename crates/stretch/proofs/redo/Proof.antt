@@ -6,7 +6,7 @@ use mathlib.Core.Path.{sym, ap, _∙_}
 use lib.ListN.{length}
 use Rattle.helmert.specs.declared.Stepped.{Stepped}
 use Rattle.stretch.specs.Kept.{trackedOf}
-use Rattle.helmert_turns.specs.Turns.{helmertTurns}
+use Rattle.helmert.specs.Turns.{helmertTurns}
 use Rattle.stretch.proofs.Again.{Redoing, redoing-start, redoing-again, redoing-stop, redoing-end, redoing-results-long, redoing-track-long}
 use Rattle.stretch.proofs.Stretch.{again-redoes}
 use Rattle.stretch.proofs.redo.Statement.{statement}
