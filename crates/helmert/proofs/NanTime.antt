@@ -1,6 +1,7 @@
--- One NaN time spoils T for the rest of a list. In running mode a NaN time is equal to no last time, so T grows by (NaN - t_epoch)·DT,
--- which is NaN on all three axes whatever DT is, also where it is zero. A T of NaNs stays so: it grows from NaN or is kept. From that
--- fix on every result is three NaNs with the fix's own time, forward and inverse, rotated or not. Assumes nothing.
+-- One NaN time spoils T for the rest of a list. In running mode a NaN time is equal to no last
+-- time, so T grows by (NaN - t_epoch)·DT, which is NaN on all three axes whatever DT is, also where
+-- it is zero. A T of NaNs stays so: it grows from NaN or is kept. From that fix on every result is
+-- three NaNs with the fix's own time, forward and inverse, rotated or not. Assumes nothing.
 use Prim.Native.Nat.{ℕ, zero, suc, _+_, _-_, _*_, _≤_}
 use native.Mathlib.Omega.{arith}
 use mathlib.Core.Path.{_≡_, refl, sym, ap, _∙_, subst}
@@ -73,7 +74,8 @@ module _ (shift : Shift) (inv : Bool) (running : isRunningOf shift ≡ true) whe
   -- ---- over a list
 
   module _ (l : List Float) (i : ℕ) (there : 4 * i + 4 ≤ length l) (nan-time : tupleAt l (4 * i) .t ≡ nan) where
-    -- after fix i, whose time is NaN, and after every later fix the carried T is NaN on all three axes
+    -- after fix i, whose time is NaN, and after every later fix the carried T is NaN on all three
+    -- axes
     pub carried-T-is-spoilt : (j : ℕ) → i ≤ j → stateAfterOf f 0 (startOf shift) (take (4 * suc j) l) .t ≡ nothing3
     carried-T-is-spoilt j h = carried-from 0 (startOf shift) l i (4 * suc j) there nan-time (omega arith)
 

@@ -1,5 +1,6 @@
--- A step over a list, looked at fix by fix: the result of fix j is its turn in the state that the run carries to it, and the state
--- written after fix j is the one that the run carries from it. For any step. Assumes nothing.
+-- A step over a list, looked at fix by fix: the result of fix j is its turn in the state that the
+-- run carries to it, and the state written after fix j is the one that the run carries from it. For
+-- any step. Assumes nothing.
 use Prim.Native.Nat.{ℕ, zero, suc, _+_, _-_, _*_, _≤_}
 use native.Mathlib.Omega.{arith}
 use native.Mathlib.Nat.{add-assoc, add-zero}
