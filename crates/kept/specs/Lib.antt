@@ -1,2 +1,3 @@
--- What the contracts of `kept` cite.
+-- What the contracts of `kept` cite; and P6.
 pub mod Entries
+pub mod MarkedPoints
