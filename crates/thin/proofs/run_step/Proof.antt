@@ -267,11 +267,11 @@ module _ {M : Type 1} (𝓤 : URA M) (H : Heap 𝓤) (A : Atoms 𝓤) (W : Given
   abbrev Tokens : Item 𝓤
   Tokens = ‵ (flft κ₁ q₁) ⊛ ‵ (flft κ₂ q₂) ⊛ ‵ ftrue
 
-  abbrev Lent : Item 𝓤
-  Lent = ‵ OwnV ⊛ ‵ OwnM
+  abbrev LentLists : Item 𝓤
+  LentLists = ‵ OwnV ⊛ ‵ OwnM
 
   abbrev Lent : Item 𝓤
-  Lent = Tokens ⊛ Lent
+  Lent = Tokens ⊛ LentLists
 
   module _ (plan : Plan) (pv : Val) (p-is : Is P.the-row plan (pv ∷ [])) (at : Carried) (i : ℕ) (u : Tuple) where
     abbrev to-turn : TurnOf 𝓤 H A mem run .Ghost
@@ -288,7 +288,7 @@ module _ {M : Type 1} (𝓤 : URA M) (H : Heap 𝓤) (A : Atoms 𝓤) (W : Given
 
     -- what `turn` asks is had of what is lent, and what the two slices own is kept
     asks-turn : Is C.the-row at (carried-val at ∷ []) → i < 2 ^ 64 → Is T.the-row u (tuple-val u ∷ []) → at .counted < 18446744073709551615
-        → ent 𝓤 (mean 𝓤 H A Lent) (sep 𝓤 (TurnOf 𝓤 H A mem run .pre to-turn) (mean 𝓤 H A Lent))
+        → ent 𝓤 (mean 𝓤 H A Lent) (sep 𝓤 (TurnOf 𝓤 H A mem run .pre to-turn) (mean 𝓤 H A LentLists))
     asks-turn c-is i-fits u-is few =
         qed W (Lent ∷ []) ∵ split ! $ move ! (1 ∷ []) $ split ! $
         use1 W (‵ OwnV ⊛ ‵ OwnV) (shr-slice-copy 𝓤 H A W (named 1) κ₁ f64 .twice velocities (vv ∷ [])) $ split ! $ move ! (2 ∷ []) $
@@ -337,7 +337,7 @@ module _ {M : Type 1} (𝓤 : URA M) (H : Heap 𝓤) (A : Atoms 𝓤) (W : Given
   lent = Lent 𝓤 H A W mem run κ₁ κ₂ q₁ q₂ velocities marks
 
   abbrev kept : Item 𝓤
-  kept = Lent 𝓤 H A W mem run κ₁ κ₂ q₁ q₂ velocities marks
+  kept = LentLists 𝓤 H A W mem run κ₁ κ₂ q₁ q₂ velocities marks
 
   abbrev tokens : Item 𝓤
   tokens = Tokens 𝓤 H A W mem run κ₁ κ₂ q₁ q₂ velocities marks
