@@ -1,4 +1,7 @@
--- `arctan_block::mend` meets its contract. Assumes nothing.
+-- Invariant: the first i numbers of r are mended (`mendedAt`), and the others are still the angles
+-- that r came with. So the angle that a turn reads at i is the one that came there; it writes what
+-- `mended` makes of it, and the numbers after i stay. At i = 16 the whole block is mended. The
+-- measure is 16 - i. Assumes nothing.
 use borrow.Author.Needs.{needs}
 use Prim.Native.Nat.{ℕ, _-_}
 use mathlib.Core.Path.{_∙_}
