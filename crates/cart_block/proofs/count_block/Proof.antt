@@ -1,4 +1,6 @@
--- `cart_block::count_block` meets its contract. Assumes nothing.
+-- Invariant: n is how many of the first i tuples have no NaN (`countTo`, `anyNanOf`), n is at most
+-- i, and i at most 16, so n does not overflow. A turn adds 1 or 0 for tuple i (`one-counted`). At
+-- i = 16 n is the count of the block (`all-counted`). The measure is 16 - i. Assumes nothing.
 use Prim.Native.Nat.{ℕ, _-_}
 use native.Mathlib.Omega.{arith}
 use mathlib.Core.Path.{ap, _∙_}

@@ -1,4 +1,7 @@
--- `cart_block::count_off_axis_block` meets its contract. Assumes nothing.
+-- Invariant: n is how many of the first i tuples have no NaN and a distance p from the axis that is
+-- not below the cutoff (`countTo`, `countsOf`); n is at most i, and i at most 16, so n does not
+-- overflow. A turn asks `counts_at` about tuple i and adds 1 or 0 (`one-counted`). At i = 16 n is
+-- the count of the block (`all-counted`). The measure is 16 - i. Assumes nothing.
 use Prim.Native.Nat.{ℕ, _-_}
 use native.Mathlib.Omega.{arith}
 use mathlib.Core.Path.{ap, _∙_}

@@ -1,4 +1,7 @@
--- `cart_block::level_block` meets its contract. Assumes nothing.
+-- Invariant: the first i numbers of h are the heights of the first i points (`UpTo`, `levelOf`):
+-- from S1, CC and the two hypotenuses, and a pole's within the cutoff of the axis. A turn writes
+-- the height that `level` gives for point i (`one-more`). At i = 16 the whole block is filled
+-- (`all-filled`). The measure is 16 - i. Assumes nothing.
 use Prim.Native.Nat.{ℕ, _-_}
 use mathlib.Core.Path.{refl, ap}
 use Rattle.blocks.specs.Each.{at, UpTo}

@@ -1,4 +1,7 @@
--- `cart_block::meridian_block` meets its contract. Assumes nothing.
+-- Invariant: the first i numbers of s1 and of cc are S1 and CC of the first i points, from p, Z and
+-- the hypotenuse in a (`UpTo`, once for each column). A turn calls `meridian` once for point i and
+-- writes both numbers (`one-more`). At i = 16 both columns are filled (`all-filled`). The measure
+-- is 16 - i. Assumes nothing.
 use Prim.Native.Nat.{ℕ, _-_}
 use mathlib.Core.Path.{refl, ap}
 use Rattle.blocks.specs.Each.{at, UpTo}

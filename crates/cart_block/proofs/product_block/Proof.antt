@@ -1,4 +1,6 @@
--- `cart_block::product_block` meets its contract. Assumes nothing.
+-- Invariant: the first i numbers of r are those of s1 times k.ar, each rounded once (`UpTo`). A
+-- turn writes the product at i (`one-more`). At i = 16 the whole block is filled (`all-filled`).
+-- The measure is 16 - i. Assumes nothing.
 use Prim.Native.Nat.{ℕ, _-_}
 use mathlib.Core.Path.{refl, ap}
 use Rattle.blocks.specs.Each.{at, UpTo}

@@ -1,4 +1,7 @@
--- `cart_block::reduced_block` meets its contract. Assumes nothing.
+-- Invariant: the first i numbers of s0 are S0 = ra·Z of the first i points, and those of c0 are
+-- C0 = ar·(ra·p), each product rounded (`UpTo`, once for each column). A turn writes both numbers
+-- at i (`one-more`). At i = 16 both columns are filled (`all-filled`). The measure is 16 - i.
+-- Assumes nothing.
 use Prim.Native.Nat.{ℕ, _-_}
 use mathlib.Core.Path.{refl}
 use Rattle.blocks.specs.Each.{at, UpTo}

@@ -1,4 +1,7 @@
--- `geocart_block::point_block` meets its contract. Assumes nothing.
+-- Invariant: the first i numbers of x, y and z are those of the first i points, from √w, the height
+-- and the sines and cosines of latitude and longitude (`UpTo`, once for each column, `pointOf`). A
+-- turn calls `point_at` once for point i and writes its three numbers (`one-more`). At i = 16 the
+-- three columns are filled (`all-filled`). The measure is 16 - i. Assumes nothing.
 use Prim.Native.Nat.{ℕ, _-_}
 use mathlib.Core.Path.{refl, ap}
 use Rattle.blocks.specs.Each.{at, UpTo}

@@ -1,4 +1,7 @@
--- `geocart_block::tangent_block` meets its contract. Assumes nothing.
+-- Invariant: the first i numbers of t are T of the first i points (`tangentOf`), and those of u are
+-- 1 + T² (`UpTo`, once for each column). A turn computes T once for point i (`tangent`) and writes
+-- both numbers (`one-more`). At i = 16 both columns are filled (`all-filled`). The measure is
+-- 16 - i. Assumes nothing.
 use Prim.Native.Nat.{ℕ, _-_}
 use mathlib.Core.Path.{refl, ap}
 use Rattle.blocks.specs.Each.{at, UpTo}

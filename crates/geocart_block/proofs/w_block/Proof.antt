@@ -1,4 +1,6 @@
--- `geocart_block::w_block` meets its contract. Assumes nothing.
+-- Invariant: the first i numbers of w are w of the first i sines (`UpTo`, `wOf`). A turn writes the
+-- number at i with the definition's own roundings (`one-more`). At i = 16 the whole block is filled
+-- (`all-filled`). The measure is 16 - i. Assumes nothing.
 use Prim.Native.Nat.{ℕ, _-_}
 use mathlib.Core.Path.{refl}
 use Rattle.blocks.specs.Each.{at, UpTo}
