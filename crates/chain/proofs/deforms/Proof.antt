@@ -1,4 +1,7 @@
--- `chain::deforms` meets its contract. Assumes nothing.
+-- Invariant: found says whether one of the first i steps is a deformation step (`hasDeformation`),
+-- and i is at most n. A turn asks whether the kind of step i, as the directory has it (`kindAt`),
+-- is 5, and found then speaks of one step more (`before-next`). The loop ends at i = n, so found is
+-- the answer for all n steps. The measure is n - i. Assumes nothing.
 use borrow.Author.Needs.{needs}
 use native.Mathlib.Omega.{arith}
 use Prim.Native.Nat.{_+_, _*_, _-_, _≤_}
