@@ -1,4 +1,8 @@
--- `faults::first_fault` meets its contract. Assumes nothing.
+-- Invariant: end is where the body before entry i ends (`endBefore`), and the first fault from
+-- entry 0 on is the first from entry i on (`firstFault`). A fault at entry i is the answer
+-- (`fault-here`); if there is none, the search goes on at entry i + 1 with the end that `end_at`
+-- gives (`fault-later`). With no entry left the answer is byte 4 (`fault-none`); n is at most 16,
+-- so every answer is below 2^32. The measure is n - i. Assumes nothing.
 use borrow.Author.Needs.{needs}
 use native.Mathlib.Omega.{arith}
 use mathlib.Core.Path.{_≡_, refl, sym, _∙_}
