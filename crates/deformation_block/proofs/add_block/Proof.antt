@@ -1,4 +1,7 @@
--- `deformation_block::add_block` meets its contract. Assumes nothing.
+-- Invariant (`Over`): the first i numbers of r are the sums v + r, NaN where the mark is not 1
+-- (`keptOf`), and the others are still the corrections that r came with. So the correction that a
+-- turn reads at i is the one that came there, and it writes what `kept` makes of the sum. At i = 16
+-- the whole block is written (`all-over`). The measure is 16 - i. Assumes nothing.
 use Prim.Native.Nat.{ℕ, _-_}
 use borrow.Author.Needs.{needs}
 use mathlib.Core.Path.{_∙_}

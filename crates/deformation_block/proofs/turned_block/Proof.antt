@@ -1,4 +1,8 @@
--- `deformation_block::turned_block` meets its contract. Assumes nothing.
+-- Invariant (`Over`, once for each column): the first i numbers of dx, dy and dz are the
+-- corrections of the first i tuples (`turnedAt`), and the others are still what came there, the
+-- sines and cosines of the latitudes and the cosines of the longitudes. So a turn reads at i what
+-- came there, and writes the three numbers of the correction over it. At i = 16 the three columns
+-- are written (`all-over`). The measure is 16 - i. Assumes nothing.
 use Prim.Native.Nat.{ℕ, _-_}
 use borrow.Author.Needs.{needs}
 use native.Mathlib.Nat.{le-refl}

@@ -1,4 +1,11 @@
--- `deformation_runs::deformation_common` meets its contract. Assumes nothing.
+-- The first loop takes sixteen fixes a turn: the first i numbers of the list, followed by the run
+-- of the rest, are the run of the whole list (`Ran`), and n plus the count of the rest is the whole
+-- count (`Counted`); `ran-again-sixteen` and `count-again-sixteen` keep both. The second takes one
+-- fix a turn: if both held where the first loop ended, they hold at i (`Onward`, `CountedOnward`);
+-- `onward-again` and `count-onward-again` keep that. With fewer than four numbers left, list and n
+-- are the whole run and its count (`ran-end`, `count-end`). The list is shorter than 2^64 numbers
+-- and n is at most i, so neither i nor n overflows; each measure is what is left of the list.
+-- Assumes nothing.
 use Prim.Native.Nat.{_-_, _^_, _<_}
 use borrow.Author.Needs.{needs}
 use native.Mathlib.Omega.{arith}

@@ -1,4 +1,6 @@
--- `deformation_runs::mark_block` meets its contract. Assumes nothing.
+-- Invariant: the first j numbers of m are the marks of the fixes from index k on (`WholeUpTo`,
+-- `markAt`). A turn writes the mark of fix k + j, which `mark_at` reads; k is below 2^62, so k + j
+-- does not overflow. At j = 16 the whole block is filled. The measure is 16 - j. Assumes nothing.
 use Prim.Native.Nat.{ℕ, _+_, _-_}
 use borrow.Author.Needs.{needs}
 use mathlib.Core.Path.{refl}
