@@ -1,4 +1,8 @@
--- `lists::read_block` meets its contract. Assumes nothing.
+-- Where fewer than sixteen fixes stand from `at` on, the columns stay sixteen NaNs, as `rowAt` has
+-- it (`none-there`). Otherwise the invariant is that the first i elements of each column are the
+-- numbers of the first i fixes (`UpTo`). A turn reads the four numbers of one more fix (`row-read`)
+-- into the four columns (`one-more`), and at i = 16 each column is filled (`all-filled`). The
+-- measure is 16 - i. Assumes nothing.
 use borrow.Author.Needs.{needs}
 use Prim.Native.Nat.{ℕ, _+_, _*_, _-_, _≤_, _<_}
 use mathlib.Core.Path.{_≡_, refl, ap, sym, _∙_}

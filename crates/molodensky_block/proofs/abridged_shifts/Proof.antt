@@ -1,4 +1,8 @@
--- `molodensky_block::abridged_shifts` meets its contract. Assumes nothing.
+-- The offsets are written over three columns that they are computed from. Invariant: the first i
+-- elements of dlam, dphi and dh are the offsets of the columns as they stood at the start
+-- (`abridgedAt`), and the others are as they stood (`Over`). So what a turn reads is what stood
+-- there (`still`), and it writes one offset more in each column (`one-more-over`). At i = 16 every
+-- element is an offset (`all-filled`). The measure is 16 - i. Assumes nothing.
 use Prim.Native.Nat.{ℕ, _-_}
 use borrow.Author.Needs.{needs}
 use Rattle.blocks.proofs.Laws.{all-filled}

@@ -1,4 +1,6 @@
--- `molodensky_block::doubled` meets its contract. Assumes nothing.
+-- Invariant: r is a block whose first i elements are twice those of x (`UpTo`). A turn writes one
+-- more (`one-more`), and at i = 16 all are written (`all-filled`). The measure is 16 - i.
+-- Assumes nothing.
 use Prim.Native.Nat.{ℕ, _-_}
 use borrow.Author.Needs.{needs}
 use mathlib.Core.Path.{refl}

@@ -1,4 +1,9 @@
--- `molodensky_block::full_shifts` meets its contract. Assumes nothing.
+-- The offsets dlam and dphi are written over the columns that they are computed from, and dh over
+-- zeros. Invariant: the first i elements of the three are the offsets of the columns as they stood
+-- at the start (`fullAt`), and the others of dlam and dphi are as they stood (`Over`; `UpTo` for
+-- dh). So what a turn reads is what stood there (`still`), and it writes one offset more in each
+-- column (`one-more-over`, `one-more`). At i = 16 every element is an offset (`all-filled`). The
+-- measure is 16 - i. Assumes nothing.
 use Prim.Native.Nat.{ℕ, _-_}
 use borrow.Author.Needs.{needs}
 use mathlib.Core.Path.{refl}

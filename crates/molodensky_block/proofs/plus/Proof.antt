@@ -1,4 +1,7 @@
--- `molodensky_block::plus` meets its contract. Assumes nothing.
+-- Invariant: the first i elements of d are those of x plus the offsets that d held at the start,
+-- and the others are still those offsets (`Over`). So a turn adds the offset that stood there
+-- (`still`) and writes one element more (`one-more-over`). At i = 16 all are written
+-- (`all-filled`). The measure is 16 - i. Assumes nothing.
 use Prim.Native.Nat.{ℕ, _-_}
 use borrow.Author.Needs.{needs}
 use Rattle.floats.specs.Binary64.{_⊕_}

@@ -1,4 +1,6 @@
--- `molodensky_block::ws` meets its contract. Assumes nothing.
+-- Invariant: w is a block whose first i elements are 1 - es·sin²φ for the first i sines (`UpTo`,
+-- `wOf`). A turn writes one more by the contract of `w_at` (`one-more`), and at i = 16 all are
+-- written (`all-filled`). The measure is 16 - i. Assumes nothing.
 use Prim.Native.Nat.{ℕ, _-_}
 use borrow.Author.Needs.{needs}
 use mathlib.Core.Path.{refl}

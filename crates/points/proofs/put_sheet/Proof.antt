@@ -1,4 +1,6 @@
--- `points::put_sheet` meets its contract. Assumes nothing.
+-- Invariant: i is at most n, and the room is as long as at the start. The contract says nothing of
+-- the bytes. The proof is that n, at most 17, and i, below n, are what `narrow` and `put_step` ask
+-- for, that no arithmetic overflows, and that the loop ends. The measure is n - i. Assumes nothing.
 use borrow.Author.Needs.{needs}
 use mathlib.Core.Path.{_≡_}
 use Prim.Native.Nat.{_≤_, _-_}

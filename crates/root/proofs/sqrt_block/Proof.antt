@@ -1,4 +1,9 @@
--- `root::sqrt_block` meets its contract: the first loop fills g with guesses, of which only the number of their digits is known, the second r with roots. Assumes nothing.
+-- The first loop's invariant: g is a block whose first i elements are guesses, of which no more is
+-- known than that they have 53 digits (`Guesses`); a turn adds one by the contract of `guess`
+-- (`one-guess-more`). The second loop's invariant: r is a block whose first j elements are the
+-- roots of those of x (`UpTo`); a turn adds one, since `from_guess` gives the root from any such
+-- guess (`one-more`). At j = 16 all are roots (`all-filled`). The measures are 16 - i and 16 - j.
+-- Assumes nothing.
 use Prim.Native.Nat.{ℕ, _+_, _-_, _≤_, _<_}
 use native.Mathlib.Nat.{eq-or-lt-of-le, lt-irrefl, not-suc-le-zero}
 use native.Mathlib.Omega.{arith}

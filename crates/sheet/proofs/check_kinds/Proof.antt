@@ -1,4 +1,8 @@
--- `sheet::check_kinds` meets its contract. Assumes nothing.
+-- Invariant: `before` tells whether a step before i is a deformation step (`hasDeformation`), and
+-- the first refusal by rule 11 among the n steps is the first among the steps from i on
+-- (`elevens`). A turn at a second deformation step returns that refusal (`elevens-off`); any other
+-- goes on (`elevens-on`) and brings `before` up to i + 1 (`before-next`). With no step left nothing
+-- is refused (`elevens-end`). The measure is n - i. Assumes nothing.
 use borrow.Author.Needs.{needs}
 use native.Mathlib.Omega.{arith}
 use mathlib.Core.Path.{_≡_, refl, sym, ap, _∙_}

@@ -1,4 +1,9 @@
--- `sheet::directory_broken` meets its contract. Assumes nothing.
+-- The directory's offset and its end are tested before the loop, and either alone breaks rule 4.
+-- Invariant: `end` is where the body before step i ends (`endBefore`), and some of the n steps
+-- stands wrongly in the directory if and only if one from i on does (`someFrom`, `placeBroken`). A
+-- turn that finds step i wrong returns true (`some-off`); any other goes on (`some-on`), and
+-- `end_at` gives the new end. With no step left none is wrong (`some-end`), and the last end is
+-- compared with the total length. The measure is n - i. Assumes nothing.
 use borrow.Author.Needs.{needs}
 use native.Mathlib.Omega.{arith}
 use mathlib.Core.Path.{_≡_, refl, sym, ap, _∙_}

@@ -1,4 +1,8 @@
--- `sheet_writer::put_bodies` meets its contract. Assumes nothing.
+-- Invariant: the room is the one at the start with the first i bodies put where the directory ends
+-- (`bodiesBytes`), and as long as that; `start` is where body i starts (`bodyStart`), at most 248
+-- bytes a body past the directory. A turn puts body i there, which ends within the room
+-- (`ends-within`) and is one body more (`bodies-next`), and moves `start` past it (`start-next`).
+-- At i = n all bodies are put. The measure is n - i. Assumes nothing.
 use borrow.Author.Needs.{needs}
 use native.Mathlib.Omega.{arith}
 use mathlib.Core.Path.{_≡_, refl, sym, ap, _∙_}

@@ -1,4 +1,8 @@
--- `sheet_writer::put_directory` meets its contract. Assumes nothing.
+-- Invariant: the room is the one at the start with the directory's words of the first i steps put
+-- at 16 (`directoryBytes`), and as long as that; `start` is where body i starts (`bodyStart`), at
+-- most 248 bytes a body past the directory. A turn puts the words of step i (`directory-next`) and
+-- moves `start` past its body (`start-next`). At i = n the directory is written. The measure is
+-- n - i. Assumes nothing.
 use borrow.Author.Needs.{needs}
 use native.Mathlib.Omega.{arith}
 use mathlib.Core.Path.{_≡_, refl, sym, ap, _∙_}

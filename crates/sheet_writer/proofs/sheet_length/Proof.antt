@@ -1,4 +1,7 @@
--- `sheet_writer::sheet_length` meets its contract. Assumes nothing.
+-- Invariant: `end` is where body i starts (`bodyStart`), at most 248 bytes a body past the
+-- directory. A turn adds the length of body i (`start-next`), which is at most 248. At i = n `end`
+-- is where the last body ends, which is the sheet's length, and with sixteen steps at most 4,240.
+-- The measure is n - i. Assumes nothing.
 use borrow.Author.Needs.{needs}
 use native.Mathlib.Omega.{arith}
 use mathlib.Core.Path.{_≡_, refl, sym, ap, _∙_}

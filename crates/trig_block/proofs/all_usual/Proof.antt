@@ -1,4 +1,6 @@
--- `trig_block::all_usual` meets its contract. Assumes nothing.
+-- Invariant: `all` tells whether each of the first i angles is usual (`Tells`, `usualOf`). A turn
+-- asks one more angle by the contracts of `usual` and `still` (`one-asked`). At i = 16 all are
+-- asked (`all-asked`). The measure is 16 - i. Assumes nothing.
 use Prim.Native.Nat.{ℕ, _-_}
 use borrow.Author.Needs.{needs}
 use Rattle.blocks.specs.Each.{at}

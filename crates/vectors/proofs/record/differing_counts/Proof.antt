@@ -1,4 +1,6 @@
--- `vectors::differing_counts` meets its contract. Assumes nothing.
+-- Invariant: n is the number of the first i counts that differ from the words told (`differingOf`),
+-- and so at most i. A turn adds what `differing` finds for one more (`differing-next`). At i = 16
+-- it is `differingCounts`, at most 16. The measure is 16 - i. Assumes nothing.
 use Prim.Native.Nat.{ℕ, _+_, _*_, _-_, _≤_, _<_}
 use native.Mathlib.Omega.{arith}
 use mathlib.Core.Path.{_≡_}
