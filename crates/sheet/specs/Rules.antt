@@ -1,5 +1,7 @@
--- The rules of the sheet by document 01's numbers. `refusalN` says when refusal N is given: its rule is broken.
--- The order in which they are asked stands in `readerOrder`; an answer is the first that is broken. A record's rules and the writer's order stand in sheet_writer.
+-- The rules of the sheet by document 01's numbers: `refusal1` to `refusal8` and `refusal11` say
+-- when the rule of that number is broken. The order in which they are asked stands in
+-- `readerOrder`; an answer is the first that is broken. A record's rules and the writer's order
+-- stand in sheet_writer.
 use Prim.Native.Nat.{ℕ, zero, suc, _+_}
 use mathlib.Core.List.{List, [], _∷_, _++_}
 use mathlib.Core.Bool.{Bool, false, not, cond, _&&_, _||_}

@@ -1,7 +1,8 @@
-//! Second oracle: every bit of our answers beside those of the published code over our kernels, and what `sillfeather_check` says of
-//! each sheet beside the Rust's `new`. No tolerance.
+//! The same-bits run (document 01's second oracle): every bit of our answers beside those of the published
+//! code over our kernels, and what `sillfeather_check` says of each sheet beside the Rust's `new`. No
+//! tolerance.
 //!
-//!     second [tuples a suite and direction, 50000] [seed, 1]
+//!     same_bits [tuples a suite and direction, 50000] [seed, 1]
 use compare::{draw, random::Random, suites::SUITES, tell};
 use std::process::ExitCode;
 
@@ -19,7 +20,7 @@ struct Tally {
 fn main() -> ExitCode {
     let mut args = std::env::args().skip(1).map(|a| a.parse::<u64>().expect("a number"));
     let (wanted, seed) = (args.next().unwrap_or(50_000) as usize, args.next().unwrap_or(1));
-    println!("second oracle: {wanted} tuples a suite and direction, seed {seed}");
+    println!("same-bits run: {wanted} tuples a suite and direction, seed {seed}");
     let (mut passed, mut failed) = (0, 0);
     for (i, suite) in SUITES.iter().enumerate() {
         for inverse in [false, true] {

@@ -1,7 +1,8 @@
-//! First oracle: our answers beside the published code with the C library's kernels, within 1e-7 m and 1e-14 rad, over
-//! |h| ≤ 100 km, |latitude| ≤ 80° and the parameters of published shifts. Prints the largest difference of each step.
+//! The near run (document 01's first oracle): our answers beside the published code with the C library's
+//! kernels, within 1e-7 m and 1e-14 rad, over |h| ≤ 100 km, |latitude| ≤ 80° and the parameters of
+//! published shifts. Prints the largest difference of each step.
 //!
-//!     first [tuples a shift and direction, 20000] [seed, 1]
+//!     near [tuples a shift and direction, 20000] [seed, 1]
 use compare::{random::Random, tell};
 use job::published_shifts::{Published, datums, frames, molodensky};
 use job::{Body, Job, NOT_GIVEN, Step};
@@ -37,7 +38,7 @@ struct Largest {
 fn main() -> ExitCode {
     let mut args = std::env::args().skip(1).map(|a| a.parse::<u64>().expect("a number"));
     let (wanted, seed) = (args.next().unwrap_or(20_000) as usize, args.next().unwrap_or(1));
-    println!("first oracle: {wanted} tuples a shift and direction, seed {seed}");
+    println!("near run: {wanted} tuples a shift and direction, seed {seed}");
     let mut r = Random::new(seed);
     let mut steps: BTreeMap<&str, Largest> = BTreeMap::new();
     let (mut passed, mut failed) = (0, 0);

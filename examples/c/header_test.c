@@ -1,5 +1,6 @@
-/* The header's promises, held against the library: sheets made by the add functions beside bytes placed by hand, each refusal, what a refused call leaves alone,
- * and what a call leaves outside of what it writes. The last line is 'N passed, M failed'. */
+/* Tests the header's promises on the library: sheets made by the add functions beside bytes placed
+ * by hand, each refusal, what a refused call leaves alone, and what a call leaves outside of what it
+ * writes. The last line is 'N passed, M failed'. */
 #include "sillfeather.h"
 #include <stdio.h>
 #include <string.h>
