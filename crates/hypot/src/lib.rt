@@ -3,7 +3,8 @@
 // The root is one over a root guessed from the bits of the sum of squares, bettered by a polynomial and then by the exact rest of the squares, b² - (h - a)·(h + a)
 // for the larger part a, which needs neither a square root nor a fused multiplication. Proved: infinite if either part is, even beside a NaN; NaN exactly where
 // a part is and neither is infinite; symmetric, and by the magnitudes alone; never below the larger part nor above the sum of both.
-// Measured against MPFR over 1.3 million points, subnormal and huge parts among them: within 0.95 units in the last place (measure/atan2_hypot.c).
+// Measured against MPFR over 19.5 million points, subnormal and huge parts among them: within 0.978
+// units in the last place (measure/atan2_hypot.c; docs/KERNELS.md).
 // The distance from the axis in `cart` and `geocart` is taken by it; `hypot_block` is the same for sixteen points at once, by the usual case here.
 ghost use mathlib.Core.Path.{_≡_};
 ghost use mathlib.Core.Bool.{true, false};
