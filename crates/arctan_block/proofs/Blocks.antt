@@ -16,7 +16,7 @@ use Rattle.floats.specs.Number.{signOf, absOf}
 use Rattle.floats.proofs.Values.{sign-is-the-highest-bit}
 use Rattle.floats.proofs.Laws.{abs-is-not-negative}
 use Rattle.blocks.specs.Each.{at, wholeAt, UpTo, Each}
-use Rattle.blocks.proofs.Laws.{none-filled, one-more, none-filled-whole, one-more-whole, told}
+use Rattle.blocks.proofs.Laws.{none-filled, one-more, told}
 use Rattle.arctan.specs.declared.Octant.{Octant}
 use Rattle.arctan_block.specs.declared.Point.{Point}
 use Rattle.arctan.specs.Table.{cellAt, octantAt, octants}
@@ -219,8 +219,8 @@ none-sized a b c d =
     record {
       larger-are = none-filled a;
       smaller-are = none-filled b;
-      quarters-are = none-filled-whole c;
-      octants-are = none-filled-whole d;
+      quarters-are = none-filled c;
+      octants-are = none-filled d;
       bound = omega arith;
       usual = λ h j k. absurd (not-suc-le-zero k);
     }
@@ -232,8 +232,8 @@ one-more-sized {y} {x} {larger} {smaller} {quarters} {octants} {i} {n} {p} room 
     record {
       larger-are = one-more room (point .larger-is) (before .larger-are);
       smaller-are = one-more room (point .smaller-is) (before .smaller-are);
-      quarters-are = one-more-whole room (point .quarters-is) (before .quarters-are);
-      octants-are = one-more-whole room (point .octant-is) (before .octants-are);
+      quarters-are = one-more room (point .quarters-is) (before .quarters-are);
+      octants-are = one-more room (point .octant-is) (before .octants-are);
       bound = more (before .bound) (point .bound);
       usual = λ h j k. at-or-before h j (eq-or-lt-of-le (up-to j k));
     }
