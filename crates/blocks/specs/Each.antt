@@ -1,6 +1,6 @@
 -- Blocks: arrays of 16 numbers, and what it is for their places to hold the values of a function of the place.
-use Prim.Native.Nat.{ℕ, zero, suc, _+_, _<_}
-use mathlib.Core.Bool.{Bool, cond}
+use Prim.Native.Nat.{ℕ, zero, suc, _+_, _<_, _≤_}
+use mathlib.Core.Bool.{Bool, true, false, cond}
 use mathlib.Core.Path.{_≡_}
 use mathlib.Core.List.{List}
 use lib.ListN.{getD, length}
@@ -37,3 +37,13 @@ EachWhole l f = WholeUpTo 16 l f
 abbrev pub countTo : ℕ → (ℕ → Bool) → ℕ
 countTo zero f = 0
 countTo (suc n) f = countTo n f + cond (f n) 1 0
+
+-- whether each of the first n places has the property
+abbrev pub allTo : ℕ → (ℕ → Bool) → Bool
+allTo zero f = true
+allTo (suc n) f = cond (f n) (allTo n f) false
+
+-- b tells just that of the first n places of a block
+pub record Tells (n : ℕ) (f : ℕ → Bool) (b : Bool) : Type 0 where
+  pub all : b ≡ allTo n f
+  pub block : n ≤ 16

@@ -5,6 +5,7 @@ use mathlib.Core.Bool.{Bool}
 use mathlib.Core.List.{List}
 use lib.Ieee.{Float}
 use Rattle.blocks.specs.Each.{wholeAt, Each, EachWhole, countTo}
+use Rattle.blocks.proofs.Counts.{count-told}
 use Rattle.tuple.specs.declared.Tuple.{Tuple}
 use Rattle.tuple.specs.declared.Shifted.{Shifted}
 use Rattle.tuple.specs.Columns.{rowOf}
@@ -13,7 +14,7 @@ use Rattle.deformation.specs.declared.Motion.{Motion}
 use Rattle.deformation.specs.Step.{commonOf as deformationOf}
 use Rattle.deformation_block.specs.Places.{velocityOf, movedAt}
 use Rattle.deformation_block.proofs.Laws.{moved-common}
-use Rattle.lists.proofs.Sixteen.{Columns, columns, retold, count-same}
+use Rattle.lists.proofs.Sixteen.{Columns, columns, retold}
 use Rattle.deformation_runs.specs.Turns.{velocityAt, markAt}
 
 module _ (velocities : List Float) (marks : List ℕ) (k : ℕ) {east north up : List Float} {m : List ℕ}
@@ -37,6 +38,6 @@ module _ (velocities : List Float) (marks : List ℕ) (k : ℕ) {east north up :
     pub moved-count : countTo 16 (λ (j : ℕ). movedAt op inverse east north up m lam phi x y z t j .counted)
         ≡ countTo 16 (λ (j : ℕ). deformationOf op inverse (velocityAt velocities (k + j)) (markAt marks (k + j)) (rowOf x y z t j) .counted)
     moved-count =
-        count-same 16 (λ (j : ℕ). movedAt op inverse east north up m lam phi x y z t j .counted)
+        count-told 16 (λ (j : ℕ). movedAt op inverse east north up m lam phi x y z t j .counted)
         (λ (j : ℕ). deformationOf op inverse (velocityAt velocities (k + j)) (markAt marks (k + j)) (rowOf x y z t j) .counted)
         (λ j h. ap (λ (shifted : Shifted). shifted .counted) (moved-there j h))
