@@ -1,19 +1,18 @@
--- `molodensky_block::doubled` meets its contract. Assumes nothing.
+-- `blocks::scaled` meets its contract. Assumes nothing.
 use Prim.Native.Nat.{ℕ, _-_}
 use borrow.Author.Needs.{needs}
 use mathlib.Core.Path.{refl}
 use Rattle.floats.specs.Binary64.{_⊗_}
 use Rattle.blocks.specs.Each.{at, UpTo}
 use Rattle.blocks.proofs.Laws.{none-filled, one-more, all-filled}
-use Rattle.ellipsoid.specs.Figure.{two}
-use Rattle.molodensky_block.proofs.doubled.Statement.{statement}
-use Rattle.molodensky_block.proofs.doubled.Tie as tie
+use Rattle.blocks.proofs.scaled.Statement.{statement}
+use Rattle.blocks.proofs.scaled.Tie as tie
 
 abbrev Inv-loop : tie.InvT-loop
-Inv-loop x r₀ i₀ r i = UpTo i r (λ (j : ℕ). two ⊗ at x j)
+Inv-loop k x r₀ i₀ r i = UpTo i r (λ (j : ℕ). k ⊗ at x j)
 
 abbrev μ-loop : tie.MeasureT-loop
-μ-loop x r₀ i₀ r i = 16 - i
+μ-loop k x r₀ i₀ r i = 16 - i
 
 loop-holds : tie.Need-loop-holds Inv-loop μ-loop
 loop-holds c = none-filled refl
@@ -42,8 +41,8 @@ loop-again c = one-more (search needs) refl (c .before .before .loop .inv)
 returns : tie.Need-returns Inv-loop μ-loop
 returns c = all-filled (search needs) (c .before .loop .inv)
 
-pub doubled-spec : {M : Type 1} → statement M
-doubled-spec =
+pub scaled-spec : {M : Type 1} → statement M
+scaled-spec =
     tie.close
     (tie.spec
     Inv-loop
