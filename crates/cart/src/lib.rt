@@ -6,7 +6,7 @@
 // Sixteen tuples at a time: the crate cart_block.
 ghost use mathlib.Core.Path.{_≡_};
 ghost use Rattle.cart.specs.Record.{blankOf, inRuleOf};
-ghost use Rattle.cart.specs.Step.{countedOf, cartFwdOf, inverseFiguresOf, latitudeLegsOf, heightOf, offAxisOf, onAxisOf, cartInvOf};
+ghost use Rattle.cart.specs.Step.{countedOf, cartFwdOf, inverseFiguresOf, latitudeLegsOf, heightWith, heightOf, offAxisOf, onAxisOf, cartInvOf};
 use ellipsoid::Ellipsoid;
 use tuple::Shifted;
 use tuple::Tuple;
@@ -98,13 +98,27 @@ pub fn meridian(k: Inverse, p: f64, s0: f64, c0: f64, a: f64) -> Legs
     }
 }
 
+// The height, with two hypotenuses at hand: inner that of CC and ar·S1, outer that of CC and S1.
+pub fn height_with(k: Inverse, p: f64, z: f64, m: Legs, inner: f64, outer: f64) -> f64
+    ensures { λ r. ⌜ r ≡ heightWith k p z m inner outer ⌝ }
+{
+    let along = p * floats::abs(m.cc) + floats::abs(z) * floats::abs(m.s1);
+    (along - k.ellps.a * inner) / outer
+}
+
 fn height(k: Inverse, p: f64, z: f64, m: Legs) -> f64
     ensures { λ r. ⌜ r ≡ heightOf k p z m ⌝ }
 {
     let s1 = m.s1;
     let cc = m.cc;
-    let along = p * floats::abs(cc) + floats::abs(z) * floats::abs(s1);
-    (along - k.ellps.a * hypot::hypot(cc, k.ar * s1)) / hypot::hypot(cc, s1)
+    height_with(
+        k,
+        p,
+        z,
+        m,
+        hypot::hypot(cc, k.ar * s1),
+        hypot::hypot(cc, s1),
+    )
 }
 
 fn off_axis(k: Inverse, lam: f64, p: f64, coord: Tuple) -> Tuple

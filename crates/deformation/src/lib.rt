@@ -6,7 +6,7 @@
 // Sixteen tuples at a time: `deformation_block`.
 ghost use mathlib.Core.Path.{_≡_};
 ghost use Rattle.deformation.specs.Record.{blankOf, rawOf, finiteOrNot, inRuleOf, neitherOf};
-ghost use Rattle.deformation.specs.Step.{motionOf, durationOf, scaleOf, metresOf, eastNorthUpOf, integratedOf, withLengthOf, deformedOf, commonOf};
+ghost use Rattle.deformation.specs.Step.{motionOf, lastingOf, durationOf, scaleOf, metreOf, metresOf, eastNorthUpOf, integratedOf, withLengthOf, deformedOf, commonOf};
 use ellipsoid::Ellipsoid;
 use trig::SinCos;
 use tuple::Shifted;
@@ -88,6 +88,20 @@ impl Deformation {
     }
 }
 
+// How long: a fixed duration, or the difference between the frame epoch and the observation epoch.
+pub fn lasting(op: Motion, given: bool, t: f64) -> f64
+    ensures { λ r. ⌜ r ≡ lastingOf op given t ⌝ }
+{
+    if given { -op.dt } else { op.epoch - t }
+}
+
+// Grid values are in mm a year. We need metres a year.
+pub fn metre(inverse: bool) -> f64
+    ensures { λ r. ⌜ r ≡ metreOf inverse ⌝ }
+{
+    if inverse { 0.001 } else { -0.001 }
+}
+
 impl Motion {
     pub fn new(step: Deformation) -> Self
         ensures { λ r. ⌜ r ≡ motionOf step ⌝ }
@@ -100,14 +114,10 @@ impl Motion {
         }
     }
 
-    // The duration is a fixed one, or the difference between the frame epoch and the observation epoch.
     fn duration(self, t: f64) -> f64
         ensures { λ r. ⌜ r ≡ durationOf self t ⌝ }
     {
-        if floats::is_finite(self.dt) {
-            return -self.dt;
-        }
-        self.epoch - t
+        lasting(self, floats::is_finite(self.dt), t)
     }
 }
 
@@ -122,14 +132,10 @@ impl Velocity {
         }
     }
 
-    // Grid values are in mm a year. We need metres a year.
     fn metres(self, inverse: bool) -> Self
         ensures { λ r. ⌜ r ≡ metresOf inverse self ⌝ }
     {
-        if inverse {
-            return self.scale(0.001);
-        }
-        self.scale(-0.001)
+        self.scale(metre(inverse))
     }
 }
 

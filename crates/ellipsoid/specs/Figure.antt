@@ -66,18 +66,28 @@ namedOf n = ellipsoidOf (axesOf n .a) (axesOf n .rf)
 unfoldable pub wOf : Ellipsoid → Float → Float
 wOf e s = one ⊖ squareOf s ⊗ e .es
 
--- N = a/√w, the radius of curvature in the prime vertical, from s = sin φ
-unfoldable pub primeVerticalOf : Ellipsoid → Float → Float
-primeVerticalOf e s = e .a ⊘ sqrtOf (wOf e s)
+-- N = a/√w, the radius of curvature in the prime vertical, from the root of w
+abbrev pub primeVerticalWith : Ellipsoid → Float → Float
+primeVerticalWith e root = e .a ⊘ root
 
--- M = a(1 - es)/(w·√w), the radius of curvature in the meridian, from s = sin φ
+-- M = a(1 - es)/(w·√w), the radius of curvature in the meridian, from w and its root
+abbrev pub meridianWith : Ellipsoid → Float → Float → Float
+meridianWith e w root = e .a ⊗ (one ⊖ e .es) ⊘ (w ⊗ root)
+
+-- N and M from s = sin φ
+unfoldable pub primeVerticalOf : Ellipsoid → Float → Float
+primeVerticalOf e s = primeVerticalWith e (sqrtOf (wOf e s))
+
 unfoldable pub meridianOf : Ellipsoid → Float → Float
-meridianOf e s = e .a ⊗ (one ⊖ e .es) ⊘ (wOf e s ⊗ sqrtOf (wOf e s))
+meridianOf e s = meridianWith e (wOf e s) (sqrtOf (wOf e s))
 
 -- the geocentric latitude atan2((1 - es)·sin φ, cos φ), from s = sin φ and c = cos φ
 unfoldable pub geocentricOf : Ellipsoid → Float → Float → Float
 geocentricOf e s c = atan2Of ((one ⊖ e .es) ⊗ s) c
 
 -- both radii
+abbrev pub radiiWith : Ellipsoid → Float → Float → Radii
+radiiWith e w root = record { n = primeVerticalWith e root; m = meridianWith e w root }
+
 abbrev pub radiiOf : Ellipsoid → Float → Radii
 radiiOf e s = record { n = primeVerticalOf e s; m = meridianOf e s }

@@ -8,6 +8,7 @@ use mathlib.Core.Bool.{Bool, true, false, cond}
 use mathlib.Core.List.{List, [], _∷_, _++_, append-assoc}
 use lib.ListN.{length, take, drop, length-drop, take-append-drop}
 use lib.Ieee.{Float}
+use Rattle.blocks.proofs.Counts.{at-most-one}
 use Rattle.tuple.specs.declared.Tuple.{Tuple}
 use Rattle.lists.specs.Flat.{fourOf, numbersOf, tupleAt, putAt}
 use Rattle.lists.specs.Run.{Turn, Turns, ranOf, countOf, trackOf, stateAfterOf}
@@ -127,10 +128,6 @@ ran-start f start l = record { within = omega arith; long = refl; run = refl }
 
 pub count-start : {S : Type 0} (f : Turns S) (start : S) (l : List Float) → Counted f start l 0 start l 0
 count-start f start l = record { total = zero-add (countOf f 0 start l); few = omega arith }
-
-pub at-most-one : (b : Bool) → cond b 1 0 ≤ 1
-at-most-one true = omega arith
-at-most-one false = omega arith
 
 module _ {S : Type 0} {f : Turns S} {start state : S} {l₀ l : List Float} {i : ℕ} (h : i + 4 ≤ length l) where
   pub ran-again : {v : Tuple} {l′ : List Float} → v ≡ turnAt f state l i .tuple → l′ ≡ putAt l i v

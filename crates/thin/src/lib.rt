@@ -8,14 +8,15 @@
 // two walks are proved by hand; a further kind of step is a case of Plan, with a line each in `plan_of`, `start_of` and `turn`, and no walk. For callers who
 // hold their fixes as records.
 ghost use mathlib.Core.Path.{_≡_};
-ghost use mathlib.Core.Bool.{true, false, cond};
-ghost use Prim.Native.Nat.{_+_, _<_};
+ghost use mathlib.Core.Bool.{true, false};
+ghost use Prim.Native.Nat.{_<_};
 ghost use Rattle.helmert.specs.Turns.{noState};
 ghost use Rattle.sheet.specs.Rules.{ofCall};
 ghost use Rattle.chain.specs.Rules.{refusedAnswer, outcome, shiftOf};
 ghost use Rattle.thin.specs.Tuples.{stepTuplesOf, stepTallyOf, flatOf};
 ghost use Rattle.thin.specs.Plans.{planOf, startsOf, beginOf, tallied, turnOf};
 ghost use Rattle.thin.specs.Sheets.{stepIndexOf, todoOf, thinRefusalOf, stepsOf, notedOf};
+use blocks::one_if;
 use bodies::Step;
 use cart::Inverse;
 use chain::Answer;
@@ -123,19 +124,11 @@ fn begin(plan: Plan) -> Carried
 
 // ----- one tuple -------------------------------------------------------------------------
 
-// One more where a tuple counts.
-fn tally(n: usize, counted: bool) -> usize
-    requires { ⌜ n < 18446744073709551615 ⌝ }
-    ensures { λ r. ⌜ r ≡ n + cond counted 1 0 ⌝ }
-{
-    if counted { n + 1 } else { n }
-}
-
 fn carried_on(at: Carried, state: State, tuple: Tuple, counted: bool) -> Turned
     requires { ⌜ at .counted < 18446744073709551615 ⌝ }
     ensures { λ r. ⌜ r ≡ tallied at (record { state = state; tuple = tuple; counted = counted }) ⌝ }
 {
-    let n = tally(at.counted, counted);
+    let n = at.counted + one_if(counted);
     let carried = Carried {
         state: state,
         counted: n,

@@ -7,10 +7,10 @@
 ghost use mathlib.Core.Path.{_≡_};
 ghost use mathlib.Core.Bool.{false, cond};
 ghost use Prim.Native.Nat.{ℕ};
-ghost use Rattle.blocks.specs.Each.{at, wholeAt, Each, EachWhole};
+ghost use Rattle.blocks.specs.Each.{at, wholeAt, Each, EachWhole, Tells};
 ghost use Rattle.trig.specs.Table.{rowOf};
 ghost use Rattle.trig.specs.Trig.{sinOf, cosOf};
-ghost use Rattle.trig_block.specs.Block.{numberOf, stepOf, restOf, tailOf, usualOf, Tells, sinFrom, cosFrom, pairFrom, usualFrom, bothFrom};
+ghost use Rattle.trig_block.specs.Block.{numberOf, stepOf, restOf, tailOf, usualOf, sinFrom, cosFrom, pairFrom, usualFrom, bothFrom};
 use blocks::WIDTH;
 use floats::abs;
 use trig::Row;

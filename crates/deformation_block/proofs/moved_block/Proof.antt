@@ -43,9 +43,7 @@ returns c =
     (a .z .now)
     (a .t .now)
     (c .before .before .before .before .before .before .before .before .before .before .before .before .before .before .if1 .taken)
-    (d .0)
-    (d .1)
-    (d .2)
+    d
     (c .before .before .before .before .before .before .before .before .before .length-block .ensures)
     (c .before .before .before .before .before .before .before .keep-block .ensures)
     (c .before .before .before .before .before .keep-block2 .ensures)
@@ -86,9 +84,7 @@ returns-2 c =
     (a .z .now)
     (a .t .now)
     (c .before .before .before .before .before .before .before .before .before .if1 .left)
-    (d .0)
-    (d .1)
-    (d .2)
+    d
     (c .before .before .before .before .before .before .before .add-block .ensures)
     (c .before .before .before .before .before .add-block2 .ensures)
     (c .before .before .before .add-block3 .ensures)

@@ -7,7 +7,7 @@ use mathlib.Core.Path.{refl, ap}
 use Rattle.blocks.specs.Each.{at, UpTo}
 use Rattle.blocks.proofs.Laws.{none-filled, one-more, all-filled}
 use Rattle.geocart.specs.declared.Legs.{Legs}
-use Rattle.geocart_block.specs.Blocks.{legsOf}
+use Rattle.geocart.specs.Geocart.{legsOf}
 use borrow.Author.Needs.{needs}
 use Rattle.geocart_block.proofs.legs_block.Statement.{statement}
 use Rattle.geocart_block.proofs.legs_block.Tie as tie

@@ -10,7 +10,7 @@ use mathlib.Core.Path.{refl}
 use Rattle.blocks.specs.Each.{UpTo}
 use Rattle.blocks.proofs.Laws.{none-filled, one-more, all-filled}
 use Rattle.molodensky_block.specs.Block.{fullAt}
-use Rattle.molodensky_block.proofs.Over.{Over, none-over, still, one-more-over}
+use Rattle.blocks.proofs.Over.{Over, none-over, still, one-more-over, all-over}
 use Rattle.molodensky_block.proofs.full_shifts.Statement.{statement}
 use Rattle.molodensky_block.proofs.full_shifts.Tie as tie
 
@@ -103,7 +103,7 @@ loop-again c =
 returns : tie.Need-returns Inv-loop μ-loop
 returns c =
     let u = c .before .loop .inv in
-    (all-filled (search needs) (u .0 .filled), all-filled (search needs) (u .1 .filled), all-filled (search needs) (u .2))
+    (all-over (search needs) (u .0), all-over (search needs) (u .1), all-filled (search needs) (u .2))
 
 pub full-shifts-spec : {M : Type 1} → statement M
 full-shifts-spec =

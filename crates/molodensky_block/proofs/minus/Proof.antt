@@ -6,8 +6,7 @@ use Prim.Native.Nat.{ℕ, _-_}
 use borrow.Author.Needs.{needs}
 use Rattle.floats.specs.Binary64.{_⊖_}
 use Rattle.blocks.specs.Each.{at}
-use Rattle.blocks.proofs.Laws.{all-filled}
-use Rattle.molodensky_block.proofs.Over.{Over, none-over, still, one-more-over}
+use Rattle.blocks.proofs.Over.{Over, none-over, still, one-more-over, all-over}
 use Rattle.molodensky_block.proofs.minus.Statement.{statement}
 use Rattle.molodensky_block.proofs.minus.Tie as tie
 
@@ -50,7 +49,7 @@ loop-again c =
     one-more-over (search needs) (rw (still u)) u
 
 returns : tie.Need-returns Inv-loop μ-loop
-returns c = all-filled (search needs) (c .before .loop .inv .filled)
+returns c = all-over (search needs) (c .before .loop .inv)
 
 pub minus-spec : {M : Type 1} → statement M
 minus-spec =

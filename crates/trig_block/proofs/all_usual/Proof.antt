@@ -3,9 +3,9 @@
 -- asked (`all-asked`). The measure is 16 - i. Assumes nothing.
 use Prim.Native.Nat.{ℕ, _-_}
 use borrow.Author.Needs.{needs}
-use Rattle.blocks.specs.Each.{at}
-use Rattle.trig_block.specs.Block.{usualOf, Tells}
-use Rattle.trig_block.proofs.All.{none-asked, one-asked, all-asked}
+use Rattle.blocks.specs.Each.{at, Tells}
+use Rattle.trig_block.specs.Block.{usualOf}
+use Rattle.blocks.proofs.All.{none-asked, one-asked, all-asked}
 use Rattle.trig_block.proofs.all_usual.Statement.{statement}
 use Rattle.trig_block.proofs.all_usual.Tie as tie
 

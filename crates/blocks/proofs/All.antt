@@ -6,7 +6,7 @@ use native.Mathlib.Omega.{arith}
 use mathlib.Core.Path.{_≡_, refl, sym, ap, _∙_}
 use mathlib.Core.Logic.{_⊎_, inl, inr}
 use mathlib.Core.Bool.{Bool, true, false, cond, true≢false}
-use Rattle.trig_block.specs.Block.{allTo, Tells}
+use Rattle.blocks.specs.Each.{allTo, Tells}
 
 pub none-asked : {f : ℕ → Bool} → Tells 0 f true
 none-asked = record { all = refl; block = omega arith }

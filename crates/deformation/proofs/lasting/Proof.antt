@@ -1,7 +1,7 @@
--- `deformation_block::lasting` meets its contract. Assumes nothing.
+-- `deformation::lasting` meets its contract. Assumes nothing.
 use borrow.Author.Needs.{needs}
-use Rattle.deformation_block.proofs.lasting.Statement.{statement}
-use Rattle.deformation_block.proofs.lasting.Tie as tie
+use Rattle.deformation.proofs.lasting.Statement.{statement}
+use Rattle.deformation.proofs.lasting.Tie as tie
 
 returns : tie.Need-returns
 returns c = rw (c .before .if1 .taken)

@@ -1,6 +1,6 @@
--- `deformation_block::metre` meets its contract. Assumes nothing.
-use Rattle.deformation_block.proofs.metre.Statement.{statement}
-use Rattle.deformation_block.proofs.metre.Tie as tie
+-- `deformation::metre` meets its contract. Assumes nothing.
+use Rattle.deformation.proofs.metre.Statement.{statement}
+use Rattle.deformation.proofs.metre.Tie as tie
 
 returns : tie.Need-returns
 returns c = rw (c .if1 .taken)

@@ -1,8 +1,8 @@
--- `geocart_block::legs_at` meets its contract. Assumes nothing.
-use Rattle.geocart_block.specs.Blocks.{legsOf}
+-- `geocart::legs_at` meets its contract. Assumes nothing.
+use Rattle.geocart.specs.Geocart.{legsOf}
 use borrow.Author.Needs.{needs}
-use Rattle.geocart_block.proofs.legs_at.Statement.{statement}
-use Rattle.geocart_block.proofs.legs_at.Tie as tie
+use Rattle.geocart.proofs.legs_at.Statement.{statement}
+use Rattle.geocart.proofs.legs_at.Tie as tie
 
 cube-requires : tie.Need-cube-requires
 cube-requires c κs = search needs

@@ -1,0 +1,12 @@
+-- `molodensky::Place::with` meets its contract. Assumes nothing.
+use mathlib.Core.Path.{refl}
+use Rattle.molodensky.specs.Step.{placeWith}
+use Rattle.molodensky.proofs.Place.with.Statement.{statement}
+use Rattle.molodensky.proofs.Place.with.Tie as tie
+
+returns : tie.Need-returns
+unfolding placeWith
+returns c = refl
+
+pub with-spec : {M : Type 1} → statement M
+with-spec = tie.close (tie.spec returns)
