@@ -40,17 +40,11 @@ pub fn reversed(inverse: bool, entry: Entry) -> bool
     reversed_by(inverse, entry.inverted)
 }
 
-fn wide(x: u32) -> usize
-    ensures { λ r. ⌜ r ≡ x ⌝ }
-{
-    x as usize
-}
-
 // A body's kind where the body is as long as its kind's are, else 0.
 fn held_kind(kind: u32, length: usize) -> u32
     ensures { λ r. ⌜ r ≡ heldKindOf kind length ⌝ }
 {
-    if length == wide(bodies::length_of(kind)) {
+    if length == words::wide(bodies::length_of(kind)) {
         return kind;
     }
     0
@@ -123,8 +117,8 @@ fn forward_at(s: &[u8], i: usize, list: &mut [f64], velocities: &[f64], marks: &
     let place = 16 + 16 * i;
     let inv = reversed_by(false, words::read32(s, place + 4));
     let kind = words::read32(s, place);
-    let offset = wide(words::read32(s, place + 8));
-    let length = wide(words::read32(s, place + 12));
+    let offset = words::wide(words::read32(s, place + 8));
+    let length = words::wide(words::read32(s, place + 12));
     let b = sheet::part(s, offset, length);
     if held_kind(kind, b.len()) == 1 {
         return run_helmert(inv, kind, b, list, velocities, marks);
@@ -140,8 +134,8 @@ fn backward_at(s: &[u8], i: usize, list: &mut [f64], velocities: &[f64], marks: 
     let place = 16 + 16 * i;
     let inv = reversed_by(true, words::read32(s, place + 4));
     let kind = words::read32(s, place);
-    let offset = wide(words::read32(s, place + 8));
-    let length = wide(words::read32(s, place + 12));
+    let offset = words::wide(words::read32(s, place + 8));
+    let length = words::wide(words::read32(s, place + 12));
     let b = sheet::part(s, offset, length);
     if held_kind(kind, b.len()) == 1 {
         return run_helmert(inv, kind, b, list, velocities, marks);

@@ -47,12 +47,6 @@ fn run_step(
     }
 }
 
-fn wide(x: u32) -> usize
-    ensures { λ r. ⌜ r ≡ x ⌝ }
-{
-    x as usize
-}
-
 fn forward_record(
     kept: Sheet,
     n: usize,
@@ -130,7 +124,7 @@ pub fn shift_record(
     if chain::list_broken(list.len()) {
         return chain::refused(chain::of_lists(9));
     }
-    let n = wide(kept.count);
+    let n = words::wide(kept.count);
     if chain::lent_broken(deforms_record(kept, n), list.len(), velocities, marks) {
         return chain::refused(chain::of_lists(10));
     }

@@ -9,12 +9,6 @@ ghost use Rattle.sheet.specs.Layout.{stepCountOf};
 ghost use Rattle.sheet.specs.Rules.{endBefore};
 ghost use Rattle.faults.specs.Faults.{entryFault, firstFault, faultOf};
 
-fn wide(x: u32) -> usize
-    ensures { λ r. ⌜ (r ≡ x) × (r < 4294967296) ⌝ }
-{
-    x as usize
-}
-
 // The body before entry i ends at `end`.
 fn entry_fault(s: &[u8], i: usize, end: usize) -> usize
     requires { ⌜ (i < 16) × (end ≡ endBefore (now s) i) ⌝ }
@@ -31,7 +25,7 @@ fn entry_fault(s: &[u8], i: usize, end: usize) -> usize
     if words::read32(s, place + 12) != length {
         return 12;
     }
-    if wide(words::read32(s, place + 8)) != end {
+    if words::wide(words::read32(s, place + 8)) != end {
         return 8;
     }
     16
@@ -43,7 +37,7 @@ fn end_at(s: &[u8], i: usize) -> usize
     ensures { λ r. ⌜ r ≡ endBefore (now (s .entry)) (i + 1) ⌝ }
 {
     let place = 16 + 16 * i;
-    wide(words::read32(s, place + 8)) + wide(words::read32(s, place + 12))
+    words::wide(words::read32(s, place + 8)) + words::wide(words::read32(s, place + 12))
 }
 
 fn first_fault(s: &[u8], n: usize) -> usize

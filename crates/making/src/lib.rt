@@ -62,12 +62,6 @@ fn with_step(sheet: Sheet, inverted: u32, step: Step) -> Sheet
     }
 }
 
-fn wide(x: u32) -> usize
-    ensures { λ r. ⌜ r ≡ x ⌝ }
-{
-    x as usize
-}
-
 // Writes the record, and answers with its length; on refusal with `len`.
 fn written(sheet: Sheet, room: &mut [u8], len: usize) -> Added
     ensures { λ r. ⌜ outcome r (now (room .exit)) ≡ writtenAs sheet (now (room .entry)) len ⌝ }
@@ -81,7 +75,7 @@ fn written(sheet: Sheet, room: &mut [u8], len: usize) -> Added
     }
     Added {
         refusal: refusal,
-        length: wide(words::read32(room, 4)),
+        length: words::wide(words::read32(room, 4)),
     }
 }
 

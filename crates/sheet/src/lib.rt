@@ -95,17 +95,11 @@ impl Refusal {
 
 // ----- where a sheet has what --------------------------------------------------------------
 
-fn wide(x: u32) -> usize
-    ensures { λ r. ⌜ (r ≡ x) × (r < 4294967296) ⌝ }
-{
-    x as usize
-}
-
 // How many steps the header counts.
 pub fn step_count(s: &[u8]) -> usize
     ensures { λ r. ⌜ (r ≡ stepCountOf (now (s .entry))) × (r < 4294967296) ⌝ }
 {
-    wide(words::read32(s, 8))
+    words::wide(words::read32(s, 8))
 }
 
 // The part of a sheet that starts at `offset` and is `length` long, as far as the sheet has it.
@@ -128,8 +122,8 @@ fn body_at(s: &[u8], i: usize) -> &[u8]
     ensures { λ r. ⌜ now r ≡ bodyAt (now (s .entry)) i ⌝ }
 {
     let place = 16 + 16 * i;
-    let offset = wide(words::read32(s, place + 8));
-    let length = wide(words::read32(s, place + 12));
+    let offset = words::wide(words::read32(s, place + 8));
+    let length = words::wide(words::read32(s, place + 12));
     part(s, offset, length)
 }
 
@@ -155,7 +149,7 @@ pub fn entry_at(s: &[u8], i: usize) -> Entry
 fn length_broken(s: &[u8]) -> bool
     ensures { λ r. ⌜ r ≡ refusal1 (now (s .entry)) ⌝ }
 {
-    (s.len() < 16) | (4240 < s.len()) | (wide(words::read32(s, 4)) != s.len())
+    (s.len() < 16) | (4240 < s.len()) | (words::wide(words::read32(s, 4)) != s.len())
 }
 
 // Rule 3: the step count.
@@ -175,7 +169,7 @@ fn place_broken(s: &[u8], i: usize, end: usize) -> bool
     (length == 0)
         | (1 < words::read32(s, place + 4))
         | (words::read32(s, place + 12) != length)
-        | (wide(words::read32(s, place + 8)) != end)
+        | (words::wide(words::read32(s, place + 8)) != end)
 }
 
 // Where the body of the step at index i ends.
@@ -184,7 +178,7 @@ fn end_at(s: &[u8], i: usize) -> usize
     ensures { λ r. ⌜ r ≡ endBefore (now (s .entry)) (i + 1) ⌝ }
 {
     let place = 16 + 16 * i;
-    wide(words::read32(s, place + 8)) + wide(words::read32(s, place + 12))
+    words::wide(words::read32(s, place + 8)) + words::wide(words::read32(s, place + 12))
 }
 
 // Rule 4: the directory.
@@ -207,7 +201,7 @@ fn directory_broken(s: &[u8], n: usize) -> bool
         end = end_at(s, i);
         i += 1;
     }
-    end != wide(words::read32(s, 4))
+    end != words::wide(words::read32(s, 4))
 }
 
 // Rules 5 to 8 of the step at index i of a sheet.

@@ -19,12 +19,6 @@ use sheet::Entry;
 use sheet::Refusal;
 use sheet::Sheet;
 
-fn wide(x: u32) -> usize
-    ensures { λ r. ⌜ (r ≡ x) × (r < 4294967296) ⌝ }
-{
-    x as usize
-}
-
 // A refusal of the step at index i.
 fn of_step(number: u32, i: usize) -> Refusal
     requires { ⌜ i < 16 ⌝ }
@@ -140,7 +134,7 @@ fn length_in(sheet: Sheet, i: usize) -> usize
     requires { ⌜ i < 16 ⌝ }
     ensures { λ r. ⌜ (r ≡ lengthIn sheet i) × (r ≤ 248) ⌝ }
 {
-    wide(bodies::length_of(kind_in(sheet, i)))
+    words::wide(bodies::length_of(kind_in(sheet, i)))
 }
 
 // Where the last body ends.
@@ -161,7 +155,7 @@ fn sheet_length(sheet: Sheet, n: usize) -> usize
 pub fn check_record(sheet: Sheet, room: usize) -> Refusal
     ensures { λ r. ⌜ r ≡ writerRefusalOf sheet room ⌝ }
 {
-    let n = wide(sheet.count);
+    let n = words::wide(sheet.count);
     if sheet::count_broken(n) {
         return Refusal::of_sheet(3);
     }
@@ -251,7 +245,7 @@ fn put_sheet(room: &mut [u8], sheet: Sheet)
     requires { ⌜ (sheet .count ≤ 16) × (sheetLength sheet ≤ length (now room)) ⌝ }
     ensures { λ _. ⌜ now (room .exit) ≡ put (now (room .entry)) 0 (sheetBytesOf sheet) ⌝ }
 {
-    let n = wide(sheet.count);
+    let n = words::wide(sheet.count);
     let total = sheet_length(sheet, n);
     put_words(room, 0, 1, total as u32, sheet.count, 16);
     put_directory(room, sheet, n);

@@ -10,22 +10,10 @@ ghost use Rattle.text.specs.Text.{text, appended};
 ghost use Rattle.text.specs.Digits.{decimalOf};
 ghost use Rattle.show.specs.Show.{lineOf, headerText, headText, entryText, stepText, stepsText, acceptedText, ruleText, answerText, wordPlace, sheetPlace, stepPlace, refusedText, showText};
 
-fn wide(x: u32) -> usize
-    ensures { λ r. ⌜ (r ≡ x) × (r < 4294967296) ⌝ }
-{
-    x as usize
-}
-
-fn long(x: usize) -> u64
-    ensures { λ r. ⌜ r ≡ x ⌝ }
-{
-    x as u64
-}
-
 fn put_count(room: &mut [u8], at: usize, n: usize) -> usize
     ensures { λ r. ⌜ text (now (room .exit)) r ≡ appended (text (now (room .entry)) at) (decimalOf n) ⌝ }
 {
-    text::put_decimal(room, at, long(n))
+    text::put_decimal(room, at, words::long(n))
 }
 
 fn put_line(room: &mut [u8], at: usize, name: &[u8], n: usize) -> usize
@@ -39,7 +27,7 @@ fn put_line(room: &mut [u8], at: usize, name: &[u8], n: usize) -> usize
 fn put_word(room: &mut [u8], at: usize, name: &[u8], n: u32) -> usize
     ensures { λ r. ⌜ text (now (room .exit)) r ≡ appended (text (now (room .entry)) at) (lineOf (now (name .entry)) n) ⌝ }
 {
-    put_line(room, at, name, wide(n))
+    put_line(room, at, name, words::wide(n))
 }
 
 // ----- the header -------------------------------------------------------------------------
@@ -170,7 +158,7 @@ fn put_answer(room: &mut [u8], at: usize, number: u32, step: u32) -> usize
 fn put_number(room: &mut [u8], at: usize, n: u32) -> usize
     ensures { λ r. ⌜ text (now (room .exit)) r ≡ appended (text (now (room .entry)) at) (decimalOf n) ⌝ }
 {
-    put_count(room, at, wide(n))
+    put_count(room, at, words::wide(n))
 }
 
 // The byte of the word that a refusal of the sheet as a whole is about.
@@ -216,7 +204,7 @@ fn put_refused(room: &mut [u8], at: usize, s: &[u8], number: u32, step: u32) -> 
     if step == 0 {
         return put_sheet_place(room, p, s, number);
     }
-    put_step_place(room, p, s, wide(step - 1))
+    put_step_place(room, p, s, words::wide(step - 1))
 }
 
 // ----- a sheet ------------------------------------------------------------------------------

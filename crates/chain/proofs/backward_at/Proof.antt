@@ -62,9 +62,9 @@ returns c =
     rw (lt-ltb _ _ (f .before .before .before .before .before .before .before .before .before .before .before .before .pre .1))
     (rw (
       f .part .ensures,
-      f .before .wide2 .ensures,
+      f .before .wide2 .ensures .0,
       f .before .before .read324 .ensures,
-      f .before .before .before .wide .ensures,
+      f .before .before .before .wide .ensures .0,
       f .before .before .before .before .read323 .ensures,
       f .before .before .before .before .before .read322 .ensures,
       f .before .before .before .before .before .before .reversed-by .ensures,
@@ -85,9 +85,9 @@ returns-2 c =
     rw (lt-ltb _ _ (f .before .before .before .before .before .before .before .before .before .before .before .before .pre .1))
     (rw (
       f .part .ensures,
-      f .before .wide2 .ensures,
+      f .before .wide2 .ensures .0,
       f .before .before .read324 .ensures,
-      f .before .before .before .wide .ensures,
+      f .before .before .before .wide .ensures .0,
       f .before .before .before .before .read323 .ensures,
       f .before .before .before .before .before .read322 .ensures,
       f .before .before .before .before .before .before .reversed-by .ensures,
