@@ -12,7 +12,7 @@ ghost use lib.ListN.{length};
 ghost use Rattle.sheet.specs.Layout.{stepCountOf, kindAt, entryAt};
 ghost use Rattle.cart.specs.Record.{blankOf};
 ghost use Rattle.bodies.specs.Read.{cartIn};
-ghost use Rattle.sheet.specs.Rules.{ofCall, hasDeformation};
+ghost use Rattle.sheet.specs.Rules.{hasDeformation};
 ghost use Rattle.chain.specs.Chain.{heldKindOf, bodyListOf, bodyCountOf, reversedOf, stepListOf, tuplesCountedOf, chainForwardOf, chainInverseOf, placesOf, entriesOf};
 ghost use Rattle.chain.specs.Rules.{refusal9, overOne, lentFor, refusal10, refusedAnswer, ranAnswer, outcome, shiftOf};
 use cart::Cart;
@@ -245,16 +245,6 @@ pub fn has_deformation(s: &[u8]) -> bool
 
 // ----- the entries ------------------------------------------------------------------------------
 
-// A refusal of the lent lists carries no step.
-pub fn of_lists(number: u32) -> Refusal
-    ensures { λ r. ⌜ r ≡ ofCall number ⌝ }
-{
-    Refusal {
-        number: number,
-        step: 0,
-    }
-}
-
 pub fn refused(refusal: Refusal) -> Answer
     ensures { λ r. ⌜ r ≡ refusedAnswer refusal ⌝ }
 {
@@ -282,11 +272,11 @@ pub fn shift(inverse: bool, s: &[u8], list: &mut [f64], velocities: &[f64], mark
         return refused(own);
     }
     if list_broken(list.len()) {
-        return refused(of_lists(9));
+        return refused(Refusal::of_call(9));
     }
     let n = sheet::step_count(s);
     if lent_broken(deforms(s, n), list.len(), velocities, marks) {
-        return refused(of_lists(10));
+        return refused(Refusal::of_call(10));
     }
     if inverse {
         let counts = backward(s, n, list, velocities, marks);

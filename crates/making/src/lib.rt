@@ -37,7 +37,7 @@ fn standing(room: &[u8], len: usize) -> Reading
         return reading(Refusal::none(), Sheet::blank());
     }
     if room.len() < len {
-        return reading(Refusal { number: 1, step: 0 }, Sheet::blank());
+        return reading(Refusal::of_call(1), Sheet::blank());
     }
     sheet::read(&room[..len])
 }

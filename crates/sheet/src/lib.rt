@@ -8,7 +8,7 @@ ghost use mathlib.Core.Path.{_≡_};
 ghost use Prim.Native.Nat.{_+_, _*_, _<_, _≤_};
 ghost use lib.ListN.{length, take, drop};
 ghost use Rattle.sheet.specs.Layout.{stepCountOf, kindAt, bodyAt, stepAt, blankEntry, blankSheet, entryAt, recordOf};
-ghost use Rattle.sheet.specs.Rules.{refusal1, refusal3, refusal4, refusal5At, endBefore, placeBroken, ofCall, ofStep, rulesOfStep, fiveToEight, elevens, accepted, firstBroken, refusalOf, readingOf};
+ghost use Rattle.sheet.specs.Rules.{refusal1, refusal3, refusal4, refusal5At, endBefore, placeBroken, ofCall, ofIndex, rulesOfStep, fiveToEight, elevens, accepted, firstBroken, refusalOf, readingOf};
 use bodies::Step;
 
 // ----- records ---------------------------------------------------------------------------
@@ -25,7 +25,7 @@ pub struct Sheet {
     pub entries: [Entry; 16],
 }
 
-// A refusal's number and its step, from 1; step 0 is the sheet as a whole, and number 0 is no refusal.
+// A refusal's number and its step, from 1; step 0 is the call as a whole, and number 0 is no refusal.
 pub struct Refusal {
     pub number: u32,
     pub step: u32,
@@ -71,8 +71,8 @@ impl Refusal {
         Refusal { number: 0, step: 0 }
     }
 
-    // Of the sheet as a whole.
-    pub fn of_sheet(number: u32) -> Self
+    // Of the call as a whole.
+    pub fn of_call(number: u32) -> Self
         ensures { λ r. ⌜ r ≡ ofCall number ⌝ }
     {
         Refusal {
@@ -81,15 +81,17 @@ impl Refusal {
         }
     }
 
-    // Of the step at index i.
-    fn of_step(number: u32, i: usize) -> Self
-        requires { ⌜ i < 16 ⌝ }
-        ensures { λ r. ⌜ r ≡ ofStep number i ⌝ }
+    // Of the step at index i. No sheet has a step at an index past 15: there it is of the call.
+    pub fn of_step(number: u32, i: usize) -> Self
+        ensures { λ r. ⌜ r ≡ ofIndex number i ⌝ }
     {
-        Refusal {
-            number: number,
-            step: (i + 1) as u32,
+        if i < 16 {
+            return Refusal {
+                number: number,
+                step: (i + 1) as u32,
+            };
         }
+        Refusal::of_call(number)
     }
 }
 
@@ -257,17 +259,17 @@ pub fn check(s: &[u8]) -> Refusal
     ensures { λ r. ⌜ r ≡ refusalOf (now (s .entry)) ⌝ }
 {
     if length_broken(s) {
-        return Refusal::of_sheet(1);
+        return Refusal::of_call(1);
     }
     if words::read32(s, 0) != 1 {
-        return Refusal::of_sheet(2);
+        return Refusal::of_call(2);
     }
     let n = step_count(s);
     if count_broken(n) {
-        return Refusal::of_sheet(3);
+        return Refusal::of_call(3);
     }
     if directory_broken(s, n) {
-        return Refusal::of_sheet(4);
+        return Refusal::of_call(4);
     }
     let refusal = check_bodies(s, n);
     if refusal.number != 0 {

@@ -12,23 +12,12 @@ ghost use Rattle.words.specs.Words.{le32, put};
 ghost use Rattle.body_writer.specs.Write.{bytesOf};
 ghost use Rattle.sheet.specs.Layout.{entryOf, stepIn, kindIn};
 ghost use Rattle.sheet_writer.specs.Bytes.{lengthIn, bodyStart, sheetLength, placeBytes, directoryBytes, bodiesBytes, sheetBytesOf};
-ghost use Rattle.sheet.specs.Rules.{someFrom, ofStep, rulesOfStep, fiveToEight, elevens, firstBroken};
+ghost use Rattle.sheet.specs.Rules.{someFrom, rulesOfStep, fiveToEight, elevens, firstBroken};
 ghost use Rattle.sheet_writer.specs.Rules.{recordRefusal5, invertedBrokenIn, writerRefusalOf, roomAfterOf};
 use bodies::Step;
 use sheet::Entry;
 use sheet::Refusal;
 use sheet::Sheet;
-
-// A refusal of the step at index i.
-fn of_step(number: u32, i: usize) -> Refusal
-    requires { ⌜ i < 16 ⌝ }
-    ensures { λ r. ⌜ r ≡ ofStep number i ⌝ }
-{
-    Refusal {
-        number: number,
-        step: (i + 1) as u32,
-    }
-}
 
 // ----- the rules of a record ---------------------------------------------------------------------
 
@@ -38,16 +27,16 @@ fn check_step(i: usize, five: bool, step: Step) -> Refusal
     ensures { λ r. ⌜ r ≡ firstBroken (rulesOfStep i five step) ⌝ }
 {
     if five {
-        return of_step(5, i);
+        return Refusal::of_step(5, i);
     }
     if bodies::lacks_convention(step) {
-        return of_step(6, i);
+        return Refusal::of_step(6, i);
     }
     if bodies::lacks_epoch(step) {
-        return of_step(7, i);
+        return Refusal::of_step(7, i);
     }
     if bodies::lacks_duration(step) {
-        return of_step(8, i);
+        return Refusal::of_step(8, i);
     }
     Refusal::none()
 }
@@ -121,7 +110,7 @@ fn check_steps(sheet: Sheet, n: usize) -> Refusal
     while i < n {
         let deformation = kind_in(sheet, i) == 5;
         if deformation & before {
-            return of_step(11, i);
+            return Refusal::of_step(11, i);
         }
         before = before | deformation;
         i += 1;
@@ -157,10 +146,10 @@ pub fn check_record(sheet: Sheet, room: usize) -> Refusal
 {
     let n = words::wide(sheet.count);
     if sheet::count_broken(n) {
-        return Refusal::of_sheet(3);
+        return Refusal::of_call(3);
     }
     if inverted_broken(sheet, n) {
-        return Refusal::of_sheet(4);
+        return Refusal::of_call(4);
     }
     let refusal = check_entries(sheet, n);
     if refusal.number != 0 {
@@ -171,7 +160,7 @@ pub fn check_record(sheet: Sheet, room: usize) -> Refusal
         return second;
     }
     if room < sheet_length(sheet, n) {
-        return Refusal::of_sheet(15);
+        return Refusal::of_call(15);
     }
     Refusal::none()
 }

@@ -23,8 +23,8 @@ returns c =
 list-broken-requires : tie.Need-list-broken-requires
 list-broken-requires c κs = search needs
 
-of-lists-requires : tie.Need-of-lists-requires
-of-lists-requires c κs = search needs
+of-call-requires : tie.Need-of-call-requires
+of-call-requires c κs = search needs
 
 refused-requires-2 : tie.Need-refused-requires-2
 refused-requires-2 c κs = search needs
@@ -32,7 +32,7 @@ refused-requires-2 c κs = search needs
 returns-2 : tie.Need-returns-2
 unfolding shiftRecordOf
 returns-2 c =
-    rw (c .refused2 .ensures, c .before .of-lists .ensures, ← c .before .before .before .before .before .before .check-record .ensures)
+    rw (c .refused2 .ensures, c .before .of-call .ensures, ← c .before .before .before .before .before .before .check-record .ensures)
     (sym (refused-9 (c .before .before .before .before .before .before .check-record .result) _ _ _ _ _ _ (c .before .before .before .before .if1 .left) (sym (c .before .before .before .list-broken .ensures) ∙ c .before .before .if2 .taken)))
 
 wide-requires : tie.Need-wide-requires
@@ -44,8 +44,8 @@ deforms-record-requires c κs = rw (c .wide .ensures .0) (few-kept _ _ (ap (λ (
 lent-broken-requires : tie.Need-lent-broken-requires
 lent-broken-requires c κs = search needs
 
-of-lists-requires-2 : tie.Need-of-lists-requires-2
-of-lists-requires-2 c κs = search needs
+of-call-requires-2 : tie.Need-of-call-requires-2
+of-call-requires-2 c κs = search needs
 
 refused-requires-3 : tie.Need-refused-requires-3
 refused-requires-3 c κs = search needs
@@ -53,7 +53,7 @@ refused-requires-3 c κs = search needs
 returns-3 : tie.Need-returns-3
 unfolding shiftRecordOf
 returns-3 c =
-    rw (c .refused3 .ensures, c .before .of-lists2 .ensures, ← c .before .before .before .before .before .before .before .before .before .before .check-record .ensures)
+    rw (c .refused3 .ensures, c .before .of-call2 .ensures, ← c .before .before .before .before .before .before .before .before .before .before .check-record .ensures)
     (sym (refused-10 (c .before .before .before .before .before .before .before .before .before .before .check-record .result) _ _ _ _ _ _ (c .before .before .before .before .before .before .before .before .if1 .left) (sym (c .before .before .before .before .before .before .before .list-broken .ensures) ∙ c .before .before .before .before .before .before .if2 .left) (sym (rw (c .before .before .before .before .deforms-record .ensures, c .before .before .before .before .before .wide .ensures .0) at (c .before .before .before .lent-broken .ensures)) ∙ c .before .before .if3 .taken)))
 
 backward-record-requires : tie.Need-backward-record-requires
@@ -94,13 +94,13 @@ shift-record-spec =
     refused-requires
     returns
     list-broken-requires
-    of-lists-requires
+    of-call-requires
     refused-requires-2
     returns-2
     wide-requires
     deforms-record-requires
     lent-broken-requires
-    of-lists-requires-2
+    of-call-requires-2
     refused-requires-3
     returns-3
     backward-record-requires

@@ -1,7 +1,8 @@
 -- `sheet::check_body` meets its contract. Assumes nothing.
 use borrow.Author.Tests.{ne-eqb}
-use Rattle.sheet.proofs.Order.{lowest-first}
+use Rattle.sheet.proofs.Order.{lowest-first, of-index}
 use borrow.Author.Needs.{needs}
+use native.Mathlib.Omega.{arith}
 use Rattle.sheet.proofs.check_body.Statement.{statement}
 use Rattle.sheet.proofs.check_body.Tie as tie
 
@@ -30,7 +31,7 @@ of-step-requires : tie.Need-of-step-requires
 of-step-requires c κs = search needs
 
 returns-2 : tie.Need-returns-2
-returns-2 c = rw (lowest-first, ← c .before .before .before .body-at .ensures, ← c .before .before .before .before .read32 .ensures, ← c .before .before .lowest-broken .ensures, ne-eqb _ 0 (c .before .if1 .left), c .of-step .ensures)
+returns-2 c = rw (lowest-first, ← c .before .before .before .body-at .ensures, ← c .before .before .before .before .read32 .ensures, ← c .before .before .lowest-broken .ensures, ne-eqb _ 0 (c .before .if1 .left), c .of-step .ensures) (of-index _ _ (omega arith))
 
 pub check-body-spec : {M : Type 1} → statement M
 check-body-spec =
