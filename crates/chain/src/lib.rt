@@ -110,16 +110,13 @@ fn run_other(
 
 // The step at an index over the list, in the chain's direction. One function a direction: what both call is then not laid into their own frame.
 fn forward_at(s: &[u8], i: usize, list: &mut [f64], velocities: &[f64], marks: &[u8]) -> usize
-    requires { ⌜ (i < 16) × (i < stepCountOf (now s)) ⌝ }
+    requires { ⌜ i < stepCountOf (now s) ⌝ }
     ensures { λ r. ⌜ (now (list .exit) ≡ stepListOf false (now (velocities .entry)) (now (marks .entry)) (entryAt (now (s .entry)) i) (now (list .entry)))
         × (r ≡ tuplesCountedOf false (now (velocities .entry)) (now (marks .entry)) (entryAt (now (s .entry)) i) (now (list .entry))) ⌝ }
 {
-    let place = 16 + 16 * i;
-    let inv = reversed_by(false, words::read32(s, place + 4));
-    let kind = words::read32(s, place);
-    let offset = words::wide(words::read32(s, place + 8));
-    let length = words::wide(words::read32(s, place + 12));
-    let b = sheet::part(s, offset, length);
+    let inv = reversed_by(false, sheet::inverted_at(s, i));
+    let kind = sheet::kind_at(s, i);
+    let b = sheet::body_at(s, i);
     if held_kind(kind, b.len()) == 1 {
         return run_helmert(inv, kind, b, list, velocities, marks);
     }
@@ -127,16 +124,13 @@ fn forward_at(s: &[u8], i: usize, list: &mut [f64], velocities: &[f64], marks: &
 }
 
 fn backward_at(s: &[u8], i: usize, list: &mut [f64], velocities: &[f64], marks: &[u8]) -> usize
-    requires { ⌜ (i < 16) × (i < stepCountOf (now s)) ⌝ }
+    requires { ⌜ i < stepCountOf (now s) ⌝ }
     ensures { λ r. ⌜ (now (list .exit) ≡ stepListOf true (now (velocities .entry)) (now (marks .entry)) (entryAt (now (s .entry)) i) (now (list .entry)))
         × (r ≡ tuplesCountedOf true (now (velocities .entry)) (now (marks .entry)) (entryAt (now (s .entry)) i) (now (list .entry))) ⌝ }
 {
-    let place = 16 + 16 * i;
-    let inv = reversed_by(true, words::read32(s, place + 4));
-    let kind = words::read32(s, place);
-    let offset = words::wide(words::read32(s, place + 8));
-    let length = words::wide(words::read32(s, place + 12));
-    let b = sheet::part(s, offset, length);
+    let inv = reversed_by(true, sheet::inverted_at(s, i));
+    let kind = sheet::kind_at(s, i);
+    let b = sheet::body_at(s, i);
     if held_kind(kind, b.len()) == 1 {
         return run_helmert(inv, kind, b, list, velocities, marks);
     }
@@ -224,13 +218,12 @@ pub fn lent_broken(deforms: bool, numbers: usize, velocities: &[f64], marks: &[u
 
 // Whether one of the first n steps is a deformation step.
 fn deforms(s: &[u8], n: usize) -> bool
-    requires { ⌜ n < 4294967296 ⌝ }
     ensures { λ r. ⌜ r ≡ hasDeformation (kindAt (now (s .entry))) n ⌝ }
 {
     let mut found = false;
     let mut i = 0;
     while i < n {
-        found = found | (words::read32(s, 16 + 16 * i) == 5);
+        found = found | (sheet::kind_at(s, i) == 5);
         i += 1;
     }
     found

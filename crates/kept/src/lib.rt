@@ -47,7 +47,7 @@ fn step_of(entry: Entry) -> Helmert
 fn step_broken(s: &[u8]) -> bool
     ensures { λ r. ⌜ r ≡ refusal12 (now (s .entry)) ⌝ }
 {
-    (sheet::step_count(s) != 1) | (words::read32(s, 16) != 1)
+    (sheet::step_count(s) != 1) | (sheet::kind_at(s, 0) != 1)
 }
 
 // Rule 13: results or track not as long as the list.

@@ -73,11 +73,10 @@ fn put_step(room: &mut [u8], at: usize, s: &[u8], i: usize) -> usize
     requires { ⌜ i < 4294967296 ⌝ }
     ensures { λ r. ⌜ text (now (room .exit)) r ≡ appended (text (now (room .entry)) at) (stepText (now (s .entry)) i) ⌝ }
 {
-    let place = 16 + 16 * i;
-    let kind = words::read32(s, place);
-    let inverted = words::read32(s, place + 4);
-    let offset = words::read32(s, place + 8);
-    let length = words::read32(s, place + 12);
+    let kind = sheet::kind_at(s, i);
+    let inverted = sheet::inverted_at(s, i);
+    let offset = sheet::offset_at(s, i);
+    let length = sheet::length_at(s, i);
     let p = put_line(room, at, b"step ", i + 1);
     let q = put_entry(room, p, kind, inverted, offset, length);
     fields::put_fields(room, q, kind, s, offset)
@@ -186,15 +185,15 @@ fn put_sheet_place(room: &mut [u8], at: usize, s: &[u8], number: u32) -> usize
     put_head(room, q, s)
 }
 
-fn put_step_place(room: &mut [u8], at: usize, s: &[u8], i: usize) -> usize
-    requires { ⌜ i < 4294967296 ⌝ }
+fn put_step_place(room: &mut [u8], at: usize, s: &[u8], i: u32) -> usize
     ensures { λ r. ⌜ text (now (room .exit)) r ≡ appended (text (now (room .entry)) at) (stepPlace (now (s .entry)) i) ⌝ }
 {
-    let place = 16 + 16 * i;
-    let offset = words::read32(s, place + 8);
-    let p = put_line(room, at, b"place: directory entry at byte ", place);
-    let q = put_word(room, p, b"place: body at byte ", offset);
-    put_step(room, q, s, i)
+    let index = words::wide(i);
+    let entry = sheet::entry_offset(i);
+    let body = sheet::offset_at(s, index);
+    let p = put_line(room, at, b"place: directory entry at byte ", entry);
+    let q = put_word(room, p, b"place: body at byte ", body);
+    put_step(room, q, s, index)
 }
 
 fn put_refused(room: &mut [u8], at: usize, s: &[u8], number: u32, step: u32) -> usize
@@ -204,7 +203,7 @@ fn put_refused(room: &mut [u8], at: usize, s: &[u8], number: u32, step: u32) -> 
     if step == 0 {
         return put_sheet_place(room, p, s, number);
     }
-    put_step_place(room, p, s, words::wide(step - 1))
+    put_step_place(room, p, s, step - 1)
 }
 
 // ----- a sheet ------------------------------------------------------------------------------

@@ -44,7 +44,7 @@ returns-3 c = let o = c .before .before .before in
     rw (c .of-call3 .ensures, ← o .before .before .before .before .length-broken .ensures, o .before .before .before .if1 .left, ← o .before .before .read32 .ensures, eq-eqb _ _ (o .before .if2 .left), ← o .step-count .ensures .0, ← c .before .before .count-broken .ensures, c .before .if3 .taken)
 
 directory-broken-requires : tie.Need-directory-broken-requires
-directory-broken-requires c κs = (count-kept _ (sym (c .before .count-broken .ensures) ∙ c .if3 .left) .1, c .before .before .step-count .ensures .0)
+directory-broken-requires c κs = c .before .before .step-count .ensures .0
 
 of-call-requires-4 : tie.Need-of-call-requires-4
 of-call-requires-4 c κs = search needs
