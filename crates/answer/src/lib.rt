@@ -72,7 +72,7 @@ pub fn answer(job: &[u8], room: &mut [u8]) -> usize
     }
     let mut list = zeros();
     let mut velocities = zeros();
-    let n = 4 * job::wide(head.tuples);
-    let m = 3 * job::wide(head.velocities);
+    let n = 4 * words::wide(head.tuples);
+    let m = 3 * words::wide(head.velocities);
     shifted(room, job, head, &mut list[..n], &mut velocities[..m])
 }

@@ -13,6 +13,7 @@ ghost use Rattle.chain_record.specs.Record.{shiftRecordOf};
 use bodies::Step;
 use chain::Answer;
 use sheet::Entry;
+use sheet::Refusal;
 use sheet::Sheet;
 
 // The kind is decided here, once a list.
@@ -45,12 +46,6 @@ fn run_step(
             return helmert_runs::run_helmert(list, inv, h);
         }
     }
-}
-
-fn wide(x: u32) -> usize
-    ensures { λ r. ⌜ r ≡ x ⌝ }
-{
-    x as usize
 }
 
 fn forward_record(
@@ -128,11 +123,11 @@ pub fn shift_record(
         return chain::refused(own);
     }
     if chain::list_broken(list.len()) {
-        return chain::refused(chain::of_lists(9));
+        return chain::refused(Refusal::of_call(9));
     }
-    let n = wide(kept.count);
+    let n = words::wide(kept.count);
     if chain::lent_broken(deforms_record(kept, n), list.len(), velocities, marks) {
-        return chain::refused(chain::of_lists(10));
+        return chain::refused(Refusal::of_call(10));
     }
     if inverse {
         let counts = backward_record(kept, n, list, velocities, marks);

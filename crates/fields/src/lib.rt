@@ -12,16 +12,10 @@ use lines::Unit;
 
 // ----- words ------------------------------------------------------------------------------
 
-fn wide(x: u32) -> u64
-    ensures { λ r. ⌜ r ≡ x ⌝ }
-{
-    x as u64
-}
-
 fn put_u32(room: &mut [u8], at: usize, n: u32) -> usize
     ensures { λ r. ⌜ text (now (room .exit)) r ≡ appended (text (now (room .entry)) at) (decimalOf n) ⌝ }
 {
-    text::put_decimal(room, at, wide(n))
+    text::put_decimal(room, at, words::wide64(n))
 }
 
 fn put_helmert_flags(room: &mut [u8], at: usize, flags: u32) -> usize

@@ -99,12 +99,6 @@ pub fn put_time(room: &mut [u8], at: usize, pattern: u64) -> usize
 
 // ----- where they lie in a sheet --------------------------------------------------------------
 
-fn wide(x: u32) -> u64
-    ensures { λ r. ⌜ r ≡ x ⌝ }
-{
-    x as u64
-}
-
 pub fn put_number_at(room: &mut [u8], at: usize, s: &[u8], place: usize) -> usize
     ensures { λ r. ⌜ text (now (room .exit)) r ≡ appended (text (now (room .entry)) at) (numberAtText (now (s .entry)) place) ⌝ }
 {
@@ -120,5 +114,5 @@ pub fn put_time_at(room: &mut [u8], at: usize, s: &[u8], place: usize) -> usize
 pub fn put_word_at(room: &mut [u8], at: usize, s: &[u8], place: usize) -> usize
     ensures { λ r. ⌜ text (now (room .exit)) r ≡ appended (text (now (room .entry)) at) (wordAtText (now (s .entry)) place) ⌝ }
 {
-    text::put_decimal(room, at, wide(words::read32(s, place)))
+    text::put_decimal(room, at, words::wide64(words::read32(s, place)))
 }

@@ -27,36 +27,30 @@ pub fn read_head(job: &[u8]) -> Head
     }
 }
 
-pub fn wide(x: u32) -> usize
-    ensures { λ r. ⌜ (r ≡ x) × (r < 4294967296) ⌝ }
-{
-    x as usize
-}
-
 // Where the tuples begin, and the sheet ends.
 pub fn tuples_at(head: Head) -> usize
     ensures { λ r. ⌜ (r ≡ tuplesAt head) × (r < 4294967312) ⌝ }
 {
-    16 + wide(head.sheet)
+    16 + words::wide(head.sheet)
 }
 
 pub fn velocities_at(head: Head) -> usize
     ensures { λ r. ⌜ (r ≡ velocitiesAt head) × (r < 141733920784) ⌝ }
 {
-    tuples_at(head) + 32 * wide(head.tuples)
+    tuples_at(head) + 32 * words::wide(head.tuples)
 }
 
 pub fn marks_at(head: Head) -> usize
     ensures { λ r. ⌜ (r ≡ marksAt head) × (r < 244813135888) ⌝ }
 {
-    velocities_at(head) + 24 * wide(head.velocities)
+    velocities_at(head) + 24 * words::wide(head.velocities)
 }
 
 // Rule 16, over the four words and how many bytes there are.
 pub fn is_bad(head: Head, bytes: usize) -> bool
     ensures { λ r. ⌜ r ≡ refusal16 head bytes ⌝ }
 {
-    let end = marks_at(head) + wide(head.velocities);
+    let end = marks_at(head) + words::wide(head.velocities);
     (1 < head.direction)
         | (4240 < head.sheet)
         | (512 < head.tuples)

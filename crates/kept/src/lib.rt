@@ -47,7 +47,7 @@ fn step_of(entry: Entry) -> Helmert
 fn step_broken(s: &[u8]) -> bool
     ensures { λ r. ⌜ r ≡ refusal12 (now (s .entry)) ⌝ }
 {
-    (sheet::step_count(s) != 1) | (words::read32(s, 16) != 1)
+    (sheet::step_count(s) != 1) | (sheet::kind_at(s, 0) != 1)
 }
 
 // Rule 13: results or track not as long as the list.
@@ -73,19 +73,13 @@ fn check(s: &[u8], list: usize, results: usize, track: usize) -> Refusal
         return own;
     }
     if step_broken(s) {
-        return Refusal {
-            number: 12,
-            step: 0,
-        };
+        return Refusal::of_call(12);
     }
     if chain::list_broken(list) {
-        return Refusal { number: 9, step: 0 };
+        return Refusal::of_call(9);
     }
     if lengths_broken(list, results, track) {
-        return Refusal {
-            number: 13,
-            step: 0,
-        };
+        return Refusal::of_call(13);
     }
     Refusal::none()
 }
@@ -146,12 +140,9 @@ pub fn correct(
         };
     }
     if index_broken(list.len(), index) {
-        let none = Refusal {
-            number: 14,
-            step: 0,
-        };
+        let refused = Refusal::of_call(14);
         return Corrected {
-            refusal: none,
+            refusal: refused,
             redone: 0,
         };
     }

@@ -20,17 +20,11 @@ pub enum Unit {
 
 // ----- places -----------------------------------------------------------------------------
 
-fn wide(x: u32) -> usize
-    ensures { λ r. ⌜ (r ≡ x) × (r < 4294967296) ⌝ }
-{
-    x as usize
-}
-
 // A field's place in the sheet: its body's offset and its place in the body.
 fn place_of(base: u32, k: u32) -> usize
     ensures { λ r. ⌜ (r ≡ base + k) × (r < 8589934592) ⌝ }
 {
-    wide(base) + wide(k)
+    words::wide(base) + words::wide(k)
 }
 
 // The word in a body.

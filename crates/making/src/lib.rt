@@ -37,7 +37,7 @@ fn standing(room: &[u8], len: usize) -> Reading
         return reading(Refusal::none(), Sheet::blank());
     }
     if room.len() < len {
-        return reading(Refusal { number: 1, step: 0 }, Sheet::blank());
+        return reading(Refusal::of_call(1), Sheet::blank());
     }
     sheet::read(&room[..len])
 }
@@ -62,12 +62,6 @@ fn with_step(sheet: Sheet, inverted: u32, step: Step) -> Sheet
     }
 }
 
-fn wide(x: u32) -> usize
-    ensures { λ r. ⌜ r ≡ x ⌝ }
-{
-    x as usize
-}
-
 // Writes the record, and answers with its length; on refusal with `len`.
 fn written(sheet: Sheet, room: &mut [u8], len: usize) -> Added
     ensures { λ r. ⌜ outcome r (now (room .exit)) ≡ writtenAs sheet (now (room .entry)) len ⌝ }
@@ -81,7 +75,7 @@ fn written(sheet: Sheet, room: &mut [u8], len: usize) -> Added
     }
     Added {
         refusal: refusal,
-        length: wide(words::read32(room, 4)),
+        length: words::wide(words::read32(room, 4)),
     }
 }
 

@@ -21,18 +21,6 @@ fn put_line(room: &mut [u8], at: usize, first: &[u8], a: u64, second: &[u8], b: 
     text::put_byte(room, s, b'\n')
 }
 
-fn wide32(x: u32) -> u64
-    ensures { λ r. ⌜ r ≡ x ⌝ }
-{
-    x as u64
-}
-
-fn wide(x: usize) -> u64
-    ensures { λ r. ⌜ r ≡ x ⌝ }
-{
-    x as u64
-}
-
 pub fn refused(room: &mut [u8], at: usize, number: u32, step: u32) -> usize
     ensures { λ r. ⌜ text (now (room .exit)) r ≡ appended (text (now (room .entry)) at) (refusedText number step) ⌝ }
 {
@@ -40,22 +28,36 @@ pub fn refused(room: &mut [u8], at: usize, number: u32, step: u32) -> usize
         room,
         at,
         b"refused ",
-        wide32(number),
+        words::wide64(number),
         b" step ",
-        wide32(step),
+        words::wide64(step),
     )
 }
 
 fn put_head(room: &mut [u8], at: usize, steps: usize, tuples: usize) -> usize
     ensures { λ r. ⌜ text (now (room .exit)) r ≡ appended (text (now (room .entry)) at) (headText steps tuples) ⌝ }
 {
-    put_line(room, at, b"steps ", wide(steps), b" tuples ", wide(tuples))
+    put_line(
+        room,
+        at,
+        b"steps ",
+        words::long(steps),
+        b" tuples ",
+        words::long(tuples),
+    )
 }
 
 fn put_count(room: &mut [u8], at: usize, step: usize, count: usize) -> usize
     ensures { λ r. ⌜ text (now (room .exit)) r ≡ appended (text (now (room .entry)) at) (countText step count) ⌝ }
 {
-    put_line(room, at, b"step ", wide(step), b" counted ", wide(count))
+    put_line(
+        room,
+        at,
+        b"step ",
+        words::long(step),
+        b" counted ",
+        words::long(count),
+    )
 }
 
 // A line for each step's count, no more than there are.

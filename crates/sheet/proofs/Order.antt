@@ -5,14 +5,14 @@ use mathlib.Core.List.{List, [], _∷_, _++_}
 use mathlib.Core.Bool.{Bool, true, false, not, cond, _||_, true≢false}
 use native.Mathlib.Omega.{arith}
 use native.Mathlib.Numerals.{add-one}
-use borrow.Author.Tests.{eqb-false, ltb-false}
+use borrow.Author.Tests.{eqb-false, ltb-false, lt-ltb}
 use lib.Dec.{eqb, ltb}
 use Rattle.bodies.specs.declared.Step.{Step}
 use Rattle.bodies.specs.Read.{stepOf}
 use Rattle.bodies.specs.Rules.{bodyInRule, lacksConvention, lacksEpoch, lacksDuration, lowestBroken}
 use Rattle.sheet.specs.declared.Refusal.{Refusal}
 use Rattle.sheet.specs.Layout.{offsetAt, lengthAt, stepCountOf, kindAt, stepAt}
-use Rattle.sheet.specs.Rules.{Rule, rule, ofCall, ofStep, accepted, firstBroken, rulesOfStep, fiveToEight, elevens, refusal6, refusal7, refusal8, refusal11, hasDeformation, someFrom, endBefore, refusal1, refusal2, refusal3, refusal4, refusal5, refusal5At, readerOrder, refusalOf}
+use Rattle.sheet.specs.Rules.{Rule, rule, ofCall, ofStep, ofIndex, accepted, firstBroken, rulesOfStep, fiveToEight, elevens, refusal6, refusal7, refusal8, refusal11, hasDeformation, someFrom, endBefore, refusal1, refusal2, refusal3, refusal4, refusal5, refusal5At, readerOrder, refusalOf}
 
 -- every rule has a number
 pub data Numbered : List Rule → Type 0 where
@@ -63,6 +63,13 @@ unfolding firstBroken
 broken-first [] m h = absurd (h refl)
 broken-first (r ∷ l) m h =
     broken-one (r .broken) (r .answer) (firstBroken l) (firstBroken (l ++ m)) h (broken-first l m)
+
+-- ---- a step's refusal
+
+-- at an index that a sheet can have it is of the step
+pub of-index : (number i : ℕ) → i < 16 → ofIndex number i ≡ ofStep number i
+unfolding ofIndex
+of-index number i h = rw (lt-ltb i 16 h)
 
 -- ---- a body
 

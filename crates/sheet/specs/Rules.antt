@@ -100,13 +100,17 @@ pub record Rule : Type 0 where
 abbrev pub accepted : Refusal
 accepted = record { number = 0; step = 0 }
 
--- of the sheet as a whole: step 0
+-- of the call as a whole: step 0
 abbrev pub ofCall : ℕ → Refusal
 ofCall number = record { number = number; step = 0 }
 
 -- of step i, which is answered from 1
 abbrev pub ofStep : ℕ → ℕ → Refusal
 ofStep number i = record { number = number; step = i + 1 }
+
+-- the same of any index: past 15, where no sheet has a step, of the call
+unfoldable pub ofIndex : ℕ → ℕ → Refusal
+ofIndex number i = cond (ltb i 16) (ofStep number i) (ofCall number)
 
 abbrev pub rule : Refusal → Bool → Rule
 rule answer broken = record { answer = answer; broken = broken }

@@ -1,10 +1,10 @@
 -- A sheet shown: its header, and step by step its directory entry and its fields; or the refusal in words, with the step and the place.
-use Prim.Native.Nat.{ℕ, zero, suc, _+_, _-_, _*_}
+use Prim.Native.Nat.{ℕ, zero, suc, _+_, _-_}
 use mathlib.Core.Bool.{cond}
 use mathlib.Core.List.{List, [], _++_}
 use lib.Dec.{eqb}
 use lib.ListN.{length}
-use Rattle.sheet.specs.Layout.{formOf, totalLengthOf, stepCountOf, directoryOffsetOf, kindAt, invertedAt, offsetAt, lengthAt}
+use Rattle.sheet.specs.Layout.{formOf, totalLengthOf, stepCountOf, directoryOffsetOf, entryOffset, kindAt, invertedAt, offsetAt, lengthAt}
 use Rattle.sheet.specs.Rules.{refusalOf}
 use Rattle.text.specs.Ascii.{ascii}
 use Rattle.text.specs.Digits.{decimalOf}
@@ -76,7 +76,7 @@ sheetPlace s number = lineOf (ascii "place: byte ") (wordPlace s number) ++ line
 -- a step's entry and body, and the step as it is
 unfoldable pub stepPlace : List ℕ → ℕ → List ℕ
 stepPlace s i =
-    lineOf (ascii "place: directory entry at byte ") (16 + 16 * i)
+    lineOf (ascii "place: directory entry at byte ") (entryOffset i)
     ++ lineOf (ascii "place: body at byte ") (offsetAt s i)
     ++ stepText s i
 

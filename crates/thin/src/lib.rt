@@ -11,7 +11,6 @@ ghost use mathlib.Core.Path.{_≡_};
 ghost use mathlib.Core.Bool.{true, false};
 ghost use Prim.Native.Nat.{_<_};
 ghost use Rattle.helmert.specs.Turns.{noState};
-ghost use Rattle.sheet.specs.Rules.{ofCall};
 ghost use Rattle.chain.specs.Rules.{refusedAnswer, outcome, shiftOf};
 ghost use Rattle.thin.specs.Tuples.{stepTuplesOf, stepTallyOf, flatOf};
 ghost use Rattle.thin.specs.Plans.{planOf, startsOf, beginOf, tallied, turnOf};
@@ -235,16 +234,6 @@ fn next_step(inverse: bool, s: &[u8], n: usize, i: usize) -> Todo
     }
 }
 
-// A refusal of the lent lists carries no step.
-fn of_lists(number: u32) -> Refusal
-    ensures { λ r. ⌜ r ≡ ofCall number ⌝ }
-{
-    Refusal {
-        number: number,
-        step: 0,
-    }
-}
-
 // The rules in document 01's order: the sheet's own, then 9, then 10.
 fn refusal_of(s: &[u8], tuples: usize, velocities: &[f64], marks: &[u8]) -> Refusal
     ensures { λ r. ⌜ r ≡ thinRefusalOf (now (s .entry)) tuples (now (velocities .entry)) (now (marks .entry)) ⌝ }
@@ -254,10 +243,10 @@ fn refusal_of(s: &[u8], tuples: usize, velocities: &[f64], marks: &[u8]) -> Refu
         return own;
     }
     if 2048 < tuples {
-        return of_lists(9);
+        return Refusal::of_call(9);
     }
     if chain::lent_broken(chain::has_deformation(s), 4 * tuples, velocities, marks) {
-        return of_lists(10);
+        return Refusal::of_call(10);
     }
     Refusal::none()
 }

@@ -12,32 +12,14 @@ use chain::Answer;
 use ellipsoid::Ellipsoid;
 use tuple::Tuple;
 
-fn wide(x: u32) -> usize
-    ensures { λ r. ⌜ (r ≡ x) × (r < 4294967296) ⌝ }
-{
-    x as usize
-}
-
 // The sheet's, the tuples' and the velocities' lengths as the job's head tells them.
 fn length_at(job: &[u8], at: usize) -> usize
     ensures { λ r. ⌜ (r ≡ word32 (now (job .entry)) at) × (r < 4294967296) ⌝ }
 {
-    wide(words::read32(job, at))
+    words::wide(words::read32(job, at))
 }
 
 // ----- words told and words found ---------------------------------------------------------
-
-fn of_word(x: u32) -> u64
-    ensures { λ r. ⌜ r ≡ x ⌝ }
-{
-    x as u64
-}
-
-fn of_count(n: usize) -> u64
-    ensures { λ r. ⌜ r ≡ n ⌝ }
-{
-    n as u64
-}
 
 fn differing(found: u64, told: u64) -> usize
     ensures { λ r. ⌜ (r ≡ differ found told) × (r ≤ 1) ⌝ }
@@ -52,7 +34,10 @@ fn differing_counts(s: &[u8], at: usize, counts: &[usize; 16]) -> usize
     let mut n = 0;
     let mut i = 0;
     while i < 16 {
-        n += differing(of_count(counts[i]), of_word(words::read32(s, at + 4 * i)));
+        n += differing(
+            words::long(counts[i]),
+            words::wide64(words::read32(s, at + 4 * i)),
+        );
         i += 1;
     }
     n
@@ -111,8 +96,14 @@ fn compared(told: &[u8], answer: Answer, list: &[f64]) -> usize
 {
     let refusal = answer.refusal;
     let counts = answer.counts;
-    differing(of_word(refusal.number), of_word(words::read32(told, 0)))
-        + differing(of_word(refusal.step), of_word(words::read32(told, 4)))
+    differing(
+        words::wide64(refusal.number),
+        words::wide64(words::read32(told, 0)),
+    )
+        + differing(
+            words::wide64(refusal.step),
+            words::wide64(words::read32(told, 4)),
+        )
         + differing_counts(told, 8, &counts)
         + differing_numbers(told, 72, list)
 }

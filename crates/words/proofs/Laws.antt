@@ -17,6 +17,15 @@ use Rattle.words.specs.Words.{Bytes, word32, word64, numberAt, oneNanAt,
 pub past-end : (s : List ℕ) (i : ℕ) → length s ≤ i → getD s i 0 ≡ 0
 past-end s i h = List·getD-eq-default s 0 h
 
+-- and so does a word
+pub word32-past-end : (s : List ℕ) (at : ℕ) → length s ≤ at → word32 s at ≡ 0
+unfolding word32
+word32-past-end s at h =
+    let h1 : length s ≤ at + 1 = omega arith in
+    let h2 : length s ≤ at + 2 = omega arith in
+    let h3 : length s ≤ at + 3 = omega arith in
+    rw (past-end s at h, past-end s (at + 1) h1, past-end s (at + 2) h2, past-end s (at + 3) h3)
+
 -- ---- lengths
 
 pub length-le32 : (n : ℕ) → length (le32 n) ≡ 4
@@ -94,6 +103,11 @@ unfolding oneNanAt
 number-in-rule x h = rw (number-back x h, bits-of-number x h) (nan-in-rule x)
 
 -- ---- a part of a list
+
+-- a word is read in the rest of a list as in the whole
+pub word32-in-rest : (s : List ℕ) (at k : ℕ) → word32 (drop at s) k ≡ word32 s (at + k)
+unfolding word32
+word32-in-rest s at k = simp (getD-drop, add-assoc)
 
 -- a word is read in a part as in the whole
 pub word32-in-part : (s : List ℕ) (at k n : ℕ) → k + 4 ≤ n → word32 (take n (drop at s)) k ≡ word32 s (at + k)

@@ -8,19 +8,33 @@ ghost use Prim.Native.Nat.{_+_, _<_, _≤_};
 ghost use lib.ListN.{length, getD};
 ghost use Rattle.words.specs.Words.{word32, word64, numberAt, oneNanAt, le32, le64, leNumber, putOf, put};
 
-// ----- reading ---------------------------------------------------------------------------
+// ----- the same number in a wider type -----------------------------------------------------
 
-fn wide(x: u8) -> u32
+pub fn wide(x: u32) -> usize
+    ensures { λ r. ⌜ (r ≡ x) × (r < 4294967296) ⌝ }
+{
+    x as usize
+}
+
+pub fn wide64(x: u32) -> u64
+    ensures { λ r. ⌜ (r ≡ x) × (r < 4294967296) ⌝ }
+{
+    x as u64
+}
+
+pub fn long(x: usize) -> u64
+    ensures { λ r. ⌜ r ≡ x ⌝ }
+{
+    x as u64
+}
+
+fn of_byte(x: u8) -> u32
     ensures { λ r. ⌜ (r ≡ x) × (r < 256) ⌝ }
 {
     x as u32
 }
 
-fn wide64(x: u32) -> u64
-    ensures { λ r. ⌜ (r ≡ x) × (r < 4294967296) ⌝ }
-{
-    x as u64
-}
+// ----- reading ---------------------------------------------------------------------------
 
 // The byte k places after `at`.
 fn byte(s: &[u8], at: usize, k: usize) -> u32
@@ -28,7 +42,7 @@ fn byte(s: &[u8], at: usize, k: usize) -> u32
 {
     if at < s.len() {
         if k < s.len() - at {
-            return wide(s[at + k]);
+            return of_byte(s[at + k]);
         }
     }
     0

@@ -30,7 +30,7 @@ returns-2 : tie.Need-returns-2
 unfolding writtenAs
 returns-2 c =
     let w = c .before .before .before .before .before .before .before .write .ensures in
-    rw (c .wide .ensures, c .before .read32 .ensures, w .1, ← w .0, eq-eqb _ _ (c .before .before .before .if1 .left))
+    rw (c .wide .ensures .0, c .before .read32 .ensures, w .1, ← w .0, eq-eqb _ _ (c .before .before .before .if1 .left))
 
 pub written-spec : {M : Type 1} → statement M
 written-spec =

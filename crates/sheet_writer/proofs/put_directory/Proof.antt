@@ -22,11 +22,8 @@ Inv-loop room₀ sheet n start₀ i₀ room start i = (i ≤ n) × ((start ≡ b
 abbrev μ-loop : tie.MeasureT-loop
 μ-loop room₀ sheet n start₀ i₀ room start i = n - i
 
-mul-start : tie.Need-mul-start Inv-loop μ-loop
-mul-start c = search needs
-
-add-start : tie.Need-add-start Inv-loop μ-loop
-add-start c = search needs
+directory-end-requires : tie.Need-directory-end-requires Inv-loop μ-loop
+directory-end-requires c κs = search needs
 
 loop-holds : tie.Need-loop-holds Inv-loop μ-loop
 unfolding bodyStart directoryBytes
@@ -38,8 +35,8 @@ put-place-requires c κs = search needs
 length-in-requires : tie.Need-length-in-requires Inv-loop μ-loop
 length-in-requires c κs = search needs
 
-add-start-2 : tie.Need-add-start-2 Inv-loop μ-loop
-add-start-2 c = search needs
+add-start : tie.Need-add-start Inv-loop μ-loop
+add-start c = search needs
 
 add-i : tie.Need-add-i Inv-loop μ-loop
 add-i c = search needs
@@ -50,7 +47,7 @@ loop-less c = search needs
 loop-again : tie.Need-loop-again Inv-loop μ-loop
 loop-again c =
     let l = c .before .before .before .before .before .before in
-    let o = l .before .before in
+    let o = l .before .before .before in
     let a = o .args in
     let p = c .before .before .before .put-place in
     (omega arith, (omega (arith, start-next (a .sheet) (l .loop .i)), (omega arith, (omega arith, rw (p .ensures, l .loop .inv .1 .1 .1 .1) (directory-next _ _ _ (omega arith))))))
@@ -61,7 +58,7 @@ same-length c = search needs
 returns : tie.Need-returns Inv-loop μ-loop
 returns c =
     let l = c .before in
-    let a = l .before .before .args in
+    let a = l .before .before .before .args in
     let all : l .loop .i ≡ a .n = omega arith in
     l .loop .inv .1 .1 .1 .1 ∙ ap (λ (k : ℕ). put (a .room .now) 16 (directoryBytes (a .sheet) k)) all
 
@@ -71,12 +68,11 @@ put-directory-spec =
     (tie.spec
     Inv-loop
     μ-loop
-    mul-start
-    add-start
+    directory-end-requires
     loop-holds
     put-place-requires
     length-in-requires
-    add-start-2
+    add-start
     add-i
     loop-less
     loop-again

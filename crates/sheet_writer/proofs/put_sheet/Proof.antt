@@ -20,6 +20,9 @@ sheet-length-requires c κs = search needs
 cast-put-words : tie.Need-cast-put-words
 cast-put-words c = search needs
 
+cast-put-words-2 : tie.Need-cast-put-words-2
+cast-put-words-2 c = search needs
+
 put-words-requires : tie.Need-put-words-requires
 put-words-requires c κs = omega (arith, bodies-length (c .before .before .before .before .args .sheet) (c .before .before .before .before .args .sheet .count))
 
@@ -62,6 +65,7 @@ put-sheet-spec =
     wide-requires
     sheet-length-requires
     cast-put-words
+    cast-put-words-2
     put-words-requires
     put-directory-requires
     put-bodies-requires

@@ -18,21 +18,18 @@ Inv-loop sheet n end₀ i₀ end i = (i ≤ n) × ((end ≡ bodyStart sheet i) �
 abbrev μ-loop : tie.MeasureT-loop
 μ-loop sheet n end₀ i₀ end i = n - i
 
-mul-end : tie.Need-mul-end Inv-loop μ-loop
-mul-end c = search needs
-
-add-end : tie.Need-add-end Inv-loop μ-loop
-add-end c = search needs
+directory-end-requires : tie.Need-directory-end-requires Inv-loop μ-loop
+directory-end-requires c κs = search needs
 
 loop-holds : tie.Need-loop-holds Inv-loop μ-loop
 unfolding bodyStart
-loop-holds c = (omega arith, (rw (c .pre .1), omega arith))
+loop-holds c = (omega arith, (c .directory-end .ensures .0, omega arith))
 
 length-in-requires : tie.Need-length-in-requires Inv-loop μ-loop
 length-in-requires c κs = search needs
 
-add-end-2 : tie.Need-add-end-2 Inv-loop μ-loop
-add-end-2 c = search needs
+add-end : tie.Need-add-end Inv-loop μ-loop
+add-end c = search needs
 
 add-i : tie.Need-add-i Inv-loop μ-loop
 add-i c = search needs
@@ -42,12 +39,12 @@ loop-less c = search needs
 
 loop-again : tie.Need-loop-again Inv-loop μ-loop
 loop-again c = let l = c .before .before in
-    (omega arith, (omega (arith, start-next (l .before .args .sheet) (l .loop .i)), omega arith))
+    (omega arith, (omega (arith, start-next (l .before .before .args .sheet) (l .loop .i)), omega arith))
 
 returns : tie.Need-returns Inv-loop μ-loop
 returns c = let l = c .before in
-    let all : l .loop .i ≡ l .before .args .sheet .count = omega arith in
-    (l .loop .inv .1 .0 ∙ ap (bodyStart (l .before .args .sheet)) all, omega arith)
+    let all : l .loop .i ≡ l .before .before .args .sheet .count = omega arith in
+    (l .loop .inv .1 .0 ∙ ap (bodyStart (l .before .before .args .sheet)) all, omega arith)
 
 pub sheet-length-spec : {M : Type 1} → statement M
 sheet-length-spec =
@@ -55,11 +52,10 @@ sheet-length-spec =
     (tie.spec
     Inv-loop
     μ-loop
-    mul-end
-    add-end
+    directory-end-requires
     loop-holds
     length-in-requires
-    add-end-2
+    add-end
     add-i
     loop-less
     loop-again
