@@ -61,6 +61,19 @@ of-x : (x : Float) (s : Bool) (d k : ℕ) → decimalOf x ≡ Found s d k → Fr
 unfolding decimalOf
 of-x x s d k e = found-from 23 (passesOf (absOf x) 0) (signOf x) (absOf x) 0 s d k refl e
 
+-- ---- where nothing was found no number of places passes
+
+none-from : (n : ℕ) (b sign : Bool) (a : Float) (k : ℕ) → b ≡ passesOf a k → firstFrom n b sign a k ≡ Nothing → (i : ℕ) → k ≤ i → i < k + n → passesOf a i ≡ false
+unfolding firstFrom
+none-from zero b sign a k p e i h l = absurd (omega arith)
+none-from (suc n) true sign a k p e i h l = let z : _≡_ {A = ℕ} 0 1 = cc in absurd (omega arith)
+none-from (suc n) false sign a k p e i h l =
+    here-or-after a k (k + suc n) (sym p) (λ m g f. none-from n (passesOf a (k + 1)) sign a (k + 1) refl e m g (omega arith)) i h l
+
+pub none-passes : (x : Float) → decimalOf x ≡ Nothing → (k : ℕ) → k < 23 → passesOf (absOf x) k ≡ false
+unfolding decimalOf
+none-passes x e k h = none-from 23 (passesOf (absOf x) 0) (signOf x) (absOf x) 0 refl e k (omega arith) (omega arith)
+
 -- ---- it reads back
 
 abs-fits : (x : Float) → T (fits binary64 x) → T (fits binary64 (absOf x))
@@ -80,6 +93,10 @@ pub reads-back : (x : Float) (s : Bool) (d k : ℕ) → T (fits binary64 x) → 
 reads-back x s d k h e =
     let r = of-x x s d k e in
     (r .its-sign, ap (λ (n : ℕ). readOf n k) (r .its-digits) ∙ passed-reads (absOf x) k (abs-fits x h) (r .passed))
+
+-- its places pass the test
+pub its-places-pass : (x : Float) (s : Bool) (d k : ℕ) → decimalOf x ≡ Found s d k → passesOf (absOf x) k ≡ true
+its-places-pass x s d k e = of-x x s d k e .passed
 
 -- no smaller number of places passes the test, and there are no more than 22
 pub fewest-that-pass : (x : Float) (s : Bool) (d k : ℕ) → decimalOf x ≡ Found s d k → (k < 23) × ((j : ℕ) → j < k → passesOf (absOf x) j ≡ false)

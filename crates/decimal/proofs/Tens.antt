@@ -17,11 +17,11 @@ use Rattle.floats.proofs.Laws.{same-are-equal}
 use Rattle.decimal.specs.Places.{tenTo}
 
 -- a test at each number below n
-each : (ℕ → Bool) → ℕ → Bool
+unfoldable pub each : (ℕ → Bool) → ℕ → Bool
 each f zero = true
 each f (suc n) = f n && each f n
 
-there : (f : ℕ → Bool) (n : ℕ) → T (each f n) → (k : ℕ) → k < n → T (f k)
+pub there : (f : ℕ → Bool) (n : ℕ) → T (each f n) → (k : ℕ) → k < n → T (f k)
 unfolding each
 there f zero t k h = absurd (omega arith)
 there f (suc n) t k h = by (eqb k n) refl (there f n (and-r (f n) (each f n) t) k)

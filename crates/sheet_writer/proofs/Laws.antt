@@ -18,7 +18,7 @@ use Rattle.sheet.specs.declared.Refusal.{Refusal}
 use Rattle.sheet.specs.declared.Sheet.{Sheet}
 use Rattle.sheet.specs.Layout.{stepCountOf, kindAt, bodyAt, recordOf, entryOf, stepIn, kindIn}
 use Rattle.sheet_writer.specs.Bytes.{sheetLength, sheetBytesOf}
-use Rattle.sheet.specs.Rules.{accepted, firstBroken, refusalOf, refusal3, refusal6, refusal7, refusal8, refusal11, fiveToEight, elevens}
+use Rattle.sheet.specs.Rules.{accepted, refusalOf, refusal3, refusal6, refusal7, refusal8, refusal11, fiveToEight, elevens}
 use Rattle.sheet_writer.specs.Rules.{writerOrder, writerRefusalOf, roomAfterOf, recordRefusal4, recordRefusal5, refusal15, invertedBrokenIn}
 use Rattle.sheet.proofs.Order.{Unbroken, none-broken, kept-append}
 use Rattle.sheet.proofs.Each.{StepKept, every-step, every-eleven, every-kept, eleven-same}
@@ -27,7 +27,7 @@ use Rattle.sheet_writer.proofs.Forth.{taken, count-back, accepted-back,
 use Rattle.sheet_writer.proofs.Writing.{sheet-bytes-length}
 use Rattle.sheet.proofs.Back.{record-count, count-same, entry-same, step-same, inverted-same, kind-same}
 use Rattle.sheet_writer.proofs.SameBytes.{sheet-length-same, bytes-same}
-use Rattle.sheet.proofs.Laws.{FirstBroken, find, give}
+use Rattle.sheet.proofs.Laws.{FirstBroken, first-broken-exactly-when}
 
 -- ---- given exactly when
 
@@ -35,10 +35,7 @@ use Rattle.sheet.proofs.Laws.{FirstBroken, find, give}
 pub writer-gives-exactly-when : (sheet : Sheet) (room : ℕ) (r : Refusal) → (r .number ≡ 0 → ⊥)
     → (writerRefusalOf sheet room ≡ r) ↔ FirstBroken (writerOrder sheet room) r
 unfolding writerRefusalOf
-writer-gives-exactly-when sheet room r h = (
-  find (writerOrder sheet room) r h,
-  λ f. ap firstBroken (f .in-order) ∙ give (f .before) (f .its-rule) (f .after) (f .kept-before) (f .is-broken) ∙ f .answers,
-)
+writer-gives-exactly-when sheet room r h = first-broken-exactly-when (writerOrder sheet room) r h
 
 -- ---- read, then written
 

@@ -10,7 +10,7 @@ use Rattle.sheet.specs.Layout.{stepIn, kindIn}
 use Rattle.sheet_writer.specs.Bytes.{sheetLength}
 use Rattle.sheet.specs.Rules.{Rule, rule, ofCall, accepted, firstBroken, fiveToEight, elevens, refusal3}
 use Rattle.sheet_writer.specs.Rules.{recordRefusal4, recordRefusal5, refusal15, writerOrder, writerRefusalOf}
-use Rattle.sheet.proofs.Order.{Numbered, not-zero, numbered-append, numbered-steps, numbered-elevens, kept-then, broken-first, Unbroken, all-kept, kept-right, count-kept}
+use Rattle.sheet.proofs.Order.{Without, Numbered, not-zero, without-append, numbered-steps, numbered-elevens, kept-then, broken-first, Unbroken, all-kept, kept-right, count-kept}
 
 -- after step by step 5 to 8 and 11: 15
 abbrev pub last : Sheet → ℕ → List Rule
@@ -32,9 +32,9 @@ module _ (sheet : Sheet) (room : ℕ) where
   pub numbered-writer : Numbered (writerOrder sheet room)
   unfolding writerOrder
   numbered-writer =
-      Numbered.next (not-zero 2) (Numbered.next (not-zero 3)
-      (numbered-append (numbered-steps (recordRefusal5 sheet) (stepIn sheet) (sheet .count) 0)
-      (numbered-append (numbered-elevens (kindIn sheet) (sheet .count) 0) (Numbered.next (not-zero 14) Numbered.none))))
+      Without.next (λ b. not-zero 2) (Without.next (λ b. not-zero 3)
+      (without-append (numbered-steps (recordRefusal5 sheet) (stepIn sheet) (sheet .count) 0)
+      (without-append (numbered-elevens (kindIn sheet) (sheet .count) 0) (Without.next (λ b. not-zero 14) Without.none))))
 
   module _ (kept3 : refusal3 (sheet .count) ≡ false) (kept4 : recordRefusal4 sheet ≡ false) (n : ℕ) (count : n ≡ sheet .count) where
     passed : writerRefusalOf sheet room ≡ firstBroken (after sheet room (sheet .count))

@@ -1,8 +1,8 @@
 -- Invariant: the first i elements of step, rest and tail are the reductions of the magnitudes of
 -- the first i angles, with 0 for a NaN (`stepOf`, `restOf`, `tailOf`; `WholeUpTo` for the steps,
 -- which are whole numbers, and `UpTo` for the others). A turn writes one reduction more by the
--- contracts of `number`, `abs` and `reduce` (`one-more-whole`, `one-more`). At i = 16 all are
--- written (`all-filled-whole`, `all-filled`). The measure is 16 - i. Assumes nothing.
+-- contracts of `number`, `abs` and `reduce` (`one-more`). At i = 16 all are
+-- written (`all-filled`). The measure is 16 - i. Assumes nothing.
 use Prim.Native.Nat.{ℕ, _-_}
 use borrow.Author.Needs.{needs}
 use mathlib.Core.Path.{refl, ap, _∙_}
