@@ -1,4 +1,5 @@
--- `arctan_block::mend` meets its contract. Assumes nothing.
+-- `arctan_block::mend`. Invariant: the places before i are written, the others hold what they held
+-- (`Over`); a turn writes the next (`one-more-over`). Assumes nothing.
 use borrow.Author.Needs.{needs}
 use Prim.Native.Nat.{ℕ, _-_}
 use mathlib.Core.Path.{_∙_}

@@ -1,4 +1,5 @@
--- `arctan_block::pairs` meets its contract. Assumes nothing.
+-- `arctan_block::pairs`. Invariant: the places before 2 h hold the angles by the rows (`UpTo`); a
+-- turn fills two (`two-more`). Assumes nothing.
 use borrow.Author.Needs.{needs}
 use Prim.Native.Nat.{ℕ, _-_, _*_}
 use mathlib.Core.Path.{refl}

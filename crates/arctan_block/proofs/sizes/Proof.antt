@@ -1,4 +1,5 @@
--- `arctan_block::sizes` meets its contract. Assumes nothing.
+-- `arctan_block::sizes`. Invariant: the points before i are sized, and n says how odd they are
+-- together (`SizedUpTo`). Assumes nothing.
 use borrow.Author.Needs.{needs}
 use Prim.Native.Nat.{_-_, _≤_}
 use native.Mathlib.Omega.{arith}

@@ -1,4 +1,5 @@
--- `cart_block::count_off_axis_block` meets its contract. Assumes nothing.
+-- `cart_block::count_off_axis_block`. Invariant: n counts the places before i (`CountedBefore`).
+-- Assumes nothing.
 use Prim.Native.Nat.{ℕ, _-_}
 use mathlib.Core.Path.{ap, _∙_}
 use mathlib.Core.Bool.{Bool, cond}

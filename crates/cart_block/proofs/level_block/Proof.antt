@@ -1,4 +1,5 @@
--- `cart_block::level_block` meets its contract. Assumes nothing.
+-- `cart_block::level_block`. Invariant: the places before i hold the contract's values (`UpTo`); a
+-- turn fills the next (`one-more`). Assumes nothing.
 use Prim.Native.Nat.{ℕ, _-_}
 use mathlib.Core.Path.{refl, ap, _∙_}
 use lib.Ieee.{Float}

@@ -1,4 +1,5 @@
--- `deformation_block::count_block` meets its contract. Assumes nothing.
+-- `deformation_block::count_block`. Invariant: n counts the places before i (`CountedBefore`).
+-- Assumes nothing.
 use Prim.Native.Nat.{ℕ, _-_}
 use borrow.Author.Needs.{needs}
 use lib.Dec.{eqb}

@@ -1,4 +1,5 @@
--- `deformation_block::turned_block` meets its contract. Assumes nothing.
+-- `deformation_block::turned_block`. Invariant: the places before i are written, the others hold
+-- what they held (`Over`); a turn writes the next (`one-more-over`). Assumes nothing.
 use Prim.Native.Nat.{ℕ, _-_}
 use borrow.Author.Needs.{needs}
 use mathlib.Core.Path.{ap}

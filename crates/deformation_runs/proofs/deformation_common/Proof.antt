@@ -1,4 +1,7 @@
--- `deformation_runs::deformation_common` meets its contract. Assumes nothing.
+-- `deformation_runs::deformation_common`. Two loops, by sixteen tuples and by one. Invariant of the
+-- first: the tuples before i are moved and the rest untouched (`Ran`), and n counts them
+-- (`Counted`); the second goes on from there (`Onward`, `CountedOnward`). The list's length fits 64
+-- bits, which keeps the index of a fix in range. Assumes nothing.
 use Prim.Native.Nat.{_-_, _^_, _<_}
 use borrow.Author.Needs.{needs}
 use native.Mathlib.Omega.{arith}

@@ -1,4 +1,5 @@
--- `deformation_runs::velocity_block` meets its contract. Assumes nothing.
+-- `deformation_runs::velocity_block`. Invariant: the places before j hold the contract's values
+-- (`UpTo`); a turn fills the next (`one-more`). Assumes nothing.
 use Prim.Native.Nat.{ℕ, _+_, _-_}
 use borrow.Author.Needs.{needs}
 use mathlib.Core.Path.{refl, ap}

@@ -1,4 +1,5 @@
--- `geocart_block::point_block` meets its contract. Assumes nothing.
+-- `geocart_block::point_block`. Invariant: the places before i hold the contract's values (`UpTo`);
+-- a turn fills the next (`one-more`). Assumes nothing.
 use Prim.Native.Nat.{ℕ, _-_}
 use mathlib.Core.Path.{refl, ap}
 use Rattle.blocks.specs.Each.{at, UpTo}

@@ -1,4 +1,5 @@
--- `hypot_block::any_block` meets its contract. Assumes nothing.
+-- `hypot_block::any_block`. Invariant: the places before i hold the contract's values (`UpTo`); a
+-- turn fills the next (`one-more`). Assumes nothing.
 use Prim.Native.Nat.{ℕ, _-_}
 use borrow.Author.Needs.{needs}
 use mathlib.Core.Path.{refl}

@@ -1,4 +1,5 @@
--- `hypot_block::usual_block` meets its contract. Assumes nothing.
+-- `hypot_block::usual_block`. Invariant: the places before i hold the usual case's lengths, and all
+-- tells whether each sum of squares was ordinary (`UsualUpTo`). Assumes nothing.
 use Prim.Native.Nat.{_-_}
 use borrow.Author.Needs.{needs}
 use mathlib.Core.Path.{refl}

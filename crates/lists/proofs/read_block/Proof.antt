@@ -1,4 +1,6 @@
--- `lists::read_block` meets its contract. Assumes nothing.
+-- `lists::read_block`. Where not all sixteen tuples stand there, the columns are NaNs
+-- (`none-there-block`). Else the invariant: the places before i hold the tuples' numbers (`UpTo`).
+-- Assumes nothing.
 use borrow.Author.Needs.{needs}
 use Prim.Native.Nat.{ℕ, _+_, _*_, _-_, _≤_, _<_}
 use mathlib.Core.Path.{_≡_, refl, ap, sym, _∙_}

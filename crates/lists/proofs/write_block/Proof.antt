@@ -1,4 +1,5 @@
--- `lists::write_block` meets its contract. Assumes nothing.
+-- `lists::write_block`. Invariant: the list is the old one with the tuples before i put
+-- (`putRows`). Assumes nothing.
 use borrow.Author.Needs.{needs}
 use Prim.Native.Nat.{ℕ, _+_, _*_, _-_, _≤_}
 use mathlib.Core.Path.{_≡_, refl, sym, ap, _∙_}

@@ -1,4 +1,6 @@
--- `molodensky_block::full_shifts` meets its contract. Assumes nothing.
+-- `molodensky_block::full_shifts`. Invariant: the places before i are written; the other places of
+-- dlam and dphi hold the sines and cosines that were there (`Over`), and dh is filled anew
+-- (`UpTo`). Assumes nothing.
 use Prim.Native.Nat.{ℕ, _-_}
 use borrow.Author.Needs.{needs}
 use mathlib.Core.Path.{refl}

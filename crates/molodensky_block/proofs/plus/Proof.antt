@@ -1,4 +1,5 @@
--- `molodensky_block::plus` meets its contract. Assumes nothing.
+-- `molodensky_block::plus`. Invariant: the places before i are written, the others hold what they
+-- held (`Over`); a turn writes the next (`one-more-over`). Assumes nothing.
 use Prim.Native.Nat.{ℕ, _-_}
 use borrow.Author.Needs.{needs}
 use Rattle.floats.specs.Binary64.{_⊕_}

@@ -1,4 +1,5 @@
--- `root::by_digits` meets its contract. The invariant: a * 4 ^ i is q² and a remainder of at most 2 q. Assumes nothing.
+-- `root::by_digits` meets its contract. The invariant: a * 4 ^ i is q² and a remainder of at most 2
+-- q. Assumes nothing.
 use mathlib.Core.Path.{_≡_, ap}
 use Prim.Native.Nat.{ℕ, _+_, _-_, _*_, _/_, _^_, _≤_, _<_}
 use native.Mathlib.Omega.{arith}

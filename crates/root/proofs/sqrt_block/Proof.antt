@@ -1,4 +1,5 @@
--- `root::sqrt_block` meets its contract: the first loop fills g with guesses, of which only the number of their digits is known, the second r with roots. Assumes nothing.
+-- `root::sqrt_block` meets its contract: the first loop fills g with guesses, of which only the
+-- number of their digits is known, the second r with roots. Assumes nothing.
 use Prim.Native.Nat.{ℕ, _+_, _-_, _<_}
 use native.Mathlib.Nat.{not-suc-le-zero}
 use native.Mathlib.Omega.{arith}

@@ -1,4 +1,5 @@
--- `root::whole` meets its contract. The invariant: the root is q or above, and below q + bit. Assumes nothing.
+-- `root::whole` meets its contract. The invariant: the root is q or above, and below q + bit.
+-- Assumes nothing.
 use mathlib.Core.Path.{_≡_, ap}
 use Prim.Native.Nat.{ℕ, _+_, _-_, _*_, _/_, _^_, _≤_, _<_}
 use native.Mathlib.Omega.{arith}

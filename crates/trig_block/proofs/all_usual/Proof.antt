@@ -1,4 +1,5 @@
--- `trig_block::all_usual` meets its contract. Assumes nothing.
+-- `trig_block::all_usual`. Invariant: all tells whether each place before i is usual (`Tells`).
+-- Assumes nothing.
 use Prim.Native.Nat.{ℕ, _-_}
 use borrow.Author.Needs.{needs}
 use Rattle.blocks.specs.Each.{at, Tells}

@@ -1,4 +1,5 @@
--- `trig_block::usual_sums` meets its contract. Assumes nothing.
+-- `trig_block::usual_sums`. Invariant: the places before i hold the contract's values (`UpTo`); a
+-- turn fills the next (`one-more`). Assumes nothing.
 use Prim.Native.Nat.{ℕ, _-_}
 use borrow.Author.Needs.{needs}
 use mathlib.Core.Path.{refl, ap}
