@@ -1,4 +1,5 @@
--- A block of points: when the rows of the tables give a point's angle, and the loop that tells so of all. Assumes nothing.
+-- A block of points: when the rows of the tables give a point's angle, and the loop that tells so
+-- of all. Assumes nothing.
 use Prim.Native.Nat.{ℕ, zero, suc, _+_, _-_, _*_, _/_, _%_, _<_, _≤_, min}
 use native.Mathlib.Nat.{not-suc-le-zero, eq-or-lt-of-le, lt-of-lt-of-le, le-div-iff-mul-le, div-lt-iff-lt-mul, zero-lt-suc, lt-irrefl}
 use native.Mathlib.Omega.{arith}

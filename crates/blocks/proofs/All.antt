@@ -1,4 +1,5 @@
--- A loop that asks whether all places of a block have a property: the start, a turn, the end, and what the answer says of each. Assumes nothing.
+-- A loop that asks whether all places of a block have a property: the start, a turn, the end, and
+-- what the answer says of each. Assumes nothing.
 use Prim.Native.Nat.{ℕ, zero, suc, _+_, _<_, _≤_}
 use native.Mathlib.Nat.{not-suc-le-zero, le-of-suc-le-suc, eq-or-lt-of-le, le-antisymm}
 use native.Mathlib.Numerals.{add-one}

@@ -1,4 +1,5 @@
--- A loop that counts the places of a block that have a property: the start, a turn, the end. Assumes nothing.
+-- A loop that counts the places of a block that have a property: the start, a turn, the end.
+-- Assumes nothing.
 use Prim.Native.Nat.{ℕ, zero, suc, _+_, _<_, _≤_}
 use native.Mathlib.Nat.{le-antisymm}
 use native.Mathlib.Numerals.{add-one}

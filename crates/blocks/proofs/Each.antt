@@ -1,5 +1,5 @@
--- Blocks of the same values are the same list. So a contract that says `Each (now (y .exit)) f` fixes every number of the block y, and leaves nothing beside them.
--- Assumes nothing.
+-- Blocks of the same values are the same list. So a contract that says `Each (now (y .exit)) f`
+-- fixes every number of the block y, and leaves nothing beside them. Assumes nothing.
 use Prim.Native.Nat.{ℕ, _<_}
 use mathlib.Core.Path.{_≡_, sym, _∙_, subst}
 use mathlib.Core.List.{List}

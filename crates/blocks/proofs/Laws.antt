@@ -1,4 +1,5 @@
--- A loop that fills a block place by place, with elements of any type: the start, a turn, the end. Assumes nothing.
+-- A loop that fills a block place by place, with elements of any type: the start, a turn, the end.
+-- Assumes nothing.
 use Prim.Native.Nat.{ℕ, _+_, _<_, _≤_}
 use native.Mathlib.Nat.{not-suc-le-zero, eq-or-lt-of-le, lt-of-lt-of-le, lt-irrefl}
 use native.Mathlib.Omega.{arith}
@@ -9,7 +10,8 @@ use lib.ListN.{getD, set, length, length-set}
 use lib.Seq.{getD-set-same, getD-set-other}
 use Rattle.blocks.specs.Each.{Filled}
 
--- a turn that writes at place i keeps what holds of each place before, and what holds of the number written holds there
+-- a turn that writes at place i keeps what holds of each place before, and what holds of the number
+-- written holds there
 pub one-more-held :
     {A : Type 0} (P : ℕ → A → Type 0) (d v : A) (l : List A) (i : ℕ)
     → i < length l → P i v → ((j : ℕ) → j < i → P j (getD l j d)) → (j : ℕ) → j < i + 1 → P j (getD (set l i v) j d)

@@ -1,4 +1,5 @@
--- A loop that writes each place of a block over the number that it reads there: the start, a turn, the end. Assumes nothing.
+-- A loop that writes each place of a block over the number that it reads there: the start, a turn,
+-- the end. Assumes nothing.
 use Prim.Native.Nat.{ℕ, _+_, _<_, _≤_}
 use native.Mathlib.Nat.{le-refl, lt-irrefl}
 use native.Mathlib.Omega.{arith}

@@ -1,4 +1,5 @@
--- Blocks: arrays of 16 numbers, and what it is for their places to hold the values of a function of the place.
+-- Blocks: arrays of 16 numbers, and what it is for their places to hold the values of a function of
+-- the place.
 use Prim.Native.Nat.{ℕ, zero, suc, _+_, _<_, _≤_}
 use mathlib.Core.Bool.{Bool, true, false, cond}
 use mathlib.Core.Path.{_≡_}

@@ -1,8 +1,11 @@
-// Geographic to cartesian coordinates and back as a step of a sheet: cart.rs of the crate geodesy 0.15.0.
+// Geographic to cartesian coordinates and back as a step of a sheet: cart.rs of the crate geodesy
+// 0.15.0.
 //
-// Forward is `geocart::cartesian`. Inverse is cart.rs's own method, Fukushima's (2006) in Claessens' (2019) form, with the Rust's letters and sequence of
-// roundings; it is not `geocart::geographic`, from which it parts in the last bits and near the axis (cutoff a·1e-16 against 1e-12). On the axis the tuple
-// is written and not counted; a NaN Z gives a NaN latitude there, a listed difference. Elsewhere a tuple counts where no number of the result is NaN.
+// Forward is `geocart::cartesian`. Inverse is cart.rs's own method, Fukushima's (2006) in
+// Claessens' (2019) form, with the Rust's letters and sequence of roundings; it is not
+// `geocart::geographic`, from which it parts in the last bits and near the axis (cutoff a·1e-16
+// against 1e-12). On the axis the tuple is written and not counted; a NaN Z gives a NaN latitude
+// there, a listed difference. Elsewhere a tuple counts where no number of the result is NaN.
 // Sixteen tuples at a time: the crate cart_block.
 ghost use mathlib.Core.Path.{_≡_};
 ghost use Rattle.cart.specs.Record.{blankOf, inRuleOf};
@@ -83,7 +86,8 @@ impl Inverse {
     }
 }
 
-// S1 and CC, the legs of the latitude's angle, of a point of the meridian plane: p, s0 and c0 reduced by the semimajor axis, a the hypotenuse of s0 and c0.
+// S1 and CC, the legs of the latitude's angle, of a point of the meridian plane: p, s0 and c0
+// reduced by the semimajor axis, a the hypotenuse of s0 and c0.
 pub fn meridian(k: Inverse, p: f64, s0: f64, c0: f64, a: f64) -> Legs
     ensures { λ r. ⌜ r ≡ latitudeLegsOf k p s0 c0 a ⌝ }
 {

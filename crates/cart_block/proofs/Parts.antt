@@ -1,4 +1,5 @@
--- What the loops over blocks reach is what `cartFwdOf` and `cartInvOf` say, number by number. Assumes nothing.
+-- What the loops over blocks reach is what `cartFwdOf` and `cartInvOf` say, number by number.
+-- Assumes nothing.
 use mathlib.Core.Path.{_≡_, refl, _∙_, sym}
 use mathlib.Core.Bool.{Bool, true, false, not, cond}
 use lib.Ieee.{Float, lt}

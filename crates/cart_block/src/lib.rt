@@ -1,8 +1,11 @@
-// Geographic to cartesian coordinates and back, sixteen tuples at a time: the step of the crate cart by the block.
+// Geographic to cartesian coordinates and back, sixteen tuples at a time: the step of the crate
+// cart by the block.
 //
-// Method, letters and sequence of roundings are those of `cart`: each tuple and the count are proved to be what `cart_fwd` and `cart_inv` give, in every bit. The kernels
-// are called by their blocks, and between them are short loops of arithmetic alone, which a compiler turns into vector instructions. On the axis too the latitude and
-// height of a point off it are worked out, and not taken. Used by the loops over a list.
+// Method, letters and sequence of roundings are those of `cart`: each tuple and the count are
+// proved to be what `cart_fwd` and `cart_inv` give, in every bit. The kernels are called by their
+// blocks, and between them are short loops of arithmetic alone, which a compiler turns into vector
+// instructions. For every point both the on-axis and the off-axis result are computed and one is
+// selected, so the loops have no branch. Used by the loops over a list.
 ghost use mathlib.Core.Path.{_≡_};
 ghost use mathlib.Core.Bool.{not};
 ghost use Prim.Native.Nat.{ℕ};
@@ -74,7 +77,8 @@ fn reduced_block(
     }
 }
 
-// S1 and CC of a block, a the hypotenuses. P, S0 and C0 are worked out again: three products cost less than three columns kept.
+// S1 and CC of a block, a the hypotenuses. P, S0 and C0 are worked out again: three products cost
+// less than three columns kept.
 fn meridian_block(
     k: Inverse,
     p: &[f64; WIDTH],
@@ -147,7 +151,8 @@ fn level_block(
     }
 }
 
-// The heights of a block: as `height` gives them, or a pole's where p is less than the cutoff. The hypotenuses are laid down in inner and outer.
+// The heights of a block: as `height` gives them, or a pole's where p is less than the cutoff. The
+// hypotenuses are laid down in inner and outer.
 fn height_block(
     k: Inverse,
     p: &[f64; WIDTH],

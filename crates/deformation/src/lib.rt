@@ -1,9 +1,12 @@
-// Kinematic datum shift by velocities of the ground: deformation.rs of the crate geodesy 0.15.0, after Häkli et al. (2023).
+// Kinematic datum shift by velocities of the ground: deformation.rs of the crate geodesy 0.15.0,
+// after Häkli et al. (2023).
 //
-// The Rust looks a velocity up in grid files; here the caller lends it, east, north and up in mm a year, with a mark that says whether there is one.
-// Letters and sequence of roundings are the Rust's, over our kernels. Forward adds (t - t_epoch) times the velocity, while comment (3) of the Rust's file
-// subtracts it: the code decides, and the difference is listed. The sum works on all four coordinates, the fourth addend 0.0, so a time of -0 becomes +0.
-// Sixteen tuples at a time: `deformation_block`.
+// The Rust looks a velocity up in grid files; here the caller lends it, east, north and up in mm a
+// year, with a mark that says whether there is one. Letters and sequence of roundings are the
+// Rust's, over our kernels. Forward adds (t - t_epoch) times the velocity, while comment (3) of the
+// Rust's file subtracts it: the code decides, and the difference is listed. The sum works on all
+// four coordinates, the fourth addend 0.0, so a time of -0 becomes +0. Sixteen tuples at a time:
+// `deformation_block`.
 ghost use mathlib.Core.Path.{_≡_};
 ghost use Rattle.deformation.specs.Record.{blankOf, rawOf, finiteOrNot, inRuleOf, neitherOf};
 ghost use Rattle.deformation.specs.Step.{motionOf, lastingOf, durationOf, scaleOf, metreOf, metresOf, eastNorthUpOf, integratedOf, withLengthOf, deformedOf, commonOf};
@@ -141,7 +144,8 @@ impl Velocity {
 
 // ----- A N C I L L A R Y   F U N C T I O N S -----------------------------------------
 
-// The deformation velocity, rotated from the ENU system to the geocentric cartesian system, times the duration.
+// The deformation velocity, rotated from the ENU system to the geocentric cartesian system, times
+// the duration.
 pub fn rotate_and_integrate_velocity(
     v: Velocity,
     longitude: f64,

@@ -1,4 +1,5 @@
--- What the step over columns is proved by: the correction out of its parts, what is written at a place, and the same over all places. Assumes nothing.
+-- What the step over columns is proved by: the correction out of its parts, what is written at a
+-- place, and the same over all places. Assumes nothing.
 use Prim.Native.Nat.{ℕ, _<_}
 use mathlib.Core.Bool.{Bool, true, false, cond}
 use mathlib.Core.List.{List}

@@ -1,5 +1,6 @@
--- The step over columns: sixteen velocities, marks, places and tuples, and what `common` gives where the place is the tuple's own (law `moved-common`); and the parts that it is worked out in, one
--- loop each.
+-- The step over columns: sixteen velocities, marks, places and tuples, and what `common` gives
+-- where the place is the tuple's own (law `moved-common`); and the parts that it is worked out in,
+-- one loop each.
 use Prim.Native.Nat.{ℕ}
 use mathlib.Core.Bool.{Bool, cond}
 use mathlib.Core.List.{List}
@@ -35,7 +36,8 @@ movedAt op inverse east north up marks lam phi x y z t j =
 abbrev pub sinCosAt : List Float → List Float → ℕ → SinCos
 sinCosAt s c j = record { s = at s j; c = at c j }
 
--- the correction at a place: of the velocity times k, over columns of sines and cosines of longitude and latitude
+-- the correction at a place: of the velocity times k, over columns of sines and cosines of
+-- longitude and latitude
 abbrev pub turnedAt :
     Motion → Bool → Float → List Float → List Float → List Float → List Float → List Float → List Float → List Float → List Float → ℕ → Tuple
 turnedAt op fixed k east north up t slon clon slat clat j =

@@ -1,8 +1,11 @@
-// Kinematic datum shift by velocities of the ground, sixteen tuples at a time: the step of `deformation` over columns, with the tuples' longitudes and latitudes at hand.
+// Kinematic datum shift by velocities of the ground, sixteen tuples at a time: the step of
+// `deformation` over columns, with the tuples' longitudes and latitudes at hand.
 //
-// Each loop is straight arithmetic over the places, so that a compiler makes vectors of it; what depends on the step and not on the tuple is decided before.
-// An absent velocity is worked on like the others, and NaN is written in the end. The columns that the results go to serve for the parts before.
-// Every number is `deformation::common`'s in every bit: proved place by place against the same definition. Used by `deformation_runs`.
+// Each loop is straight arithmetic over the places, so that a compiler makes vectors of it; what
+// depends on the step and not on the tuple is decided before. An absent velocity is worked on like
+// the others, and NaN is written in the end. The columns that the results go to serve for the parts
+// before. Every number is `deformation::common`'s in every bit: proved place by place against the
+// same definition. Used by `deformation_runs`.
 ghost use mathlib.Core.Path.{_≡_};
 ghost use Prim.Native.Nat.{ℕ};
 ghost use lib.Dec.{eqb};
@@ -20,8 +23,8 @@ use deformation::Velocity;
 use trig::SinCos;
 use tuple::Tuple;
 
-// The velocities, turned and times their durations. k brings them to metres. dx comes with the sines of the latitudes, dy with their cosines, dz with the cosines
-// of the longitudes.
+// The velocities, turned and times their durations. k brings them to metres. dx comes with the
+// sines of the latitudes, dy with their cosines, dz with the cosines of the longitudes.
 fn turned_block(
     op: Motion,
     fixed: bool,
@@ -180,8 +183,8 @@ fn count_block(marks: &[u8; WIDTH]) -> usize
     n
 }
 
-// Sixteen tuples as columns whose longitudes and latitudes are lam and phi, each shifted as `common` shifts it, and how many of them count. For those who have the
-// places at hand.
+// Sixteen tuples as columns whose longitudes and latitudes are lam and phi, each shifted as
+// `common` shifts it, and how many of them count. For those who have the places at hand.
 pub fn moved_block(
     op: Motion,
     inverse: bool,

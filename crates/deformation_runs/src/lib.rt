@@ -1,10 +1,12 @@
-// Deformation over a lent flat list, written where the list stands: sixteen tuples a turn by the step's block form, and a loop for the fewer than sixteen that
-// are left. The other kinds' loops: `runs`, `helmert_runs`.
+// Deformation over a lent flat list, written where the list stands: sixteen tuples a turn by the
+// step's block form, and a loop for the fewer than sixteen that are left. The other kinds' loops:
+// `runs`, `helmert_runs`.
 //
-// A fix's velocity and mark stand at its index in what is lent beside the list. Sixteen places are worked out before sixteen velocities are read, so that these may
-// come by place from elsewhere, and no column is laid out before it is needed. What depends on the record alone is worked out once a list. Every function is proved
-// equal, list and count, to the step's own definition from tuple to tuple (specs/Turns.antt over `lists`).
-// Exact: no rounding but the step's own. Used by the chain.
+// Fix k uses velocity k and mark k of the caller's arrays. Sixteen places are worked out before
+// sixteen velocities are read, so that these may come by place from elsewhere, and no column is
+// laid out before it is needed. What depends on the record alone is worked out once a list. Every
+// function is proved equal, list and count, to the step's own definition from tuple to tuple
+// (specs/Turns.antt over `lists`). Exact: no rounding but the step's own. Used by the chain.
 ghost use mathlib.Core.Path.{_≡_};
 ghost use Prim.Native.Nat.{ℕ, _+_, _^_, _<_};
 ghost use Rattle.blocks.specs.Each.{Each, EachWhole};
@@ -93,7 +95,8 @@ fn mark_block(marks: &[u8], k: usize, m: &mut [u8; WIDTH])
 
 // ----- the list --------------------------------------------------------------------------
 
-// Sixteen tuples that stand from a place on, as columns with their longitudes and latitudes: moved, and put there.
+// Sixteen tuples that stand from a place on, as columns with their longitudes and latitudes: moved,
+// and put there.
 fn moved_sixteen(
     list: &mut [f64],
     i: usize,
@@ -214,7 +217,7 @@ fn deformation_common(
     n
 }
 
-// A fix's velocity and mark stand at its index.
+// Fix k uses velocity k and mark k of the caller's arrays.
 pub fn run_deformation(
     list: &mut [f64],
     inverse: bool,

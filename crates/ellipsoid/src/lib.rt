@@ -1,8 +1,11 @@
-// The ellipsoid: its record of five numbers, the five of document 01's table, the radii of curvature and the geocentric latitude.
+// The ellipsoid: its record of five numbers, the five of document 01's table, the radii of
+// curvature and the geocentric latitude.
 //
-// By document 01's formulas, since the Rust files lean on these and do not contain them; the order in which each is rounded stands in specs/Figure.antt.
-// The radii and the geocentric latitude take the sine (and cosine) of the latitude, not the latitude: a step that has the pair already does not work it
-// out again, and the numbers are those that the latitude itself would give. Used by geocart, cart, Molodensky, permtide and deformation.
+// By document 01's formulas, since the Rust files lean on these and do not contain them; the order
+// in which each is rounded stands in specs/Figure.antt. The radii and the geocentric latitude take
+// the sine (and cosine) of the latitude, not the latitude: a step that has the pair already does
+// not work it out again, and the numbers are those that the latitude itself would give. Used by
+// geocart, cart, Molodensky, permtide and deformation.
 ghost use mathlib.Core.Path.{_≡_};
 ghost use Prim.Native.Nat.{ℕ};
 ghost use Rattle.blocks.specs.Each.{at, Each};

@@ -1,5 +1,6 @@
--- `cartesian` and `geographic` of geocart.rs: the Rust's own sequence of roundings, in its letters and order (Bowring 1976 and 1985, Fukushima 1999).
--- A geographic tuple holds longitude, latitude, height and time in x, y, z and t.
+-- `cartesian` and `geographic` of geocart.rs: the Rust's own sequence of roundings, in its letters
+-- and order (Bowring 1976 and 1985, Fukushima 1999). A geographic tuple holds longitude, latitude,
+-- height and time in x, y, z and t.
 use mathlib.Core.Bool.{cond}
 use lib.Ieee.{Float, nan, isNan, lt}
 use Rattle.floats.specs.Binary64.{_⊕_, _⊖_, _⊗_, _⊘_, bits}
@@ -41,7 +42,8 @@ cartesianOf e geographic =
 abbrev pub halfPi : Float
 halfPi = bits 0x3ff9_21fb_5444_2d18
 
--- The latitude of a point on the axis: a pole's, with the sign of Z. A NaN Z, whose sign says nothing, gives NaN: a listed difference.
+-- The latitude of a point on the axis: a pole's, with the sign of Z. A NaN Z, whose sign says
+-- nothing, gives NaN: a listed difference.
 unfoldable pub poleOf : Float → Float
 poleOf Z = cond (isNan Z) nan (copysignOf halfPi Z)
 
@@ -65,6 +67,7 @@ legsOf e p Z T root =
     let s = c ⊗ T in
     record { num = Z ⊕ e .eps ⊗ e .b ⊗ cubeOf s; denom = p ⊖ e .es ⊗ e .a ⊗ cubeOf c }
 
+-- the same from p and Z
 unfoldable pub bowringOf : Ellipsoid → Float → Float → Legs
 unfolding tangentOf legsOf
 bowringOf e p Z =

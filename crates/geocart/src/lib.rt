@@ -1,9 +1,12 @@
-// Geographic to cartesian coordinates and back, on any ellipsoid: geocart.rs of the crate geodesy 0.15.0.
+// Geographic to cartesian coordinates and back, on any ellipsoid: geocart.rs of the crate geodesy
+// 0.15.0.
 //
-// The method is Bowring's (1976, 1985) with Fukushima's (1999) square root for a hypotenuse, in the Rust's own sequence of roundings and with its letters.
-// One difference, listed: a point on the axis whose Z is NaN has a NaN latitude, where the Rust takes the pole that the NaN's sign bit happens to name.
-// `cartesian` is cart's forward step; `place`, `geographic` without the height, is what deformation asks for a place by. cart's own inverse is another
-// method, in the crate cart. `geocart_block` is the same for sixteen tuples at once.
+// The method is Bowring's (1976, 1985) with Fukushima's (1999) square root for a hypotenuse, in the
+// Rust's own sequence of roundings and with its letters. One difference, listed: a point on the
+// axis whose Z is NaN has a NaN latitude, where the Rust takes the pole that the NaN's sign bit
+// happens to name. `cartesian` is cart's forward step; `place`, `geographic` without the height, is
+// what deformation asks for a place by. cart's own inverse is another method, in the crate cart.
+// `geocart_block` is the same for sixteen tuples at once.
 ghost use mathlib.Core.Path.{_≡_};
 ghost use Rattle.geocart.specs.Geocart.{pointOf, cartesianOf, poleOf, poleHeightOf, tangentOf, legsOf, bowringOf, bowringHeightOf, geographicOf, placeOf};
 use ellipsoid::Ellipsoid;
@@ -147,7 +150,8 @@ pub fn geographic(ellps: Ellipsoid, cartesian: Tuple) -> Tuple
     }
 }
 
-// Longitude and latitude as `geographic` gives them, for those who leave the height unread: it costs a third of the work.
+// Longitude and latitude as `geographic` gives them, for those who leave the height unread: it
+// costs a third of the work.
 pub fn place(ellps: Ellipsoid, cartesian: Tuple) -> Position
     ensures { λ r. ⌜ r ≡ placeOf ellps cartesian ⌝ }
 {

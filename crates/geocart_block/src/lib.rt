@@ -1,8 +1,11 @@
-// Geographic to cartesian coordinates and back, a block at a time: sixteen tuples, each as `geocart` gives it.
+// Geographic to cartesian coordinates and back, a block at a time: sixteen tuples, each as
+// `geocart` gives it.
 //
-// The method is geocart's, for loops that a compiler turns into vector instructions: the kernels by their blocks, and between them short loops of arithmetic alone.
-// Both latitudes of a point near the axis, the pole's and the other, are worked out, and one is taken. Proved: each number is geocart's.
-// `cartesian_block` is cart's forward step, `latitude_block` ends its inverse, and `place_block` is what deformation asks for places by.
+// The method is geocart's, for loops that a compiler turns into vector instructions: the kernels by
+// their blocks, and between them short loops of arithmetic alone. For every point both latitudes,
+// the pole's and the other, are computed and one is selected, so the loops have no branch. Proved:
+// each number is geocart's. `cartesian_block` is cart's forward step, `latitude_block` ends its
+// inverse, and `place_block` is what deformation asks for places by.
 ghost use mathlib.Core.Path.{_≡_};
 ghost use Prim.Native.Nat.{ℕ};
 ghost use Rattle.blocks.specs.Each.{at, Each};

@@ -1,4 +1,5 @@
--- A loop that fills a block with the usual case's lengths and tells whether all are usual: the start, a turn, the end. Assumes nothing.
+-- A loop that fills a block with the usual case's lengths and tells whether all are usual: the
+-- start, a turn, the end. Assumes nothing.
 use Prim.Native.Nat.{ℕ, _+_, _<_, _≤_}
 use mathlib.Core.Path.{_≡_, refl, ap}
 use mathlib.Core.Bool.{Bool, true, false, cond, not, _&&_, true≢false}

@@ -1,5 +1,6 @@
--- What holds of a step over a list, for any step; and the law by which every loop over a list is proved: what one turn reads, makes and writes
--- carries the loop's invariant from a place to the next. Assumes nothing.
+-- What holds of a step over a list, for any step; and the law by which every loop over a list is
+-- proved: what one turn reads, makes and writes carries the loop's invariant from a place to the
+-- next. Assumes nothing.
 use Prim.Native.Nat.{ℕ, suc, _+_, _-_, _/_, _≤_, _<_}
 use native.Mathlib.Omega.{arith}
 use native.Mathlib.Nat.{add-assoc, add-zero, zero-add}
@@ -112,7 +113,8 @@ module _ {S : Type 0} (f : Turns S) (state : S) (l written : List Float) (i : �
 
 -- ---- a loop that writes where it reads
 
--- the invariant at a place: what is written before it and what the run makes from there on are the run of the whole list
+-- the invariant at a place: what is written before it and what the run makes from there on are the
+-- run of the whole list
 pub record Ran {S : Type 0} (f : Turns S) (start : S) (l₀ : List Float) (i : ℕ) (state : S) (l : List Float) : Type 0 where
   pub within : i ≤ length l
   pub long : length l ≡ length l₀

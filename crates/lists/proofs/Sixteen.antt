@@ -1,5 +1,6 @@
--- Sixteen tuples of a flat list at once: what reading finds, what putting leaves, and the law by which a loop of sixteen tuples a turn is proved: what a turn
--- reads, makes and writes as columns carries the loop's invariant over sixteen places. Assumes nothing.
+-- Sixteen tuples of a flat list at once: what reading finds, what putting leaves, and the law by
+-- which a loop of sixteen tuples a turn is proved: what a turn reads, makes and writes as columns
+-- carries the loop's invariant over sixteen places. Assumes nothing.
 use Prim.Native.Nat.{ℕ, zero, suc, _+_, _*_, _-_, _/_, _≤_, _<_}
 use native.Mathlib.Omega.{arith}
 use native.Mathlib.Nat.{add-assoc, add-zero}

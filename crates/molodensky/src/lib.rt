@@ -1,8 +1,11 @@
-// The full and abridged Molodensky transformations: molodensky.rs of the crate geodesy 0.15.0, after IOGP 373-7-2 and Deakin (2004).
+// The full and abridged Molodensky transformations: molodensky.rs of the crate geodesy 0.15.0,
+// after IOGP 373-7-2 and Deakin (2004).
 //
-// The Rust's letters and sequence of roundings, over our sine, cosine and square root: the sine-cosine pair of the latitude and the root that N and M share
-// are worked out once where the Rust does so twice, with equal bits. Where a divisor is zero there are no offsets, and the first three coordinates become
-// NaN, as the Rust's sums with a NaN do. The time stays, and every tuple counts. Sixteen tuples at a time: the crate molodensky_block.
+// The Rust's letters and sequence of roundings, over our sine, cosine and square root: the
+// sine-cosine pair of the latitude and the root that N and M share are worked out once where the
+// Rust does so twice, with equal bits. Where a divisor is zero there are no offsets, and the first
+// three coordinates become NaN, as the Rust's sums with a NaN do. The time stays, and every tuple
+// counts. Sixteen tuples at a time: the crate molodensky_block.
 ghost use mathlib.Core.Path.{_≡_};
 ghost use Rattle.molodensky.specs.Record.{blankOf, abridgedOf, twoEllipsoidsOf, secondInRuleOf, figureInRuleOf, finiteOf, inRuleOf};
 ghost use Rattle.molodensky.specs.Step.{figureOf, mopedOf, placeWith, figuresAtOf, abridgedOffsetsOf, fullOffsetsOf, offsetsOf, commonOf};

@@ -1,4 +1,5 @@
--- The parts that a block works out are those of the step, and the step is a sum with the offsets as numbers. Assumes nothing.
+-- The parts that a block works out are those of the step, and the step is a sum with the offsets as
+-- numbers. Assumes nothing.
 use mathlib.Core.Path.{_≡_, refl, ap, _∙_}
 use mathlib.Core.Bool.{Bool, true, false, cond}
 use lib.Ieee.{Float, nan, inf, fin, add, sub, neg}

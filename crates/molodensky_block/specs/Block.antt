@@ -1,4 +1,5 @@
--- The step at a place of the columns, as a block works it out: from the sines, the cosines and the root on, and with the offsets as numbers.
+-- The step at a place of the columns, as a block works it out: from the sines, the cosines and the
+-- root on, and with the offsets as numbers.
 use Prim.Native.Nat.{ℕ}
 use mathlib.Core.List.{List}
 use lib.Ieee.{Float, nan}

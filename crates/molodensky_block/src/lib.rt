@@ -1,8 +1,11 @@
-// The full and abridged Molodensky transformations, sixteen tuples at a time: the step of the crate molodensky by the block.
+// The full and abridged Molodensky transformations, sixteen tuples at a time: the step of the crate
+// molodensky by the block.
 //
-// Method, letters and sequence of roundings are those of `molodensky`: each tuple is proved to be what `common` gives, in every bit. Every loop is arithmetic and choices
-// between numbers, which a compiler turns into vector instructions; the kernels are called between the loops, a block at a time. Where there are no offsets, they are
-// three NaNs, which makes the coordinates NaN as `common` does. Used by the loops over a list.
+// Method, letters and sequence of roundings are those of `molodensky`: each tuple is proved to be
+// what `common` gives, in every bit. Every loop is arithmetic and choices between numbers, which a
+// compiler turns into vector instructions; the kernels are called between the loops, a block at a
+// time. Where there are no offsets, they are three NaNs, which makes the coordinates NaN as
+// `common` does. Used by the loops over a list.
 ghost use mathlib.Core.Path.{_≡_};
 ghost use Prim.Native.Nat.{ℕ};
 ghost use lib.ListN.{length};
@@ -57,7 +60,8 @@ fn unless_either_zero(d: f64, e: f64, dlam: f64, dphi: f64, dh: f64) -> Shift
     unless_zero(e, dlam, dphi, dh)
 }
 
-// A place, given its sines and cosines and q, the root of w = 1 - es·sin²φ. That w is worked out again costs less than a column of them.
+// A place, given its sines and cosines and q, the root of w = 1 - es·sin²φ. That w is worked out
+// again costs less than a column of them.
 fn place_with(op: Moped, slam: f64, clam: f64, sphi: f64, cphi: f64, q: f64) -> Place
     ensures { λ r. ⌜ r ≡ placeWith op slam clam sphi cphi (radiiWith (op .ellps) (wOf (op .ellps) sphi) q) ⌝ }
 {
@@ -106,7 +110,8 @@ fn double_sines(
     trig_block::sin_cos_block(twice, r, c);
 }
 
-// The offsets of a block over the columns that hold the sines and cosines of the longitudes and the sines of 2φ.
+// The offsets of a block over the columns that hold the sines and cosines of the longitudes and the
+// sines of 2φ.
 fn abridged_shifts(
     op: Moped,
     sphi: &[f64; WIDTH],
@@ -164,7 +169,8 @@ fn full_shifts(
     }
 }
 
-// The offsets of a block. What is needed on the way is laid down in the columns that the offsets come in, as far as they reach.
+// The offsets of a block. What is needed on the way is laid down in the columns that the offsets
+// come in, as far as they reach.
 fn shifts(
     op: Moped,
     x: &[f64; WIDTH],

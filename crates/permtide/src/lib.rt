@@ -1,7 +1,9 @@
-// Shifts of heights between the permanent tide systems, mean, zero and free: permtide.rs of the crate geodesy 0.15.0.
+// Shifts of heights between the permanent tide systems, mean, zero and free: permtide.rs of the
+// crate geodesy 0.15.0.
 //
-// The nine coefficients, the constants and the order of the products are the Rust's; a text parameter there is a code here (mean 1, zero 2, free 3).
-// Every tuple counts. Exact as the Rust's sequence over our sine, cosine and atan2.
+// The nine coefficients, the constants and the order of the products are the Rust's; a text
+// parameter there is a code here (mean 1, zero 2, free 3). Every tuple counts. Exact as the Rust's
+// sequence over our sine, cosine and atan2.
 ghost use mathlib.Core.Path.{_≡_};
 ghost use Prim.Native.Nat.{ℕ};
 ghost use Rattle.floats.specs.Binary64.{_⊕_, _⊖_};

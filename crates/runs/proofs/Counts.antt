@@ -1,4 +1,5 @@
--- Every tuple counts: permtide and Molodensky over a list count as many tuples as it has, both ways. Assumes nothing.
+-- Every tuple counts: permtide and Molodensky over a list count as many tuples as it has, both
+-- ways. Assumes nothing.
 use Prim.Native.Nat.{ℕ, _/_}
 use mathlib.Core.Path.{_≡_}
 use mathlib.Core.Bool.{Bool, true, false}

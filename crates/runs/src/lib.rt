@@ -1,9 +1,11 @@
-// cart, permtide and Molodensky over a lent flat list, written where the list stands: sixteen tuples a turn by the step's block form, and a loop for the fewer
-// than sixteen that are left. Helmert's loops: `helmert_runs`; deformation's: `deformation_runs`.
+// cart, permtide and Molodensky over a lent flat list, written where the list stands: sixteen
+// tuples a turn by the step's block form, and a loop for the fewer than sixteen that are left.
+// Helmert's loops: `helmert_runs`; deformation's: `deformation_runs`.
 //
-// What depends on the record alone is worked out once a list: the ellipsoid, the inverse's constants, the coefficient. Kind and direction are decided before a
-// loop starts. Every function is proved equal, list and count, to the step's own definition from tuple to tuple (specs/Turns.antt over `lists`).
-// Exact: no rounding but the steps' own. Used by the chain.
+// What depends on the record alone is worked out once a list: the ellipsoid, the inverse's
+// constants, the coefficient. Kind and direction are decided before a loop starts. Every function
+// is proved equal, list and count, to the step's own definition from tuple to tuple
+// (specs/Turns.antt over `lists`). Exact: no rounding but the steps' own. Used by the chain.
 ghost use mathlib.Core.Path.{_≡_};
 ghost use Rattle.cart.specs.Step.{cartFwdOf, cartInvOf};
 ghost use Rattle.permtide.specs.Step.{fwdOf, invOf};

@@ -1,4 +1,5 @@
--- What the loops over a block hand to one another: the parts of a sine and a cosine, as functions of the angle, and how they are joined.
+-- What the loops over a block hand to one another: the parts of a sine and a cosine, as functions
+-- of the angle, and how they are joined.
 use Prim.Native.Nat.{ℕ}
 use mathlib.Core.Bool.{Bool, false, cond}
 use lib.Ieee.{Float, nan, neg, eq, ne, le}
