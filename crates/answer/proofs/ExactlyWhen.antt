@@ -1,5 +1,6 @@
--- 16 both ways: the text of a refusal by 16 is told of a bad job, and of no other. A run's text begins with another letter, and no sheet
--- over a list is refused by a number past 11, whose digits differ from those of 16. Assumes nothing.
+-- 16 both ways: the text of a refusal by 16 is told of a bad job, and of no other. A run's text
+-- begins with another letter, and no sheet over a list is refused by a number past 11, whose digits
+-- differ from those of 16. Assumes nothing.
 use Prim.Native.Nat.{ℕ, zero, suc, _≤_}
 use native.Mathlib.Omega.{arith}
 use mathlib.Core.Path.{_≡_, refl, ap}

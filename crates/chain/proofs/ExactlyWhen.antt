@@ -1,5 +1,6 @@
--- When `shift` gives which number. The rules of a call in their order are the sheet's own refusal, 9 and 10, and one of them answers
--- exactly when it is broken and every rule before it is kept (sheet, `number-given-exactly-when`). Assumes nothing.
+-- When `shift` gives which number. The rules of a call in their order are the sheet's own refusal,
+-- 9 and 10, and one of them answers exactly when it is broken and every rule before it is kept
+-- (sheet, `number-given-exactly-when`). Assumes nothing.
 use Prim.Native.Nat.{ℕ, _≤_, _<_}
 use native.Mathlib.Omega.{arith}
 use mathlib.Core.Path.{_≡_, refl, sym, _∙_}
@@ -62,7 +63,8 @@ module _ (inverse : Bool) (s : List ℕ) (l velocities : List Float) (marks : Li
         λ h. in-order ∙ law .1 (Unbroken.next (keep-own s (h .0)) Unbroken.none, h .1),
       )
 
-  -- 10: the sheet is accepted, 9 is kept, and velocities or marks are of a wrong length or a mark is over 1
+  -- 10: the sheet is accepted, 9 is kept, and velocities or marks are of a wrong length or a mark
+  -- is over 1
   pub ten-exactly-when : (given ≡ 10) ↔ ((refusalOf s .number ≡ 0) × (refusal9 (length l) ≡ false) × (broken10 ≡ true))
   ten-exactly-when =
       let law =

@@ -1,11 +1,11 @@
 -- The decimal that is found has the fewest places of all that read back, and every decimal of up to
 -- 15 digits and 22 places is found. Idea: let a be D / 10^j, rounded once, with D below 2^50. Both
 -- roundings, to a and of a·10^j, are within 2^-53, so the product lies within 3/8 of D; the whole
--- number closest to it is D, which reads back, and the test passes at j (`passes-if-few`). Where the
--- test passes at k the product with 10^k is below 2^52, so that a decimal of fewer places that reads
--- back has digits below 2^50, and the search would have stopped there. Magnitudes are counted in units
--- of 2^-1074. 4503599627370496 is 2^52, 9007199254740992 is 2^53 and 1125899906842624 is 2^50. Assumes
--- nothing.
+-- number closest to it is D, which reads back, and the test passes at j (`passes-if-few`). Where
+-- the test passes at k the product with 10^k is below 2^52, so that a decimal of fewer places that
+-- reads back has digits below 2^50, and the search would have stopped there. Magnitudes are counted
+-- in units of 2^-1074. 4503599627370496 is 2^52, 9007199254740992 is 2^53 and 1125899906842624 is
+-- 2^50. Assumes nothing.
 use mathlib.Core.Path.{_≡_, refl, sym, ap, _∙_, subst}
 use Prim.Native.Nat.{ℕ, zero, suc, _+_, _*_, _^_, _≤_, _<_}
 use native.Mathlib.Omega.{arith}
@@ -275,8 +275,8 @@ module _ (d j k : ℕ) (some : 0 < d) (less : j < k) (places : k < 23) (below : 
 
 -- ---- the promises
 
--- No decimal of fewer places, whatever its digits, is read as the number's magnitude by a reader that
--- rounds once.
+-- No decimal of fewer places, whatever its digits, is read as the number's magnitude by a reader
+-- that rounds once.
 pub fewest-places : (x : Float) (s : Bool) (d k : ℕ) → decimalOf x ≡ Found s d k → (digits places : ℕ) → places < k
     → round binary64 false digits (10 ^ places) ≡ absOf x → ⊥
 unfolding passesOf
@@ -288,8 +288,8 @@ fewest-places x s d k e (suc n) j less reads =
     let few = digits-few (suc n) j k (omega arith) less (fewest .0) (rw reads (first-of _ _ (its-places-pass x s d k e))) in
     true≢false (sym (passes-if-few (suc n) j few (omega (arith, fewest .0))) ∙ ap (λ (y : Float). passesOf y j) reads ∙ fewest .1 j less)
 
--- A number that a decimal is read as is found, where the digits are below 2^50, as up to 15 digits are,
--- and the places up to 22.
+-- A number that a decimal is read as is found, where the digits are below 2^50, as up to 15 digits
+-- are, and the places up to 22.
 pub short-decimals-are-found : (x : Float) (digits places : ℕ) → digits < 2 ^ 50 → places < 23 → round binary64 false digits (10 ^ places) ≡ absOf x
     → decimalOf x ≡ Nothing → ⊥
 short-decimals-are-found x d j few places reads none =

@@ -88,6 +88,10 @@ unfoldable pub nextOf : Shift → State → Float → State
 nextOf shift state time =
     cond (ne time (state .last)) (record { last = time; t = grownOf (state .t) (time ⊖ shift .epoch) (shift .parameters .dt) }) state
 
+-- T spoilt: NaN on all three axes
+abbrev pub nothing3 : Vec3
+nothing3 = record { x = nan; y = nan; z = nan }
+
 -- T is the state's; R and S are the sheet's at the last time's dt.
 unfoldable pub runningOf : Shift → Bool → State → Tuple → Stepped
 runningOf shift inv state v =

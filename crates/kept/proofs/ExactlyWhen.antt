@@ -1,6 +1,6 @@
--- When `keep` and `correct` give which number. The rules of both in their order are the sheet's own refusal, 12, 9 and 13; a correction
--- asks 14 after them. One of them answers exactly when it is broken and every rule before it is kept (sheet,
--- `number-given-exactly-when`). Assumes nothing.
+-- When `keep` and `correct` give which number. The rules of both in their order are the sheet's own
+-- refusal, 12, 9 and 13; a correction asks 14 after them. One of them answers exactly when it is
+-- broken and every rule before it is kept (sheet, `number-given-exactly-when`). Assumes nothing.
 use Prim.Native.Nat.{ℕ}
 use native.Mathlib.Omega.{arith}
 use mathlib.Core.Path.{_≡_, refl, sym, _∙_}

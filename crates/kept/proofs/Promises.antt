@@ -30,14 +30,15 @@ use Rattle.lists.specs.Flat.{numbersOf, tupleAt, putAt}
 use Rattle.lists.specs.Run.{Turns, ranOf, stateAfterOf}
 use Rattle.lists.proofs.Places.{put-none, put-length, put-take}
 use Rattle.lists.proofs.Laws.{ran-length}
+use Rattle.lists.proofs.Results.{track-at, result-at}
 use Rattle.helmert.specs.Turns.{helmertTurns}
 use Rattle.chain.specs.Chain.{turnsOf, stateOf, reversedOf, stepListOf, Run, chainOf, entriesOf}
 use Rattle.chain.specs.Rules.{refusal10, overOne, ranOutcome, shiftOf}
 use Rattle.chain.proofs.Laws.{one-step-forward, one-step-inverse}
 use Rattle.chain.proofs.Outcome.{run-through}
-use Rattle.stretch.specs.Kept.{heldOf, Kept, freshOf, carriedAt, keptAt, Stretch, beforeOf, putFix, correctedOf, Correction}
+use Rattle.stretch.specs.Kept.{trackedOf, heldOf, Kept, freshOf, carriedAt, keptAt, Stretch, beforeOf, putFix, correctedOf, Correction}
 use Rattle.kept.specs.Entries.{refusal12, refusal14, keepRefusalOf, correctRefusalOf, helmertOf, shiftIn, reversedIn, keepOf, CorrectOutcome, outcome, correctedAs, correctOf}
-use Rattle.stretch.proofs.Meeting.{track-at, result-at, state-stays, whole-take, state-append, track-length}
+use Rattle.stretch.proofs.Meeting.{state-stays, whole-take, state-append, track-length}
 use Rattle.kept.proofs.Answers.{Passed, passed, below, keep-done, taken, not-refused, correct-done, correct-refused-14}
 use Rattle.stretch.proofs.Laws.{Unwritten, step-stays, fresh-list, before-is, corrected-equals-fresh, redone-is-the-stretch, results-outside, track-outside, list-outside, still-track, still-redoes-one}
 
@@ -148,7 +149,7 @@ module _ (inverse : Bool) (s : List ℕ) (old : Kept) (passes : keepRefusalOf s 
       → keptAt (kept .track) j ≡ stateAfterOf (helmertTurns (reversedIn inverse s) (shiftIn s)) 0 (startOf (shiftIn s)) (take (4 * suc j) (old .list))
   unfolding freshOf
   track-is-the-state j h =
-      rw keep-runs (ap heldOf (track-at (helmertTurns (reversedIn inverse s) (shiftIn s)) 0 (startOf (shiftIn s)) (old .list) j h))
+      rw keep-runs (ap heldOf (track-at trackedOf (helmertTurns (reversedIn inverse s) (shiftIn s)) 0 (startOf (shiftIn s)) (old .list) j h))
 
   -- ---- what a fresh run leaves passes as it did
 

@@ -300,7 +300,8 @@ module _ (r : Rule) (after : List Rule) (some : r .answer .number ≡ 0 → ⊥)
       by-number (q .broken) (q .answer) (firstBroken (before ++ (r ∷ after))) (r .answer .number) (λ b d. absurd (h b d))
       (λ b d. let p = only-then before w d in (next b (p .0), p .1)) e
 
--- A rule's number is given exactly when every rule before it is kept and it is broken, no other rule of the order having its number.
+-- A rule's number is given exactly when every rule before it is kept and it is broken, where no
+-- other rule of the order has its number.
 pub number-given-exactly-when : (before : List Rule) (r : Rule) (after : List Rule) → (r .answer .number ≡ 0 → ⊥)
     → Without (r .answer .number) before → Without (r .answer .number) after
     → (firstBroken (before ++ (r ∷ after)) .number ≡ r .answer .number) ↔ (Unbroken before × (r .broken ≡ true))

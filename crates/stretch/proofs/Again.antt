@@ -14,7 +14,7 @@ use Rattle.lists.specs.Flat.{fourOf, numbersOf, tupleAt, putAt}
 use Rattle.lists.specs.Run.{Turn, Turns}
 use Rattle.lists.proofs.Places.{from-place, put-there, put-take, put-drop, put-length}
 use Rattle.stretch.specs.Same.{alikeOf}
-use Rattle.stretch.proofs.Flat.{tuple-beyond}
+use Rattle.lists.proofs.Results.{tuple-beyond}
 use Rattle.stretch.specs.Kept.{trackedOf}
 
 -- how many fixes, and what is left of the results and the track afterwards

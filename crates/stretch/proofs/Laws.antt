@@ -19,11 +19,12 @@ use Rattle.lists.specs.Flat.{numbersOf, tupleAt, putAt}
 use Rattle.lists.specs.Run.{Turns, ranOf, trackOf, stateAfterOf}
 use Rattle.lists.proofs.Places.{from-place, put-there, put-none, put-length, put-drop}
 use Rattle.lists.proofs.Laws.{ran-length}
+use Rattle.lists.proofs.Results.{track-at}
 use Rattle.stretch.specs.Kept.{trackedOf, heldOf, Kept, keptOf, freshOf, splicedOf, carriedAt, keptAt, Stretch, Redone, redoOf, beforeOf, putFix, correctedOf}
 use Rattle.helmert.specs.Turns.{helmertTurns}
 use Rattle.stretch.proofs.Again.{Again, againOf, again-short}
 use Rattle.stretch.proofs.Stretch.{redo-is-again}
-use Rattle.stretch.proofs.Meeting.{track-at, state-stays, Renewed, again-first, whole-take, ran-append, track-append, track-length}
+use Rattle.stretch.proofs.Meeting.{state-stays, Renewed, again-first, whole-take, ran-append, track-append, track-length}
 use Rattle.stretch.proofs.Words.{stretch-by-states, stretch-is-unique}
 use Rattle.stretch.proofs.Start.{before-first, before-running, before-else}
 
@@ -57,7 +58,7 @@ module _ (shift : Shift) (inverse : Bool) (l : List Float) where
       let d : suc k - 1 ≡ k = omega arith in
       before-running shift (freshOf shift inverse l .track) (suc k) (λ z. omega arith) e
       ∙ ap (λ (j : ℕ). heldOf (tupleAt (freshOf shift inverse l .track) (4 * j))) d
-      ∙ ap heldOf (track-at (helmertTurns inverse shift) 0 (startOf shift) l k (omega arith))
+      ∙ ap heldOf (track-at trackedOf (helmertTurns inverse shift) 0 (startOf shift) l k (omega arith))
 
   by-mode : (running : Bool) → isRunningOf shift ≡ running → (index : ℕ) → 4 * index ≤ length l → beforeOf shift (freshOf shift inverse l .track) index ≡ carried index
   by-mode true e index h = before-running-is index h e
@@ -277,7 +278,7 @@ module _ (shift : Shift) (inverse : Bool) (l : List Float) (still : isRunningOf 
   pub still-track : (j : ℕ) → 4 * j + 4 ≤ length l → keptAt (freshOf shift inverse l .track) j ≡ startOf shift
   unfolding freshOf
   still-track j h =
-      ap heldOf (track-at (helmertTurns inverse shift) 0 (startOf shift) l j h)
+      ap heldOf (track-at trackedOf (helmertTurns inverse shift) 0 (startOf shift) l j h)
       ∙ state-stays (helmertTurns inverse shift) stays 0 (startOf shift) (take (4 * suc j) l)
 
   -- and a correction redoes one fix
