@@ -1,7 +1,9 @@
-// The program's work, from the bytes of a job to the bytes of its text: `job` reads, `chain` shifts, `report` tells.
+// The program's work, from the bytes of a job to the bytes of its text: `job` reads, `chain`
+// shifts, `report` tells.
 //
-// Document 01, "Program". The text is fixed for every job by specs/Answer.antt, in a room of any length; the longest text has 35,147 bytes. A bad job is 16,
-// before all others. No rounding but the steps' own. Used by the program `shift`.
+// Document 01, "Program". The text is fixed for every job by specs/Answer.antt, in a room of any
+// length; the longest text has 35,147 bytes. A bad job is 16, before all others. No rounding but
+// the steps' own. Used by the program `shift`.
 ghost use mathlib.Core.Path.{_≡_};
 ghost use Prim.Native.Nat.{_*_, _≤_};
 ghost use lib.ListN.{length};

@@ -1,9 +1,12 @@
 // The chain: a sheet's steps over a lent flat list, where the list stands.
 //
-// Document 01, "The sheet" (a chain runs steps in order, inverse in reverse with each turned round) and "Numbers of refusal". `shift` checks the sheet where
-// it lies and decodes one body at a time, steps outermost and list innermost; chain_record does the same over a record that is already read, and the two
-// agree (proved there). The answer, the counts and the list are fixed for every input by specs/Rules.antt over specs/Chain.antt, which is made of the steps' own
-// definitions; nothing is written before the last test has passed. No rounding but the steps' own. Used by the program and by callers that keep lists.
+// Document 01, "The sheet" (a chain runs steps in order, inverse in reverse with each turned round)
+// and "Numbers of refusal". `shift` checks the sheet where it lies and decodes one body at a time,
+// steps outermost and list innermost; chain_record does the same over a record that is already
+// read, and the two agree (proved there). The answer, the counts and the list are fixed for every
+// input by specs/Rules.antt over specs/Chain.antt, which is made of the steps' own definitions;
+// nothing is written before the last test has passed. No rounding but the steps' own. Used by the
+// program and by callers that keep lists.
 ghost use mathlib.Core.Path.{_≡_};
 ghost use mathlib.Core.Bool.{cond, not, true, false};
 ghost use Prim.Native.Nat.{_*_, _≤_, _<_};
@@ -19,7 +22,8 @@ use cart::Cart;
 use sheet::Entry;
 use sheet::Refusal;
 
-// What a call answers: no refusal and each step's count in the sheet's order, 0 in the other places; or a refusal and zeros.
+// What a call answers: no refusal and each step's count in the sheet's order, 0 in the other
+// places; or a refusal and zeros.
 pub struct Answer {
     pub refusal: Refusal,
     pub counts: [usize; 16],
@@ -60,8 +64,9 @@ fn cart_of(kind: u32, b: &[u8]) -> Cart
     Cart::blank()
 }
 
-// A body over the list, read where it lies: the kind is decided here, once a list, and no step of any kind is made to be taken apart again. Helmert's stands apart from the others', so
-// that neither has the other's columns on the stack.
+// A body over the list, read where it lies: the kind is decided here, once a list, and no step of
+// any kind is made to be taken apart again. Helmert's stands apart from the others', so that
+// neither has the other's columns on the stack.
 fn run_helmert(
     inv: bool,
     kind: u32,
@@ -108,7 +113,8 @@ fn run_other(
     runs::run_cart(list, inv, cart_of(held, b))
 }
 
-// The step at an index over the list, in the chain's direction. One function a direction: what both call is then not laid into their own frame.
+// The step at an index over the list, in the chain's direction. One function a direction: what both
+// call is then not laid into their own frame.
 fn forward_at(s: &[u8], i: usize, list: &mut [f64], velocities: &[f64], marks: &[u8]) -> usize
     requires { ⌜ i < stepCountOf (now s) ⌝ }
     ensures { λ r. ⌜ (now (list .exit) ≡ stepListOf false (now (velocities .entry)) (now (marks .entry)) (entryAt (now (s .entry)) i) (now (list .entry)))

@@ -1,8 +1,10 @@
-// The chain over a record that is already read: a sheet's steps over a lent flat list, where the list stands.
+// The chain over a record that is already read: a sheet's steps over a lent flat list, where the
+// list stands.
 //
-// As `chain::shift` does over a sheet's bytes; the two agree on every sheet that is accepted (proofs/Agree.antt). A record's own rules are the writer's, in a room that
-// any sheet fits. The answer, the counts and the list are fixed for every input by specs/Record.antt over chain's definitions. No rounding but the steps' own. For
-// callers that hold a sheet as a record.
+// As `chain::shift` does over a sheet's bytes; the two agree on every sheet that is accepted
+// (proofs/Agree.antt). A record's own rules are the writer's, in a room that any sheet fits. The
+// answer, the counts and the list are fixed for every input by specs/Record.antt over chain's
+// definitions. No rounding but the steps' own. For callers that hold a sheet as a record.
 ghost use mathlib.Core.Path.{_≡_};
 ghost use Prim.Native.Nat.{_≤_};
 ghost use Rattle.sheet.specs.Layout.{entryOf, kindIn};

@@ -1,8 +1,11 @@
-// A body's fields shown: document 01's names in the body's order, each with what stands at its place and its unit.
+// A body's fields shown: document 01's names in the body's order, each with what stands at its
+// place and its unit.
 //
-// The table of names, places and units stands in specs/Fields.antt, one definition a kind, and the words for flags and codes in specs/Words.antt. A body is
-// given by its offset in the sheet; nothing is tested here, so that a field outside its rule is shown as it is: a word with `outside its rule`, a number that is
-// no number by its bits. Every byte is fixed for every input and a room of any length. Used by `show`.
+// The table of names, places and units stands in specs/Fields.antt, one definition a kind, and the
+// words for flags and codes in specs/Words.antt. A body is given by its offset in the sheet;
+// nothing is tested here, so that a field outside its rule is shown as it is: a word with `outside
+// its rule`, a number that is no number by its bits. Every byte is fixed for every input and a room
+// of any length. Used by `show`.
 ghost use mathlib.Core.Path.{_≡_};
 ghost use Rattle.text.specs.Text.{text, appended};
 ghost use Rattle.text.specs.Digits.{decimalOf};

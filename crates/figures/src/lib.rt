@@ -1,8 +1,11 @@
-// A binary64 number written for people into a lent room, and the words, numbers and times of a sheet where they lie.
+// A binary64 number written for people into a lent room, and the words, numbers and times of a
+// sheet where they lie.
 //
-// A number is written as the decimal with the fewest places that reads back as the same number (crate decimal): a sign, the whole part, a point and exactly
-// those places. Where there is none, its 16 hexadecimal digits stand, after `bits 0x`. So a number that came from a data sheet is written as the data sheet has
-// it, and no two numbers are written alike. A time that is "not given" says so. Used by the lines of a sheet that is shown.
+// A number is written as the decimal with the fewest places that reads back as the same number
+// (crate decimal): a sign, the whole part, a point and exactly those places. Where there is none,
+// its 16 hexadecimal digits stand, after `bits 0x`. So a number that came from a data sheet is
+// written as the data sheet has it, and no two numbers are written alike. A time that is "not
+// given" says so. Used by the lines of a sheet that is shown.
 ghost use mathlib.Core.Path.{_≡_};
 ghost use Prim.Native.Nat.{_/_, _^_, _<_};
 ghost use Rattle.text.specs.Text.{text, appended};

@@ -1,4 +1,5 @@
--- Every tuple counts: a Helmert step over a list, and any step that counts every tuple, counts as many as the list has. A rest shorter than a tuple is none.
+-- Every tuple counts: a Helmert step over a list, and any step that counts every tuple, counts as
+-- many as the list has. A rest shorter than a tuple is none.
 -- Assumes nothing.
 use Prim.Native.Nat.{ℕ, _/_}
 use mathlib.Core.Path.{_≡_, refl}

@@ -27,8 +27,10 @@ const PI: f64 = 3.141592653589793;
 
 // ----- the record ----------------------------------------------------------------------
 
-// The record as the sheet carries it. The singles x, y, z are xyz, and so on; t_epoch and t_obs are NaN where they are not given.
-// flags: 1 exact, 2 uas, 4 mm, 8 own-epoch. convention: 0 none, 1 position vector, 2 coordinate frame.
+// The record as the sheet carries it. The singles x, y, z are xyz, and so on; t_epoch and t_obs are
+// NaN where they are not given.
+// flags: 1 exact, 2 uas, 4 mm, 8 own-epoch. convention: 0 none, 1 position vector, 2 coordinate
+// frame.
 pub struct Helmert {
     pub flags: u32,
     pub convention: u32,
@@ -287,7 +289,8 @@ fn moved(v: Vec3, rate: Vec3, d: f64) -> Vec3
     }
 }
 
-// The parameters at a fixed observation time, d years after t_epoch. S moves three times, because the Rust adds to it inside its loop over the axes.
+// The parameters at a fixed observation time, d years after t_epoch. S moves three times, because
+// the Rust adds to it inside its loop over the axes.
 fn observed(p: Parameters, d: f64) -> Parameters
     ensures { λ r. ⌜ r ≡ observedOf p d ⌝ }
 {

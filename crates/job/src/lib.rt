@@ -1,8 +1,10 @@
 // A job, as the program reads it: direction, sheet, tuples, velocities and marks from bytes.
 //
-// Document 01, "Program". A job is four words, the sheet, the tuples (four numbers each), the velocities (three numbers each) and a mark for each velocity,
-// then the end; docs/FORMAT.md has it byte by byte. Any other bytes are 16, and no other rule is looked at before that. Every function answers for every
-// input: past the end a byte reads as 0. Exact: a number's bits become the number, every NaN the one NaN. Used by `answer`.
+// Document 01, "Program". A job is four words, the sheet, the tuples (four numbers each), the
+// velocities (three numbers each) and a mark for each velocity, then the end; docs/FORMAT.md has it
+// byte by byte. Any other bytes are 16, and no other rule is looked at before that. Every function
+// answers for every input: past the end a byte reads as 0. Exact: a number's bits become the
+// number, every NaN the one NaN. Used by `answer`.
 ghost use mathlib.Core.Path.{_≡_};
 ghost use Prim.Native.Nat.{_+_, _<_, min};
 ghost use lib.ListN.{length};

@@ -1,7 +1,8 @@
 // Document 01's marked points that are run and not proved, printed beside what is expected.
 //
-// 2,048 tuples through a sheet of 16 steps, within the default stack; 2,049 tuples; 16 and 17 steps; p = 1e-11 by both inverses, which differ there; and
-// deformation up 1000. Numbers are printed by their bits.
+// 2,048 tuples through a sheet of 16 steps, within the default stack; 2,049 tuples; 16 and 17
+// steps; p = 1e-11 by both inverses, which differ there; and deformation up 1000. Numbers are
+// printed by their bits.
 ghost use mathlib.Core.Path.{_≡_};
 ghost use Prim.Native.Nat.{_<_, _≤_};
 ghost use lib.ListN.{length};
@@ -161,7 +162,8 @@ fn carts(n: usize, tuples: usize)
     run_spread(&s[..total], &mut list[..numbers]);
 }
 
-// (1e-11, 0, z, 0): on the axis for cart's inverse, which then counts nothing; off it for geographic.
+// (1e-11, 0, z, 0): on the axis for cart's inverse, which then counts nothing; off it for
+// geographic.
 fn near_the_axis(z: f64) -> Tuple {
     Tuple {
         x: 0.00000000001,

@@ -1,8 +1,9 @@
 // The lines that the program prints, written into a lent room.
 //
-// Document 01, "Program": how many steps and tuples, the count of each step, each tuple as four words of 16 hexadecimal digits; or the refusal. Every byte is
-// fixed by specs/Report.antt, for every input and a room of any length (crate text says what a room that is too short holds). A NaN is printed
-// 7ff8000000000000, whichever bits it came with. Used by `answer`.
+// Document 01, "Program": how many steps and tuples, the count of each step, each tuple as four
+// words of 16 hexadecimal digits; or the refusal. Every byte is fixed by specs/Report.antt, for
+// every input and a room of any length (crate text says what a room that is too short holds). A NaN
+// is printed 7ff8000000000000, whichever bits it came with. Used by `answer`.
 ghost use mathlib.Core.Path.{_≡_};
 ghost use mathlib.Core.List.{[], _∷_};
 ghost use lib.ListN.{take};

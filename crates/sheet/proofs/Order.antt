@@ -1,4 +1,5 @@
--- Lists of rules in their order, as the loops meet them: the first broken rule of two lists one after the other, and a turn of each loop. Assumes nothing.
+-- Lists of rules in their order, as the loops meet them: the first broken rule of two lists one
+-- after the other, and a turn of each loop. Assumes nothing.
 use mathlib.Core.Path.{_≡_, refl, sym, ap, _∙_}
 use mathlib.Core.Logic.{_↔_}
 use Prim.Native.Nat.{ℕ, zero, suc, _+_, _<_, _≤_}

@@ -37,7 +37,8 @@ endBefore s (suc i) = offsetAt s i + lengthAt s i
 abbrev pub invertedBroken : ℕ → Bool
 invertedBroken inverted = ltb 1 inverted
 
--- a kind, inverted word or body length outside its rule, or an offset not where the body before it ends
+-- a kind, inverted word or body length outside its rule, or an offset not where the body before it
+-- ends
 unfoldable pub placeBroken : List ℕ → ℕ → Bool
 placeBroken s i =
     eqb (lengthOf (kindAt s i)) 0
@@ -50,7 +51,8 @@ unfoldable pub someFrom : (ℕ → Bool) → ℕ → ℕ → Bool
 someFrom broken zero i = false
 someFrom broken (suc k) i = broken i || someFrom broken k (i + 1)
 
--- directory offset not 16, a directory outside the sheet, a place of it out of rule, or bodies not ending at the total length
+-- directory offset not 16, a directory outside the sheet, a place of it out of rule, or bodies not
+-- ending at the total length
 unfoldable pub refusal4 : List ℕ → Bool
 refusal4 s =
     not (eqb (directoryOffsetOf s) 16)

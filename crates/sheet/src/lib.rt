@@ -1,9 +1,12 @@
 // The sheet: the bytes by which two boxes hand each other their parameters, read where they lie.
 //
-// The layout and the rules are document 01's, "The sheet" and "Numbers of refusal". Every refusal is one named definition under its number in specs/Rules.antt,
-// and the order in which they are asked stands there once. Every function answers for every input exactly as its definition says (proved). What is proved of
-// whole sheets read and written again stands in sheet_writer. `check` and `entry_at` leave the sheet where it lies and decode one body at a time: whoever runs
-// a sheet uses these. `read` is for whoever makes, keeps or hands on a record; it is 4 kB, so pass it on once.
+// The layout and the rules are document 01's, "The sheet" and "Numbers of refusal". Every refusal
+// is one named definition under its number in specs/Rules.antt, and the order in which they are
+// asked stands there once. Every function answers for every input exactly as its definition says
+// (proved). What is proved of whole sheets read and written again stands in sheet_writer. `check`
+// and `entry_at` leave the sheet where it lies and decode one body at a time: whoever runs a sheet
+// uses these. `read` is for whoever makes, keeps or hands on a record; it is 4 kB, so pass it on
+// once.
 ghost use mathlib.Core.Path.{_≡_};
 ghost use Prim.Native.Nat.{_+_, _*_, _<_, _≤_};
 ghost use lib.ListN.{length, take, drop};
@@ -26,7 +29,8 @@ pub struct Sheet {
     pub entries: [Entry; 16],
 }
 
-// A refusal's number and its step, from 1; step 0 is the call as a whole, and number 0 is no refusal.
+// A refusal's number and its step, from 1; step 0 is the call as a whole, and number 0 is no
+// refusal.
 pub struct Refusal {
     pub number: u32,
     pub step: u32,
@@ -129,7 +133,8 @@ pub fn directory_end(n: u32) -> usize
     entry_offset(n)
 }
 
-// The word that stands k bytes into the directory entry of the step at index i; 0 past the sheet's end. Of an entry that the sheet has whole it is one load.
+// The word that stands k bytes into the directory entry of the step at index i; 0 past the sheet's
+// end. Of an entry that the sheet has whole it is one load.
 fn entry_word(s: &[u8], i: usize, k: usize) -> u32
     requires { ⌜ k ≤ 12 ⌝ }
     ensures { λ r. ⌜ r ≡ word32 (now (s .entry)) (entryOffset i + k) ⌝ }

@@ -1,9 +1,12 @@
 // The sheet's writer: a record's rules, and its bytes written into lent room.
 //
-// The layout and the rules are document 01's, "The sheet" and "Numbers of refusal"; the writer's order of refusals stands in specs/Rules.antt once, the bytes
-// in specs/Bytes.antt. Every function answers for every input exactly as its definition says (proved). Proved besides, over whole sheets of any kinds: what is
-// read and written again is the same bytes, what is written and read is the same record, and no two sheets read alike. Exact: no number changes. A record is
-// 4 kB, so pass it on once. Used by whoever makes a sheet, and by the chain over a record that is already read.
+// The layout and the rules are document 01's, "The sheet" and "Numbers of refusal"; the writer's
+// order of refusals stands in specs/Rules.antt once, the bytes in specs/Bytes.antt. Every function
+// answers for every input exactly as its definition says (proved). Proved besides, over whole
+// sheets of any kinds: what is read and written again is the same bytes, what is written and read
+// is the same record, and no two sheets read alike. Exact: no number changes. A record is 4 kB, so
+// pass it on once. Used by whoever makes a sheet, and by the chain over a record that is already
+// read.
 ghost use mathlib.Core.Path.{_≡_};
 ghost use Prim.Native.Nat.{_+_, _<_, _≤_};
 ghost use lib.ListN.{length};
@@ -242,7 +245,8 @@ fn put_sheet(room: &mut [u8], sheet: Sheet)
     put_bodies(room, sheet, n);
 }
 
-// Writes the sheet's bytes at the room's start and nothing after them. On refusal the room holds what it held.
+// Writes the sheet's bytes at the room's start and nothing after them. On refusal the room holds
+// what it held.
 pub fn write(sheet: Sheet, room: &mut [u8]) -> Refusal
     ensures { λ r. ⌜ (r ≡ writerRefusalOf sheet (length (now (room .entry)))) × (now (room .exit) ≡ roomAfterOf sheet (now (room .entry))) ⌝ }
 {

@@ -1,4 +1,5 @@
--- A sheet shown: its header, and step by step its directory entry and its fields; or the refusal in words, with the step and the place.
+-- A sheet shown: its header, and step by step its directory entry and its fields; or the refusal in
+-- words, with the step and the place.
 use Prim.Native.Nat.{ℕ, zero, suc, _+_, _-_}
 use mathlib.Core.Bool.{cond}
 use mathlib.Core.List.{List, [], _++_}
@@ -66,7 +67,8 @@ ruleText n =
 unfoldable pub answerText : ℕ → ℕ → List ℕ
 answerText number step = ascii "refused " ++ decimalOf number ++ ascii " step " ++ decimalOf step ++ ascii ": " ++ ruleText number
 
--- the byte of the word that a refusal of the sheet as a whole is about: 1 the total length, 2 the form, 3 the step count, 4 where the fault is
+-- the byte of the word that a refusal of the sheet as a whole is about: 1 the total length, 2 the
+-- form, 3 the step count, 4 where the fault is
 unfoldable pub wordPlace : List ℕ → ℕ → ℕ
 wordPlace s number = cond (eqb number 1) 4 (cond (eqb number 2) 0 (cond (eqb number 3) 8 (faultOf s)))
 

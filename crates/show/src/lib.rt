@@ -1,8 +1,10 @@
-// A sheet shown to whoever fits it: every field by its name and in its unit; or the refusal in words, with the step and the place.
+// A sheet shown to whoever fits it: every field by its name and in its unit; or the refusal in
+// words, with the step and the place.
 //
-// The text is fixed byte by byte by specs/Show.antt, for every sheet and a room of any length. A refused sheet's text has the rule in document 01's words; for
-// a refusal of the sheet as a whole the byte of the word that it is about and the header; for a step's refusal the bytes of its directory entry and its body, and
-// the whole step as it is. Used by the program sheet_show.
+// The text is fixed byte by byte by specs/Show.antt, for every sheet and a room of any length. A
+// refused sheet's text has the rule in document 01's words; for a refusal of the sheet as a whole
+// the byte of the word that it is about and the header; for a step's refusal the bytes of its
+// directory entry and its body, and the whole step as it is. Used by the program sheet_show.
 ghost use mathlib.Core.Path.{_≡_};
 ghost use Prim.Native.Nat.{_+_, _-_, _<_};
 ghost use lib.ListN.{length};

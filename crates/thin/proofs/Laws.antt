@@ -1,5 +1,6 @@
--- A step over a list of tuple records is the step over the same numbers as a flat list; and the law by which the loop over the records is proved: what one
--- turn makes carries the loop's invariant from a tuple to the next. Assumes nothing.
+-- A step over a list of tuple records is the step over the same numbers as a flat list; and the law
+-- by which the loop over the records is proved: what one turn makes carries the loop's invariant
+-- from a tuple to the next. Assumes nothing.
 use Prim.Native.Nat.{ℕ, zero, suc, _+_, _*_, _-_, _%_, _≤_, _<_}
 use native.Mathlib.Omega.{arith}
 use native.Mathlib.Nat.{add-assoc, add-zero, zero-add}
@@ -93,7 +94,8 @@ turn-is velocities marks plan k at u = refl
 
 -- ---- the loop over the records
 
--- the invariant at index i: what stands before it and what the run makes from there on are the run of the whole list, and so are the counts
+-- the invariant at index i: what stands before it and what the run makes from there on are the run
+-- of the whole list, and so are the counts
 pub record Walked (f : Turns State) (start : State) (ys : List Tuple) (i : ℕ) (at : Carried) (zs : List Tuple) : Type 0 where
   pub within : i ≤ length ys
   pub long : length zs ≡ length ys

@@ -1,12 +1,16 @@
-// The thin entries: a step of any kind, or a whole sheet, over a lent list of tuple records, where the list stands.
+// The thin entries: a step of any kind, or a whole sheet, over a lent list of tuple records, where
+// the list stands.
 //
-// Document 01: "a lent flat list; afterwards also a thin entry over a lent list of tuple records". The flat entries are the core. What is here walks a
-// `&mut [Tuple]` and hands each tuple to the step that the core is made of: `run_step` has the one loop over tuples, for all five kinds, either way, Helmert
-// in every mode with its carried state; `shift` runs a sheet's steps one after another by it, with `chain::shift`'s refusals in their order, 2,048 tuples at
-// most. Proved for every input: the list and the count of `run_step` are the step's own definition from tuple to tuple, and what `shift` answers and leaves
-// are, number for number, what `chain::shift` answers and leaves on the same numbers as a flat list (proofs/Flat.antt). No rounding but the steps' own. The
-// two walks are proved by hand; a further kind of step is a case of Plan, with a line each in `plan_of`, `start_of` and `turn`, and no walk. For callers who
-// hold their fixes as records.
+// Document 01: "a lent flat list; afterwards also a thin entry over a lent list of tuple records".
+// The flat entries are the core. What is here walks a `&mut [Tuple]` and hands each tuple to the
+// step that the core is made of: `run_step` has the one loop over tuples, for all five kinds,
+// either way, Helmert in every mode with its carried state; `shift` runs a sheet's steps one after
+// another by it, with `chain::shift`'s refusals in their order, 2,048 tuples at most. Proved for
+// every input: the list and the count of `run_step` are the step's own definition from tuple to
+// tuple, and what `shift` answers and leaves are, number for number, what `chain::shift` answers
+// and leaves on the same numbers as a flat list (proofs/Flat.antt). No rounding but the steps' own.
+// The two walks are proved by hand; a further kind of step is a case of Plan, with a line each in
+// `plan_of`, `start_of` and `turn`, and no walk. For callers who hold their fixes as records.
 ghost use mathlib.Core.Path.{_≡_};
 ghost use mathlib.Core.Bool.{true, false};
 ghost use Prim.Native.Nat.{_<_};
@@ -178,7 +182,8 @@ fn turn(plan: Plan, at: Carried, k: usize, u: Tuple, velocities: &[f64], marks: 
 
 // ----- a step over the list --------------------------------------------------------------
 
-// One step over a list, either way: Helmert in every mode with its carried state, and the four that have none.
+// One step over a list, either way: Helmert in every mode with its carried state, and the four that
+// have none.
 pub fn run_step(
     list: &mut [Tuple],
     inverse: bool,

@@ -1,7 +1,9 @@
-// One record of the fixed answers beside the library: in how many words the answer told differs from the one found.
+// One record of the fixed answers beside the library: in how many words the answer told differs
+// from the one found.
 //
-// Each contract is that number by specs/Replay.antt, which is made of the library's own definitions: a record's difference is between the file and what was
-// proved, and not an error in the reading of the file.
+// Each contract is that number by specs/Replay.antt, which is made of the library's own
+// definitions: a record's difference is between the file and what was proved, and not an error in
+// the reading of the file.
 ghost use mathlib.Core.Path.{_≡_};
 ghost use Prim.Native.Nat.{_+_, _*_, _≤_, _<_};
 ghost use lib.ListN.{length};

@@ -1,4 +1,5 @@
--- What is true of words and numbers in a list of bytes, for callers to cite: what was put is read, what was read is put, and a run of puts is one. Assumes nothing.
+-- What is true of words and numbers in a list of bytes, for callers to cite: what was put is read,
+-- what was read is put, and a run of puts is one. Assumes nothing.
 use mathlib.Core.Path.{_≡_, refl, sym, ap, _∙_, subst}
 use Prim.Native.Nat.{ℕ, suc, _+_, _-_, _*_, _/_, _%_, _^_, _<_, _≤_}
 use mathlib.Core.Bool.{Bool, true, false, not, cond}

@@ -1,8 +1,10 @@
 // Little-endian words and binary64 numbers in lent bytes, as the sheet has them.
 //
-// Every function takes every place: what lies past the end reads as 0, and nothing is written where it does not fit. Exact: no number changes on its way but
-// that every NaN is written 7ff8000000000000. Where the length is known, as in a body whose length was tested, the compiler drops the tests and a word is one
-// load or store. Used by the sheet's bodies, its header and directory.
+// Every function takes every place: what lies past the end reads as 0, and nothing is written where
+// it does not fit. Exact: no number changes on its way but that every NaN is written
+// 7ff8000000000000. Where the length is known, as in a body whose length was tested, the compiler
+// drops the tests and a word is one load or store. Used by the sheet's bodies, its header and
+// directory.
 ghost use mathlib.Core.Path.{_≡_};
 ghost use Prim.Native.Nat.{_+_, _<_, _≤_};
 ghost use lib.ListN.{length, getD};

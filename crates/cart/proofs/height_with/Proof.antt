@@ -1,4 +1,4 @@
--- `cart::height_with` meets its contract. Assumes nothing.
+-- Calls are replaced by what they ensure; the definition is left. Assumes nothing.
 use Rattle.cart.specs.Step.{heightWith}
 use borrow.Author.Needs.{needs}
 use Rattle.cart.proofs.height_with.Statement.{statement}

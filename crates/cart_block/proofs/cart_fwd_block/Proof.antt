@@ -1,4 +1,4 @@
--- `cart_block::cart_fwd_block` meets its contract. Assumes nothing.
+-- By `count-told` and `counted-forward`, from what the calls ensure. Assumes nothing.
 use mathlib.Core.Path.{_∙_}
 use Rattle.blocks.proofs.Counts.{count-told}
 use Rattle.cart_block.proofs.Parts.{counted-forward}

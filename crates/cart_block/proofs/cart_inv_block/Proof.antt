@@ -1,4 +1,5 @@
--- `cart_block::cart_inv_block` meets its contract. Assumes nothing.
+-- By `told`, `count-told`, `longitude-is` and `latitude-is`, from what the calls ensure.
+-- Assumes nothing.
 use mathlib.Core.Path.{_∙_}
 use Rattle.blocks.proofs.Laws.{told}
 use Rattle.blocks.proofs.Counts.{count-told}

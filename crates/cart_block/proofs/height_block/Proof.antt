@@ -1,4 +1,4 @@
--- `cart_block::height_block` meets its contract. Assumes nothing.
+-- By `told` and `height-from`, from what the calls ensure. Assumes nothing.
 use Rattle.blocks.proofs.Laws.{told}
 use Rattle.cart_block.proofs.Parts.{height-from}
 use borrow.Author.Needs.{needs}

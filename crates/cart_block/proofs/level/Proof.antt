@@ -1,4 +1,5 @@
--- `cart_block::level` meets its contract. Assumes nothing.
+-- One case for each way through the tests. Calls are replaced by what they ensure; the definition
+-- is left. Assumes nothing.
 use borrow.Author.Needs.{needs}
 use Rattle.cart_block.proofs.level.Statement.{statement}
 use Rattle.cart_block.proofs.level.Tie as tie

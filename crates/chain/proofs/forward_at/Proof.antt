@@ -1,4 +1,5 @@
--- `chain::forward_at` meets its contract. Assumes nothing.
+-- One case for each return. Calls are replaced by what they ensure; the definition is left.
+-- Assumes nothing.
 use mathlib.Core.Path.{sym, _∙_}
 use borrow.Author.Needs.{needs}
 use borrow.Author.Tests.{lt-ltb}

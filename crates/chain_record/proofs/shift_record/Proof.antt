@@ -1,4 +1,5 @@
--- `chain_record::shift_record` meets its contract. Assumes nothing.
+-- One case for each way through the tests. Each by `refused-own`, `refused-9`, `refused-10` and
+-- `run-through`, from what the calls ensure. Assumes nothing.
 use mathlib.Core.Path.{_≡_, sym, ap, _∙_}
 use mathlib.Core.Bool.{true, false}
 use Rattle.sheet.specs.declared.Refusal.{Refusal}

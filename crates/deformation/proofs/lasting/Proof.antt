@@ -1,4 +1,5 @@
--- `deformation::lasting` meets its contract. Assumes nothing.
+-- One case for each way through the tests. The test's outcome picks the definition's case.
+-- Assumes nothing.
 use borrow.Author.Needs.{needs}
 use Rattle.deformation.proofs.lasting.Statement.{statement}
 use Rattle.deformation.proofs.lasting.Tie as tie

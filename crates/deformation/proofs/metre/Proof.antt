@@ -1,4 +1,5 @@
--- `deformation::metre` meets its contract. Assumes nothing.
+-- One case for each way through the tests. The test's outcome picks the definition's case.
+-- Assumes nothing.
 use Rattle.deformation.proofs.metre.Statement.{statement}
 use Rattle.deformation.proofs.metre.Tie as tie
 

@@ -1,6 +1,6 @@
--- Invariant: n is how many of the first i marks are 1 (`CountedBefore`), n is at most i, and i at most
--- 16, so n does not overflow. A turn counts mark i (`one-counted`). At i = 16 n is the count of the
--- block (`all-counted`). The measure is 16 - i. Assumes nothing.
+-- Invariant: n is how many of the first i marks are 1 (`CountedBefore`), n is at most i, and i at
+-- most 16, so n does not overflow. A turn counts mark i (`one-counted`). At i = 16 n is the count
+-- of the block (`all-counted`). The measure is 16 - i. Assumes nothing.
 use Prim.Native.Nat.{ℕ, _-_}
 use borrow.Author.Needs.{needs}
 use lib.Dec.{eqb}

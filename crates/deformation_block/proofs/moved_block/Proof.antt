@@ -1,4 +1,5 @@
--- `deformation_block::moved_block` meets its contract. Assumes nothing.
+-- One case for each way through the tests. Each by `raw-all` and `sum-all`, from what the calls
+-- ensure. Assumes nothing.
 use borrow.Author.Needs.{needs}
 use Rattle.deformation_block.proofs.Laws.{raw-all, sum-all}
 use Rattle.deformation_block.proofs.moved_block.Statement.{statement}

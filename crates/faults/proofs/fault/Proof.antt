@@ -1,4 +1,5 @@
--- The tests are asked in `faultOf`'s order; past the last of them the search over the entries answers. Assumes nothing.
+-- The tests are asked in `faultOf`'s order; past the last of them the search over the entries
+-- answers. Assumes nothing.
 use borrow.Author.Needs.{needs}
 use borrow.Author.Tests.{eq-eqb, ne-eqb, lt-ltb, le-ltb}
 use Rattle.faults.specs.Faults.{faultOf}

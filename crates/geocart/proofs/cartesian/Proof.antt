@@ -1,4 +1,4 @@
--- `geocart::cartesian` meets its contract. Assumes nothing.
+-- Calls are replaced by what they ensure; the definition is left. Assumes nothing.
 use Rattle.geocart.specs.Geocart.{cartesianOf}
 use borrow.Author.Needs.{needs}
 use Rattle.geocart.proofs.cartesian.Statement.{statement}

@@ -1,4 +1,4 @@
--- `geocart::legs_at` meets its contract. Assumes nothing.
+-- Calls are replaced by what they ensure; the definition is left. Assumes nothing.
 use Rattle.geocart.specs.Geocart.{legsOf}
 use borrow.Author.Needs.{needs}
 use Rattle.geocart.proofs.legs_at.Statement.{statement}

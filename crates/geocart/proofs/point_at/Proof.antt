@@ -1,4 +1,4 @@
--- `geocart::point_at` meets its contract. Assumes nothing.
+-- By computation: the body's operations are the definition's, in its order. Assumes nothing.
 use mathlib.Core.Path.{refl}
 use Rattle.geocart.specs.Geocart.{pointOf}
 use Rattle.geocart.proofs.point_at.Statement.{statement}

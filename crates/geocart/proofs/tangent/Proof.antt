@@ -1,4 +1,4 @@
--- `geocart::tangent` meets its contract. Assumes nothing.
+-- By computation: the body's operations are the definition's, in its order. Assumes nothing.
 use mathlib.Core.Path.{refl}
 use Rattle.geocart.specs.Geocart.{tangentOf}
 use Rattle.geocart.proofs.tangent.Statement.{statement}

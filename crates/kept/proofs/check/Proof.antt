@@ -1,4 +1,4 @@
--- `kept::check` meets its contract: each test that fails is the next rule in the order, kept. Assumes nothing.
+-- Each test that fails is the next rule in the order, kept. Assumes nothing.
 use borrow.Author.Needs.{needs}
 use mathlib.Core.Path.{sym, ap, _∙_}
 use Rattle.sheet.specs.declared.Refusal.{Refusal}

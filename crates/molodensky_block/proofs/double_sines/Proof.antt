@@ -1,4 +1,4 @@
--- `molodensky_block::double_sines` meets its contract. Assumes nothing.
+-- By `told`, from what the calls ensure. Assumes nothing.
 use borrow.Author.Needs.{needs}
 use Rattle.blocks.proofs.Laws.{told}
 use Rattle.molodensky_block.proofs.double_sines.Statement.{statement}

@@ -1,4 +1,4 @@
--- `molodensky_block::place_with` meets its contract. Assumes nothing.
+-- Calls are replaced by what they ensure; the definition is left. Assumes nothing.
 use borrow.Author.Needs.{needs}
 use Rattle.molodensky_block.proofs.place_with.Statement.{statement}
 use Rattle.molodensky_block.proofs.place_with.Tie as tie

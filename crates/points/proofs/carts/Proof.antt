@@ -1,4 +1,4 @@
--- `points::carts` meets its contract. Assumes nothing.
+-- The facts at hand are what is asked. Assumes nothing.
 use native.Mathlib.Omega.{arith}
 use lib.ListN.{length-take}
 use borrow.Author.Needs.{needs}

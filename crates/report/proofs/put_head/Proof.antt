@@ -1,4 +1,4 @@
--- `report::put_head` meets its contract. Assumes nothing.
+-- Calls are replaced by what they ensure; the definition is left. Assumes nothing.
 use borrow.Author.Needs.{needs}
 use Rattle.report.proofs.put_head.Statement.{statement}
 use Rattle.report.proofs.put_head.Tie as tie

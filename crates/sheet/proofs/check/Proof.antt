@@ -1,4 +1,5 @@
--- `sheet::check` meets its contract. Assumes nothing.
+-- One case for each way through the tests. Each by `count-kept`, `reader-step` and `reader-eleven`,
+-- from what the calls ensure. Assumes nothing.
 use mathlib.Core.Path.{_≡_, sym, _∙_}
 use mathlib.Core.Bool.{false}
 use borrow.Author.Tests.{eq-eqb, ne-eqb}

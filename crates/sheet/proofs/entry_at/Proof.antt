@@ -1,4 +1,5 @@
--- Below the step count the entry is read word by word, from there on it is blank, as `entryAt` has it. Assumes nothing.
+-- Below the step count the entry is read word by word, from there on it is blank, as `entryAt` has
+-- it. Assumes nothing.
 use borrow.Author.Tests.{lt-ltb, le-ltb}
 use Rattle.sheet.specs.Layout.{entryAt}
 use borrow.Author.Needs.{needs}

@@ -1,5 +1,6 @@
--- From a sixteenth of the sheet's length on an index has its entry past the end, where a word reads as 0. Below that the entry begins in the sheet, and a word
--- is read in the entry, or in what the sheet has of it, as in the whole sheet. Assumes nothing.
+-- From a sixteenth of the sheet's length on an index has its entry past the end, where a word reads
+-- as 0. Below that the entry begins in the sheet, and a word is read in the entry, or in what the
+-- sheet has of it, as in the whole sheet. Assumes nothing.
 use native.Mathlib.Omega.{arith}
 use Prim.Native.Nat.{_-_, _≤_}
 use mathlib.Core.Path.{sym}

@@ -1,4 +1,5 @@
--- `sheet_writer::check_record` meets its contract. Assumes nothing.
+-- One case for each way through the tests. Each by `count-kept`, `writer-three`, `writer-four` and
+-- `writer-step`, from what the calls ensure. Assumes nothing.
 use Prim.Native.Nat.{ℕ}
 use mathlib.Core.Path.{_≡_, refl, sym, ap, _∙_}
 use mathlib.Core.Bool.{true, false}

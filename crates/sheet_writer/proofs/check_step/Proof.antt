@@ -1,4 +1,5 @@
--- `sheet_writer::check_step` meets its contract. Assumes nothing.
+-- One case for each way through the tests. Each by `of-index`, from what the calls ensure.
+-- Assumes nothing.
 use Rattle.sheet.specs.Rules.{rulesOfStep, firstBroken}
 use Rattle.sheet.proofs.Order.{of-index}
 use borrow.Author.Needs.{needs}

@@ -1,4 +1,4 @@
--- `sheet_writer::put_sheet` meets its contract. Assumes nothing.
+-- By `bodies-length` and `three-puts`, from what the calls ensure. Assumes nothing.
 use native.Mathlib.Omega.{arith}
 use Prim.Native.Nat.{ℕ, _+_, _*_, _≤_}
 use mathlib.Core.Path.{_≡_, sym, ap, _∙_}

@@ -1,4 +1,5 @@
--- `show::put_refused` meets its contract. Assumes nothing.
+-- One case for each way through the tests. Each by `then`, from what the calls ensure.
+-- Assumes nothing.
 use borrow.Author.Tests.{eq-eqb, ne-eqb}
 use Rattle.text.proofs.Laws.{then}
 use Rattle.show.specs.Show.{refusedText}

@@ -1,4 +1,4 @@
--- `thin::carried_on` meets its contract. Assumes nothing.
+-- Calls are replaced by what they ensure; the definition is left. Assumes nothing.
 use borrow.Author.Needs.{needs}
 use Rattle.thin.proofs.carried_on.Statement.{statement}
 use Rattle.thin.proofs.carried_on.Tie as tie

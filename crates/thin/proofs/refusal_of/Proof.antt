@@ -1,4 +1,5 @@
--- `thin::refusal_of` meets its contract. Assumes nothing.
+-- One case for each way through the tests. Each by `own-first`, `too-many`, `lent-wrong` and
+-- `nothing-wrong`, from what the calls ensure. Assumes nothing.
 use mathlib.Core.Path.{sym, _∙_}
 use Rattle.thin.specs.Sheets.{thinRefusalOf}
 use Rattle.thin.proofs.Laws.{own-first, too-many, lent-wrong, nothing-wrong}

@@ -1,5 +1,4 @@
--- `trig_block::sin_cos_block` meets its contract: place by place, what the three loops reach is the
--- pair. Assumes nothing.
+-- Place by place, what the three loops reach is the pair. Assumes nothing.
 use borrow.Author.Needs.{needs}
 use mathlib.Core.Path.{ap}
 use Rattle.blocks.proofs.Laws.{told}

@@ -1,4 +1,4 @@
--- `words::byte` meets its contract. Assumes nothing.
+-- One case for each return. Each by `past-end`. Assumes nothing.
 use Prim.Native.Nat.{_+_}
 use native.Mathlib.Omega.{arith}
 use Rattle.words.proofs.Laws.{past-end}

@@ -1,4 +1,4 @@
--- `molodensky::Place::with` meets its contract. Assumes nothing.
+-- By computation: the body's operations are the definition's, in its order. Assumes nothing.
 use mathlib.Core.Path.{refl}
 use Rattle.molodensky.specs.Step.{placeWith}
 use Rattle.molodensky.proofs.Place.with.Statement.{statement}

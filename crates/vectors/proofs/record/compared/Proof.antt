@@ -1,4 +1,4 @@
--- `vectors::compared` meets its contract. Assumes nothing.
+-- Calls are replaced by what they ensure; the definition is left. Assumes nothing.
 use Rattle.vectors.specs.Replay.{comparedOf}
 use borrow.Author.Needs.{needs}
 use Rattle.vectors.proofs.record.compared.Statement.{statement}
