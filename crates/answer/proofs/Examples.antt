@@ -31,8 +31,8 @@ pub p1-complete : P1Printed
 unfolding bytes p1 p1-job answerOf jobText toldOf refusal16 numbersOf sheetOf tuplesOf velocitiesOf marksOf ranText lineOf countsText tuplesText tupleText wordOf decimalOf placesOf digitsOf hexOf shiftOf outcomeOf shiftRefusalOf refusal9 refusal10 overOne chainForwardOf entriesOf stepListOf tuplesCountedOf word32 word64 numberAt oneNanAt le32 bodyLengthOf bodyAt readOf cartRecordOf stepInRule lacksConvention lacksEpoch lacksDuration writtenInRule bodyInRule refusal1 refusal2 refusal3 refusal4 refusal5 endBefore placeBroken someFrom hasDeformation refusal11 rulesOfStep fiveToEight elevens readerOrder firstBroken refusalOf entryAt cartesianOf namedOf ellipsoidOf primeVerticalOf wOf sqrtOf sinOf cosOf signedOf sineOf cosineOf reducedOf rowOf bendOf sumOf clampOf atMostOne signOf isNan ofBits toBits neg add sub mul div lt le eq ne sum round size
 p1-complete = refl
 
--- A bad job is 16, whatever stands in it: nothing, P1 without its last byte and with one more, a direction of 2, 4,241 bytes of sheet, 513 tuples, 2
--- velocities for one tuple.
+-- A bad job is 16, whatever stands in it: nothing, P1 without its last byte and with one more, a
+-- direction of 2, 4,241 bytes of sheet, 513 tuples, 2 velocities for one tuple.
 bad-jobs :
     (answerOf [] ≡ ascii "refused 16 step 0\n")
     × (answerOf (take 87 p1-job) ≡ ascii "refused 16 step 0\n")

@@ -1,4 +1,5 @@
--- What is true of `atan2Of` for every two numbers, for callers to cite: IEEE 754's cases, each by its name. Assumes nothing.
+-- What is true of `atan2Of` for every two numbers, for callers to cite: IEEE 754's cases, each by
+-- its name. Assumes nothing.
 use mathlib.Core.Path.{_≡_, refl, sym, ap, _∙_}
 use Prim.Native.Nat.{ℕ, zero, suc}
 use mathlib.Core.Bool.{Bool, true, false, cond, _||_, true≢false}

@@ -1,4 +1,5 @@
--- A step's count is at most the number of tuples, so no call's count is over 2,048. Assumes nothing.
+-- A step's count is at most the number of tuples, so no call's count is over 2,048. Assumes
+-- nothing.
 use Prim.Native.Nat.{ℕ, zero, suc, _+_, _*_, _-_, _%_, _≤_}
 use native.Mathlib.Omega.{arith}
 use mathlib.Core.Path.{_≡_, refl, ap, _∙_}

@@ -1,4 +1,5 @@
--- The chain's laws: what a chain of one step and of steps A then B is; and the invariants by which the loops over the steps are proved. Assumes nothing.
+-- The chain's laws: what a chain of one step and of steps A then B is; and the invariants by which
+-- the loops over the steps are proved. Assumes nothing.
 use Prim.Native.Nat.{ℕ, zero, suc, _+_, _-_, _≤_, _<_}
 use native.Mathlib.Omega.{arith}
 use mathlib.Core.Path.{_≡_, refl, sym, ap, _∙_}
@@ -109,7 +110,8 @@ left-none : (entry : ℕ → Entry) (n : ℕ) → leftFrom entry n n ≡ []
 unfolding entriesOf
 left-none entry n = let s : n - n ≡ 0 = omega arith in rw s
 
--- forward: what the steps left make of the list, and of the counts after those that stand, is what all make of the list at the start
+-- forward: what the steps left make of the list, and of the counts after those that stand, is what
+-- all make of the list at the start
 pub record Forward (velocities : List Float) (marks : List ℕ) (entry : ℕ → Entry) (n : ℕ) (l₀ : List Float) (i : ℕ) (l : List Float) (counts : List ℕ) : Type 0 where
   pub within : i ≤ n
   pub places : length counts ≡ 16
@@ -118,7 +120,8 @@ pub record Forward (velocities : List Float) (marks : List ℕ) (entry : ℕ →
   pub counted : take i counts ++ chainForwardOf velocities marks (leftFrom entry n i) l .counts ≡ chainForwardOf velocities marks (entriesOf entry n 0) l₀ .counts
   pub rest : drop i counts ≡ replicate (16 - i) 0
 
--- inverse: the list is what the steps from index i on have made of it, last first, and the counts from there on are theirs
+-- inverse: the list is what the steps from index i on have made of it, last first, and the counts
+-- from there on are theirs
 pub record Backward (velocities : List Float) (marks : List ℕ) (entry : ℕ → Entry) (n : ℕ) (l₀ : List Float) (i : ℕ) (l : List Float) (counts : List ℕ) : Type 0 where
   pub within : i ≤ n
   pub places : length counts ≡ 16

@@ -1,4 +1,5 @@
--- A chain: the steps of a sheet over a list, in order, inverse in reverse with each turned round. Velocities and marks are those that the caller lends.
+-- A chain: the steps of a sheet over a list, in order, inverse in reverse with each turned round.
+-- Velocities and marks are those that the caller lends.
 use Prim.Native.Nat.{ℕ, zero, suc, _-_}
 use mathlib.Core.Bool.{Bool, true, false, not, cond}
 use mathlib.Core.List.{List, [], _∷_, _++_}
@@ -35,7 +36,8 @@ stateOf (Deformation r) = noState
 stateOf (Molodensky r) = noState
 stateOf (Helmert h) = startOf (prepareOf h)
 
--- the kind that a body is read by: 0, which is none, where the body is not as long as its kind's are
+-- the kind that a body is read by: 0, which is none, where the body is not as long as its kind's
+-- are
 abbrev pub heldKindOf : ℕ → ℕ → ℕ
 heldKindOf kind n = cond (eqb n (lengthOf kind)) kind 0
 

@@ -1,6 +1,6 @@
--- Document 01's marked points of the chain, P1 to P5 and P7 to P12: each a sheet's bytes, a list and
--- the outcome of a call. P6 is of the kept run (kept, MarkedPoints), and the text that the program
--- prints for P1 is the program's (answer, MarkedPoints); the table of all is in points.
+-- Document 01's marked points of the chain, P1 to P5 and P7 to P12: each a sheet's bytes, a list
+-- and the outcome of a call. P6 is of the kept run (kept, MarkedPoints), and the text that the
+-- program prints for P1 is the program's (answer, MarkedPoints); the table of all is in points.
 use mathlib.Core.Path.{_≡_}
 use mathlib.Core.Bool.{true, false}
 use mathlib.Core.List.{List, [], _∷_, _++_}
@@ -25,7 +25,8 @@ bytes (w ∷ ws) = le32 w ++ bytes ws
 unfoldable pub p1 : List ℕ
 p1 = bytes (1 ∷ 40 ∷ 1 ∷ 16 ∷ 2 ∷ 0 ∷ 32 ∷ 8 ∷ 1 ∷ 0 ∷ [])
 
--- a Helmert sheet with these flags and the upper words of dx, rx and t_epoch (7ff80000: not given); all else zero, no t_obs
+-- a Helmert sheet with these flags and the upper words of dx, rx and t_epoch (7ff80000: not given);
+-- all else zero, no t_obs
 unfoldable pub helmertSheet : ℕ → ℕ → ℕ → ℕ → List ℕ
 helmertSheet flags dx rx epoch =
     bytes
@@ -67,7 +68,8 @@ y2001 = bits 0x409f_4400_0000_0000
 unfoldable pub y2002 : Float
 y2002 = bits 0x409f_4800_0000_0000
 
--- DT = (1, 0, 0), t_epoch 2000, in running mode or with the own-epoch flag: the resulting X of fixes at these times
+-- DT = (1, 0, 0), t_epoch 2000, in running mode or with the own-epoch flag: the resulting X of
+-- fixes at these times
 unfoldable pub shifted-x : ℕ → List Float → List Float
 shifted-x flags times = xs (shiftOf false (helmertSheet flags 0x3ff00000 0 0x409f4000) (fixes times) [] [] .list)
 

@@ -1,4 +1,5 @@
--- When a call is refused, by document 01's numbers, and what it answers. `refusalN` says when refusal N is given: its rule is broken.
+-- When a call is refused, by document 01's numbers, and what it answers. `refusal9` and
+-- `refusal10` say when the rule of that number is broken.
 use Prim.Native.Nat.{ℕ, _*_, _/_, _%_}
 use mathlib.Core.Bool.{Bool, false, not, cond, _||_}
 use mathlib.Core.List.{List, [], _∷_}

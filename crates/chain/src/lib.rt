@@ -1,9 +1,12 @@
 // The chain: a sheet's steps over a lent flat list, where the list stands.
 //
-// Document 01, "The sheet" (a chain runs steps in order, inverse in reverse with each turned round) and "Numbers of refusal". `shift` checks the sheet where
-// it lies and decodes one body at a time, steps outermost and list innermost; chain_record does the same over a record that is already read, and the two
-// agree (proved there). The answer, the counts and the list are fixed for every input by specs/Rules.antt over specs/Chain.antt, which is made of the steps' own
-// definitions; nothing is written before the last test has passed. No rounding but the steps' own. Used by the program and by callers that keep lists.
+// Document 01, "The sheet" (a chain runs steps in order, inverse in reverse with each turned round)
+// and "Numbers of refusal". `shift` checks the sheet where it lies and decodes one body at a time,
+// steps outermost and list innermost; chain_record does the same over a record that is already
+// read, and the two agree (proved there). The answer, the counts and the list are fixed for every
+// input by specs/Rules.antt over specs/Chain.antt, which is made of the steps' own definitions;
+// nothing is written before the last test has passed. No rounding but the steps' own. Used by the
+// program and by callers that keep lists.
 ghost use mathlib.Core.Path.{_≡_};
 ghost use mathlib.Core.Bool.{cond, not, true, false};
 ghost use Prim.Native.Nat.{_*_, _≤_, _<_};
@@ -12,14 +15,15 @@ ghost use lib.ListN.{length};
 ghost use Rattle.sheet.specs.Layout.{stepCountOf, kindAt, entryAt};
 ghost use Rattle.cart.specs.Record.{blankOf};
 ghost use Rattle.bodies.specs.Read.{cartIn};
-ghost use Rattle.sheet.specs.Rules.{ofCall, hasDeformation};
+ghost use Rattle.sheet.specs.Rules.{hasDeformation};
 ghost use Rattle.chain.specs.Chain.{heldKindOf, bodyListOf, bodyCountOf, reversedOf, stepListOf, tuplesCountedOf, chainForwardOf, chainInverseOf, placesOf, entriesOf};
 ghost use Rattle.chain.specs.Rules.{refusal9, overOne, lentFor, refusal10, refusedAnswer, ranAnswer, outcome, shiftOf};
 use cart::Cart;
 use sheet::Entry;
 use sheet::Refusal;
 
-// What a call answers: no refusal and each step's count in the sheet's order, 0 in the other places; or a refusal and zeros.
+// What a call answers: no refusal and each step's count in the sheet's order, 0 in the other
+// places; or a refusal and zeros.
 pub struct Answer {
     pub refusal: Refusal,
     pub counts: [usize; 16],
@@ -40,17 +44,11 @@ pub fn reversed(inverse: bool, entry: Entry) -> bool
     reversed_by(inverse, entry.inverted)
 }
 
-fn wide(x: u32) -> usize
-    ensures { λ r. ⌜ r ≡ x ⌝ }
-{
-    x as usize
-}
-
 // A body's kind where the body is as long as its kind's are, else 0.
 fn held_kind(kind: u32, length: usize) -> u32
     ensures { λ r. ⌜ r ≡ heldKindOf kind length ⌝ }
 {
-    if length == wide(bodies::length_of(kind)) {
+    if length == words::wide(bodies::length_of(kind)) {
         return kind;
     }
     0
@@ -66,8 +64,9 @@ fn cart_of(kind: u32, b: &[u8]) -> Cart
     Cart::blank()
 }
 
-// A body over the list, read where it lies: the kind is decided here, once a list, and no step of any kind is made to be taken apart again. Helmert's stands apart from the others', so
-// that neither has the other's columns on the stack.
+// A body over the list, read where it lies: the kind is decided here, once a list, and no step of
+// any kind is made to be taken apart again. Helmert's stands apart from the others', so that
+// neither has the other's columns on the stack.
 fn run_helmert(
     inv: bool,
     kind: u32,
@@ -114,18 +113,16 @@ fn run_other(
     runs::run_cart(list, inv, cart_of(held, b))
 }
 
-// The step at an index over the list, in the chain's direction. One function a direction: what both call is then not laid into their own frame.
+// The step at an index over the list, in the chain's direction. One function a direction: what both
+// call is then not laid into their own frame.
 fn forward_at(s: &[u8], i: usize, list: &mut [f64], velocities: &[f64], marks: &[u8]) -> usize
-    requires { ⌜ (i < 16) × (i < stepCountOf (now s)) ⌝ }
+    requires { ⌜ i < stepCountOf (now s) ⌝ }
     ensures { λ r. ⌜ (now (list .exit) ≡ stepListOf false (now (velocities .entry)) (now (marks .entry)) (entryAt (now (s .entry)) i) (now (list .entry)))
         × (r ≡ tuplesCountedOf false (now (velocities .entry)) (now (marks .entry)) (entryAt (now (s .entry)) i) (now (list .entry))) ⌝ }
 {
-    let place = 16 + 16 * i;
-    let inv = reversed_by(false, words::read32(s, place + 4));
-    let kind = words::read32(s, place);
-    let offset = wide(words::read32(s, place + 8));
-    let length = wide(words::read32(s, place + 12));
-    let b = sheet::part(s, offset, length);
+    let inv = reversed_by(false, sheet::inverted_at(s, i));
+    let kind = sheet::kind_at(s, i);
+    let b = sheet::body_at(s, i);
     if held_kind(kind, b.len()) == 1 {
         return run_helmert(inv, kind, b, list, velocities, marks);
     }
@@ -133,16 +130,13 @@ fn forward_at(s: &[u8], i: usize, list: &mut [f64], velocities: &[f64], marks: &
 }
 
 fn backward_at(s: &[u8], i: usize, list: &mut [f64], velocities: &[f64], marks: &[u8]) -> usize
-    requires { ⌜ (i < 16) × (i < stepCountOf (now s)) ⌝ }
+    requires { ⌜ i < stepCountOf (now s) ⌝ }
     ensures { λ r. ⌜ (now (list .exit) ≡ stepListOf true (now (velocities .entry)) (now (marks .entry)) (entryAt (now (s .entry)) i) (now (list .entry)))
         × (r ≡ tuplesCountedOf true (now (velocities .entry)) (now (marks .entry)) (entryAt (now (s .entry)) i) (now (list .entry))) ⌝ }
 {
-    let place = 16 + 16 * i;
-    let inv = reversed_by(true, words::read32(s, place + 4));
-    let kind = words::read32(s, place);
-    let offset = wide(words::read32(s, place + 8));
-    let length = wide(words::read32(s, place + 12));
-    let b = sheet::part(s, offset, length);
+    let inv = reversed_by(true, sheet::inverted_at(s, i));
+    let kind = sheet::kind_at(s, i);
+    let b = sheet::body_at(s, i);
     if held_kind(kind, b.len()) == 1 {
         return run_helmert(inv, kind, b, list, velocities, marks);
     }
@@ -230,13 +224,12 @@ pub fn lent_broken(deforms: bool, numbers: usize, velocities: &[f64], marks: &[u
 
 // Whether one of the first n steps is a deformation step.
 fn deforms(s: &[u8], n: usize) -> bool
-    requires { ⌜ n < 4294967296 ⌝ }
     ensures { λ r. ⌜ r ≡ hasDeformation (kindAt (now (s .entry))) n ⌝ }
 {
     let mut found = false;
     let mut i = 0;
     while i < n {
-        found = found | (words::read32(s, 16 + 16 * i) == 5);
+        found = found | (sheet::kind_at(s, i) == 5);
         i += 1;
     }
     found
@@ -250,16 +243,6 @@ pub fn has_deformation(s: &[u8]) -> bool
 }
 
 // ----- the entries ------------------------------------------------------------------------------
-
-// A refusal of the lent lists carries no step.
-pub fn of_lists(number: u32) -> Refusal
-    ensures { λ r. ⌜ r ≡ ofCall number ⌝ }
-{
-    Refusal {
-        number: number,
-        step: 0,
-    }
-}
 
 pub fn refused(refusal: Refusal) -> Answer
     ensures { λ r. ⌜ r ≡ refusedAnswer refusal ⌝ }
@@ -288,11 +271,11 @@ pub fn shift(inverse: bool, s: &[u8], list: &mut [f64], velocities: &[f64], mark
         return refused(own);
     }
     if list_broken(list.len()) {
-        return refused(of_lists(9));
+        return refused(Refusal::of_call(9));
     }
     let n = sheet::step_count(s);
     if lent_broken(deforms(s, n), list.len(), velocities, marks) {
-        return refused(of_lists(10));
+        return refused(Refusal::of_call(10));
     }
     if inverse {
         let counts = backward(s, n, list, velocities, marks);

@@ -1,8 +1,10 @@
-// The chain over a record that is already read: a sheet's steps over a lent flat list, where the list stands.
+// The chain over a record that is already read: a sheet's steps over a lent flat list, where the
+// list stands.
 //
-// As `chain::shift` does over a sheet's bytes; the two agree on every sheet that is accepted (proofs/Agree.antt). A record's own rules are the writer's, in a room that
-// any sheet fits. The answer, the counts and the list are fixed for every input by specs/Record.antt over chain's definitions. No rounding but the steps' own. For
-// callers that hold a sheet as a record.
+// As `chain::shift` does over a sheet's bytes; the two agree on every sheet that is accepted
+// (proofs/Agree.antt). A record's own rules are the writer's, in a room that any sheet fits. The
+// answer, the counts and the list are fixed for every input by specs/Record.antt over chain's
+// definitions. No rounding but the steps' own. For callers that hold a sheet as a record.
 ghost use mathlib.Core.Path.{_≡_};
 ghost use Prim.Native.Nat.{_≤_};
 ghost use Rattle.sheet.specs.Layout.{entryOf, kindIn};
@@ -13,6 +15,7 @@ ghost use Rattle.chain_record.specs.Record.{shiftRecordOf};
 use bodies::Step;
 use chain::Answer;
 use sheet::Entry;
+use sheet::Refusal;
 use sheet::Sheet;
 
 // The kind is decided here, once a list.
@@ -45,12 +48,6 @@ fn run_step(
             return helmert_runs::run_helmert(list, inv, h);
         }
     }
-}
-
-fn wide(x: u32) -> usize
-    ensures { λ r. ⌜ r ≡ x ⌝ }
-{
-    x as usize
 }
 
 fn forward_record(
@@ -128,11 +125,11 @@ pub fn shift_record(
         return chain::refused(own);
     }
     if chain::list_broken(list.len()) {
-        return chain::refused(chain::of_lists(9));
+        return chain::refused(Refusal::of_call(9));
     }
-    let n = wide(kept.count);
+    let n = words::wide(kept.count);
     if chain::lent_broken(deforms_record(kept, n), list.len(), velocities, marks) {
-        return chain::refused(chain::of_lists(10));
+        return chain::refused(Refusal::of_call(10));
     }
     if inverse {
         let counts = backward_record(kept, n, list, velocities, marks);

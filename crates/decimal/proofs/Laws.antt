@@ -88,7 +88,8 @@ unfolding passesOf readOf
 passed-reads a k h p =
     same-are-equal (readOf (digitsOf a k) k) a (div-fits binary64 (ofInt binary64 (pos (digitsOf a k))) (tenTo k)) h (second (lt (a ⊗ tenTo k) twoTo52) _ p)
 
--- the decimal that is found has the number's sign, and its digits over the power of ten are the number's magnitude
+-- the decimal that is found has the number's sign, and its digits over the power of ten are the
+-- number's magnitude
 pub reads-back : (x : Float) (s : Bool) (d k : ℕ) → T (fits binary64 x) → decimalOf x ≡ Found s d k → (s ≡ signOf x) × (readOf d k ≡ absOf x)
 reads-back x s d k h e =
     let r = of-x x s d k e in
@@ -134,7 +135,8 @@ quotient (fin false m e) (fin false l f) d n h p q = over (sym (mul-one (m * up 
     over : m * up e ≡ d * down e → l * up f ≡ n * down f → fin false m e ⊘ fin false l f ≡ round binary64 false d n
     over a b = by-parts m e l f d n h a b
 
--- a decimal's digits over its power of ten is their quotient as whole numbers, rounded once: what a correct reader of the decimal answers
+-- a decimal's digits over its power of ten is their quotient as whole numbers, rounded once: what a
+-- correct reader of the decimal answers
 pub read-is-rounded-once : (d k : ℕ) → d ≤ 2 ^ 53 → k < 23 → readOf d k ≡ round binary64 false d (10 ^ k)
 unfolding readOf ofInt
 read-is-rounded-once d k h l = quotient (ofInt binary64 (pos d)) (tenTo k) d (10 ^ k) (one-le-pow k 10 (omega arith)) (round-whole binary64 false d h) (ten-is-exact k l)

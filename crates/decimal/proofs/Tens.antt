@@ -1,4 +1,5 @@
--- The powers of ten that the search goes through: each is the one before it times ten, rounded once, and up to 22 each is exact. Assumes nothing.
+-- The powers of ten that the search goes through: each is the one before it times ten, rounded
+-- once, and up to 22 each is exact. Assumes nothing.
 use mathlib.Core.Path.{_≡_, refl, sym, subst}
 use Prim.Native.Nat.{ℕ, zero, suc, _+_, _*_, _^_, _<_}
 use native.Mathlib.Omega.{arith}

@@ -1,4 +1,5 @@
--- A running loop holds S and the matrix from one change of time to the next: what it holds is what the definition takes anew at each tuple. Assumes nothing.
+-- A running loop holds S and the matrix from one change of time to the next: what it holds is what
+-- the definition takes anew at each tuple. Assumes nothing.
 use mathlib.Core.Path.{_≡_, refl, sym, ap, _∙_}
 use mathlib.Core.Bool.{Bool, true, false}
 use lib.Ieee.{Float, ne}

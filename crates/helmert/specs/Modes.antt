@@ -1,4 +1,5 @@
--- The prepared shift and its four modes on one tuple: static, fixed, running, own-epoch. A state goes in and comes out: the last time, and T.
+-- The prepared shift and its four modes on one tuple: static, fixed, running, own-epoch. A state
+-- goes in and comes out: the last time, and T.
 use mathlib.Core.Bool.{Bool, not, cond, _&&_}
 use lib.Dec.{eqb}
 use lib.Ieee.{Float, nan, isNan, ne}
@@ -22,7 +23,8 @@ use Rattle.helmert.specs.Apply.{applyOf}
 abbrev pub advancedOf : Vec3 → Vec3 → Float → Vec3
 advancedOf v rate d = record { x = v .x ⊕ rate .x ⊗ d; y = v .y ⊕ rate .y ⊗ d; z = v .z ⊕ rate .z ⊗ d }
 
--- Fixed, d being t_obs - t_epoch: T and R move once by rate·d, S moves by it three times, one rounding after another. The rates stay.
+-- Fixed, d being t_obs - t_epoch: T and R move once by rate·d, S moves by it three times, one
+-- rounding after another. The rates stay.
 unfoldable pub observedOf : Parameters → Float → Parameters
 observedOf p d =
     record {
@@ -38,7 +40,8 @@ observedOf p d =
 abbrev pub fixedOf : Helmert → Bool
 fixedOf h = dynamicOf (parametersOf h) && not (isNan (h .«t_obs»))
 
--- The convention counts only where the shift is rotated; 2 is the coordinate frame, and the Rust takes any other for the position vector.
+-- The convention counts only where the shift is rotated; 2 is the coordinate frame, and the Rust
+-- takes any other for the position vector.
 unfoldable pub prepareOf : Helmert → Shift
 prepareOf h =
     let p = parametersOf h in
@@ -83,7 +86,8 @@ fixedStepOf shift inv v =
 unfoldable pub startOf : Shift → State
 startOf shift = record { last = nan; t = shift .parameters .t }
 
--- When a tuple's time is not equal to the last time, it becomes the last time and T grows by dt·DT, dt being it less t_epoch.
+-- When a tuple's time is not equal to the last time, it becomes the last time and T grows by dt·DT,
+-- dt being it less t_epoch.
 unfoldable pub nextOf : Shift → State → Float → State
 nextOf shift state time =
     cond (ne time (state .last)) (record { last = time; t = grownOf (state .t) (time ⊖ shift .epoch) (shift .parameters .dt) }) state

@@ -1,4 +1,5 @@
--- What Helmert makes of one tuple of a list, forward or inverse; and the state that a step over a list carries. Nothing is computed here.
+-- What Helmert makes of one tuple of a list, forward or inverse; and the state that a step over a
+-- list carries. Nothing is computed here.
 use mathlib.Core.Bool.{Bool, true}
 use lib.Ieee.{nan}
 use Rattle.tuple.specs.declared.Tuple.{Tuple}

@@ -1,4 +1,5 @@
--- Which loop stands for which of Helmert's modes: a state that is left alone does not matter, and each mode's loop makes what the step's definition makes.
+-- Which loop stands for which of Helmert's modes: a state that is left alone does not matter, and
+-- each mode's loop makes what the step's definition makes.
 -- Assumes nothing.
 use Prim.Native.Nat.{ℕ, suc}
 use mathlib.Core.Path.{_≡_, refl, sym, ap, _∙_}

@@ -1,7 +1,10 @@
-// Helmert over a lent flat list, a loop for each mode, convention and direction, written where the list stands. The exact loops: `helmert_exact_runs`.
+// Helmert over a lent flat list, a loop for each mode, convention and direction, written where the
+// list stands. The exact loops: `helmert_exact_runs`.
 //
-// The prepared shift and the matrix of a static or fixed one are worked out once a list. Mode, convention, exactness, rotation and direction are decided before
-// a loop starts. Every function is proved equal, list and count, to the step's own definition from tuple to tuple (helmert/specs/Turns.antt over `lists`).
+// The prepared shift and the matrix of a static or fixed one are worked out once a list. Mode,
+// convention, exactness, rotation and direction are decided before a loop starts. Every function is
+// proved equal, list and count, to the step's own definition from tuple to tuple
+// (helmert/specs/Turns.antt over `lists`).
 // Exact: no rounding but the step's own. Used by the chain.
 ghost use mathlib.Core.Path.{_≡_};
 ghost use mathlib.Core.Bool.{true, false};
@@ -111,8 +114,9 @@ fn own_epoch_coordinate_frame_inverse(list: &mut [f64], shift: Shift)
     }
 }
 
-// Running: T grows, and R, S and the matrix are worked out anew, only where the time changes. Small angles have a loop for each convention: the matrix is
-// then nine numbers in registers, and no test of the shift is left in the loop.
+// Running: T grows, and R, S and the matrix are worked out anew, only where the time changes. Small
+// angles have a loop for each convention: the matrix is then nine numbers in registers, and no test
+// of the shift is left in the loop.
 fn running_position_vector_forward(list: &mut [f64], shift: Shift)
     requires { ⌜ (shift .rotated ≡ true) × (shift .exact ≡ false) × (shift .«position_vector» ≡ true) ⌝ }
     ensures { λ _. ⌜ now (list .exit) ≡ ranOf (steppedTurns (runningOf shift false)) 0 (startOf shift) (now (list .entry)) ⌝ }

@@ -17,7 +17,8 @@ use Rattle.kept.specs.Entries.{refusal12, refusal13, refusal14, keptOrde
 
 -- ---- the order
 
--- the answer, by whether the sheet has a refusal of its own and by the three rules; `later` where all are kept
+-- the answer, by whether the sheet has a refusal of its own and by the three rules; `later` where
+-- all are kept
 abbrev inOrder : Refusal → Bool → Bool → Bool → Bool → Refusal → Refusal
 inOrder own none b12 b9 b13 later = cond (not none) own (cond b12 (ofCall 12) (cond b9 (ofCall 9) (cond b13 (ofCall 13) later)))
 
@@ -132,7 +133,8 @@ module _ (inverse : Bool) (s : List ℕ) (old : Kept) (index : ℕ) (fix : Tuple
       (refusal13 (length (old .list)) (length (old .results)) (length (old .track))) (eqb-false _ _) e in
       rw (h .0, h .1, h .2, h .3)
 
-  -- no refusal of a correction: none of a fresh run over the same lists, and a fix stands at the index
+  -- no refusal of a correction: none of a fresh run over the same lists, and a fix stands at the
+  -- index
   pub taken : correctRefusalOf s old index .number ≡ 0 → (before-14 .number ≡ 0) × (refusal14 (length (old .list)) index ≡ false)
   unfolding firstBroken
   taken e = by-own (eqb (before-14 .number) 0) refl

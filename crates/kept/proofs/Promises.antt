@@ -1,5 +1,6 @@
--- What is promised of the two entries, from a sheet's bytes on: of `keepOf` and `correctOf`, which the contracts of `keep` and `correct` cite, for every
--- sheet, direction, list, index and fix. Assumes nothing.
+-- What is promised of the two entries, from a sheet's bytes on: of `keepOf` and `correctOf`, which
+-- the contracts of `keep` and `correct` cite, for every sheet, direction, list, index and fix.
+-- Assumes nothing.
 use Prim.Native.Nat.{ℕ, suc, _+_, _-_, _*_, _/_, _≤_, _<_}
 use native.Mathlib.Omega.{arith}
 use native.Mathlib.Nat.{add-zero}
@@ -126,7 +127,8 @@ module _ (inverse : Bool) (s : List ℕ) (old : Kept) (passes : keepRefusalOf s 
   unfolding keepRefusalOf
   lists-pass = passed _ _ _ _ passes
 
-  -- The results of a fresh run are the chain's, on the same sheet, direction and list: `shift` takes them too, and leaves that list.
+  -- The results of a fresh run are the chain's, on the same sheet, direction and list: `shift`
+  -- takes them too, and leaves that list.
   pub results-are-the-chains : kept .results ≡ chainOf inverse [] [] (entriesOf (entryAt s) (stepCountOf s) 0) (old .list) .list
   unfolding freshOf
   results-are-the-chains =
@@ -226,7 +228,8 @@ module _ (inverse : Bool) (s : List ℕ) (old : Kept) (passes : keepRefusalOf s 
   by-index true e = nowhere e
   by-index false e = there e
 
-  -- Demand 3: if list, results and track came from a fresh run, then after a correction they equal a fresh run of the corrected list, same sheet and direction.
+  -- Demand 3: if list, results and track came from a fresh run, then after a correction they equal
+  -- a fresh run of the corrected list, same sheet and direction.
   pub corrected-is-kept-afresh : correctOf inverse s was index fix .kept ≡ shall-be
   corrected-is-kept-afresh = by-index (refusal14 (length (was .list)) index) refl
 
@@ -290,13 +293,15 @@ module _ (inverse : Bool) (s : List ℕ) (old : Kept) (index : ℕ) (fix : Tuple
       let i = below _ _ (t .1) in
       (omega arith, p .long-results, p .long-track)
 
-  -- The count is the stretch's length: from the index up to the first fix after which the carried state equals the kept one, else to the list's end.
+  -- The count is the stretch's length: from the index up to the first fix after which the carried
+  -- state equals the kept one, else to the list's end.
   pub count-is-the-stretch : correctRefusalOf s old index .number ≡ 0
       → Stretch (carriedAt (helmertTurns reversed shift) index (beforeOf shift (old .track) index) (putAt (old .list) (4 * index) fix)) (keptAt (old .track))
       index (length (old .list) / 4) redone
   count-is-the-stretch e = rw (done e .0) (redone-is-the-stretch shift reversed old index fix (at-index e .0))
 
-  -- Nothing outside the stretch is written, in results and track; and nothing of the list but the fix.
+  -- Nothing outside the stretch is written, in results and track; and nothing of the list but the
+  -- fix.
   by-refusal : (P : ℕ → Kept → Type 0) → P 0 old
       → ((4 * index + 4 ≤ length (old .list)) × (length (old .results) ≡ length (old .list)) × (length (old .track) ≡ length (old .list))
       → P (correctedOf shift reversed old index fix .count) (correctedOf shift reversed old index fix .kept))
@@ -392,7 +397,8 @@ module _ (inverse : Bool) (s : List ℕ) (old : Kept) (passes : keepRefusalOf s 
   pub nothing-refuses : correctRefusalOf s kept-before index .number ≡ 0
   nothing-refuses = not-refused inverse s kept-before index fix (kept-passes inverse s old passes) (rw list-is (lt-ltb _ _ h))
 
-  -- Of a kept run the count is the number of fixes from the index up to the first after which the fresh run's track of the corrected list equals the kept one.
+  -- Of a kept run the count is the number of fixes from the index up to the first after which the
+  -- fresh run's track of the corrected list equals the kept one.
   pub count-by-the-tracks : Stretch (keptAt (kept-afresh .track)) (keptAt (kept-before .track)) index (length (old .list) / 4)
       (correctOf inverse s kept-before index fix .answer .redone)
   count-by-the-tracks =

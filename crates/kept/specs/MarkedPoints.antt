@@ -34,7 +34,8 @@ p6-fix = fourOf (bits 0) (bits 0) (bits 0) y2001
 abbrev pub p6-corrected : CorrectOutcome
 p6-corrected = correctOf false p6-sheet p6-kept 1 p6-fix
 
--- P6: count 2; X was 1, 1, 3 and stays so, since T does not grow at a time equal to the last, nor by 2000 less t_epoch; the track's last time was 2000 there
+-- P6: count 2; X was 1, 1, 3 and stays so, since T does not grow at a time equal to the last, nor
+-- by 2000 less t_epoch; the track's last time was 2000 there
 abbrev pub P6 : Type 0
 P6 =
     (p6-corrected .answer ≡ correctedAs accepted 2)

@@ -1,4 +1,5 @@
--- What is read from bytes is what a computer's memory holds: words of 32 bits and binary64 numbers. Assumes nothing.
+-- What is read from bytes is what a computer's memory holds: words of 32 bits and binary64 numbers.
+-- Assumes nothing.
 use mathlib.Core.Path.{_≡_, refl, ap, _∙_}
 use Prim.Native.Nat.{ℕ, zero, suc, _+_, _<_}
 use mathlib.Core.Bool.{Bool, true, false, cond}

@@ -1,5 +1,7 @@
--- What is true of sheets made step by step, for callers to cite: an accepted result is a sheet that is accepted; and steps added one after another to nothing
--- give the writer's bytes of the record with those steps, each addition being accepted exactly where the writer takes the record so far. Assumes nothing.
+-- What is true of sheets made step by step, for callers to cite: an accepted result is a sheet that
+-- is accepted; and steps added one after another to nothing give the writer's bytes of the record
+-- with those steps, each addition being accepted exactly where the writer takes the record so far.
+-- Assumes nothing.
 use mathlib.Core.Path.{_≡_, refl, sym, ap, _∙_}
 use Prim.Native.Nat.{ℕ, _+_, _-_, _<_, _≤_}
 use mathlib.Core.Logic.{_↔_}
@@ -133,7 +135,8 @@ module _ (room : List ℕ) (inverted : ℕ) (step : Step) (sheet : Sheet) (tidy 
   held-after : HeldSheet (withStepOf sheet inverted step)
   held-after = more-is-held sheet tidy few-before inverted step held new
 
--- what an accepted addition leaves: at the room's start, and as long as it says, a sheet that is accepted
+-- what an accepted addition leaves: at the room's start, and as long as it says, a sheet that is
+-- accepted
 pub record Sheeted (o : AddOutcome) : Type 0 where
   pub within : o .answer .length ≤ length (o .room)
   pub passes : refusalOf (take (o .answer .length) (o .room)) ≡ accepted
@@ -275,8 +278,9 @@ one-taken e es room sheet tidy takes =
     let few : sheet .count < 16 = omega (arith, count-grows es one, accepted-record (withSteps one es) room (number-of takes) .0) in
     first-taken es one room (more-is-tidy sheet tidy few (e .inverted) (e .step)) (omega arith) takes
 
--- Steps added one after another to a sheet that stands in a room: where the writer takes the record of them all, every addition is accepted, and room and length
--- are those that the writer gives for that record.
+-- Steps added one after another to a sheet that stands in a room: where the writer takes the record
+-- of them all, every addition is accepted, and room and length are those that the writer gives for
+-- that record.
 pub added-in-turn : (e : Entry) (es : List Entry) (room : List ℕ) (len : ℕ) (sheet : Sheet) → standingOf room len ≡ readingAs accepted sheet
     → Tidy sheet → HeldSheet sheet → EachHeld (e ∷ es) → writerRefusalOf (withSteps sheet (e ∷ es)) (length room) ≡ accepted
     → allAdded room len (e ∷ es)
@@ -330,7 +334,8 @@ nothing-stands : (room : List ℕ) → standingOf room 0 ≡ readingAs accepted 
 unfolding standingOf
 nothing-stands room = refl
 
--- Steps added one after another to nothing: where the writer takes the record of those steps, room and length are those that the writer gives for it,
+-- Steps added one after another to nothing: where the writer takes the record of those steps, room
+-- and length are those that the writer gives for it,
 pub made-as-written : (e : Entry) (es : List Entry) (room : List ℕ) → EachHeld (e ∷ es)
     → writerRefusalOf (withSteps blankSheet (e ∷ es)) (length room) ≡ accepted
     → allAdded room 0 (e ∷ es)

@@ -1,4 +1,5 @@
--- A record with one step more: its entries, and that the writer takes a record where it takes a longer one that begins with it. Assumes nothing.
+-- A record with one step more: its entries, and that the writer takes a record where it takes a
+-- longer one that begins with it. Assumes nothing.
 use mathlib.Core.Path.{_≡_, refl, sym, ap, _∙_}
 use Prim.Native.Nat.{ℕ, zero, suc, _+_, _-_, _<_, _≤_}
 use mathlib.Core.Bool.{Bool, true, false}

@@ -1,4 +1,5 @@
--- The parts that a block works out are those of the step, and the step is a sum with the offsets as numbers. Assumes nothing.
+-- The parts that a block works out are those of the step, and the step is a sum with the offsets as
+-- numbers. Assumes nothing.
 use mathlib.Core.Path.{_≡_, refl, ap, _∙_}
 use mathlib.Core.Bool.{Bool, true, false, cond}
 use lib.Ieee.{Float, nan, inf, fin, add, sub, neg}
@@ -6,17 +7,17 @@ use Rattle.floats.specs.Binary64.{_⊕_, _⊖_, _⊗_}
 use Rattle.root.specs.Sqrt.{sqrtOf}
 use Rattle.trig.specs.Trig.{sinOf, cosOf}
 use Rattle.tuple.specs.declared.Tuple.{Tuple}
-use Rattle.ellipsoid.specs.Figure.{two, wOf, primeVerticalOf, meridianOf}
+use Rattle.ellipsoid.specs.Figure.{two, wOf, radiiWith, primeVerticalOf, meridianOf}
 use Rattle.molodensky.specs.declared.Moped.{Moped}
 use Rattle.molodensky.specs.declared.Place.{Place}
 use Rattle.molodensky.specs.declared.Offsets.{Offsets}
 use Rattle.molodensky.specs.declared.Offsets.the-variants.{Three, Nothing}
-use Rattle.molodensky.specs.Step.{figuresAtOf, abridgedOffsetsOf, fullOffsetsOf, offsetsOf, offsetByOf, commonOf}
-use Rattle.molodensky_block.specs.Block.{shiftOf, placeWith, abridgedWith}
+use Rattle.molodensky.specs.Step.{placeWith, figuresAtOf, abridgedWith, fullOffsetsOf, offsetsOf, offsetByOf, commonOf}
+use Rattle.molodensky_block.specs.Block.{shiftOf}
 
 -- a place, given its sines and cosines and the root of w
-pub placed : (op : Moped) (lam phi : Float) {slam clam sphi cphi w q : Float} → slam ≡ sinOf lam → clam ≡ cosOf lam → sphi ≡ sinOf phi → cphi ≡ cosOf phi → w ≡ wOf (op .ellps) sphi → q ≡ sqrtOf w → placeWith op slam clam sphi cphi q ≡ figuresAtOf op lam phi
-unfolding placeWith figuresAtOf primeVerticalOf meridianOf
+pub placed : (op : Moped) (lam phi : Float) {slam clam sphi cphi w q : Float} → slam ≡ sinOf lam → clam ≡ cosOf lam → sphi ≡ sinOf phi → cphi ≡ cosOf phi → w ≡ wOf (op .ellps) sphi → q ≡ sqrtOf w → placeWith op slam clam sphi cphi (radiiWith (op .ellps) (wOf (op .ellps) sphi) q) ≡ figuresAtOf op lam phi
+unfolding figuresAtOf primeVerticalOf meridianOf
 placed op lam phi sl cl sp cp ew eq = rw (eq, ew, sp, cp, sl, cl)
 
 first : (b : Bool) (x y : Offsets) → b ≡ true → x ≡ cond b x y
@@ -29,16 +30,12 @@ pub full : (op : Moped) (v : Tuple) {p : Place} → op .abridged ≡ false → p
 unfolding offsetsOf
 full op v mode e = ap shiftOf (ap (λ (q : Place). fullOffsetsOf op q (v .z)) e ∙ second (op .abridged) _ _ mode)
 
-with-the-sine : (op : Moped) (q : Place) (phi : Float) {s : Float} → s ≡ sinOf (two ⊗ phi) → abridgedWith op q s ≡ abridgedOffsetsOf op q phi
-unfolding abridgedWith abridgedOffsetsOf
-with-the-sine op q phi e = rw e
-
 pub abridged : (op : Moped) (v : Tuple) {p : Place} {s : Float} → op .abridged ≡ true → p ≡ figuresAtOf op (v .x) (v .y) → s ≡ sinOf (two ⊗ v .y) → shiftOf (abridgedWith op p s) ≡ shiftOf (offsetsOf op v)
 unfolding offsetsOf
 abridged op v {s = s} mode e es =
     ap shiftOf
     (ap (λ (q : Place). abridgedWith op q s) e
-    ∙ with-the-sine op (figuresAtOf op (v .x) (v .y)) (v .y) es
+    ∙ ap (abridgedWith op (figuresAtOf op (v .x) (v .y))) es
     ∙ first (op .abridged) _ _ mode)
 
 plus-nan : (x : Float) → x ⊕ nan ≡ nan

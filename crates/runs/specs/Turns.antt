@@ -1,4 +1,5 @@
--- What cart, permtide and Molodensky make of one tuple of a list, forward or inverse. Each is made of the step's own definition; nothing is computed here.
+-- What cart, permtide and Molodensky make of one tuple of a list, forward or inverse. Each is made
+-- of the step's own definition; nothing is computed here.
 use mathlib.Core.Bool.{Bool, cond}
 use Rattle.tuple.specs.declared.Tuple.{Tuple}
 use Rattle.tuple.specs.declared.Shifted.{Shifted}

@@ -1,4 +1,5 @@
--- What a sheet that breaks no rule keeps, rule by rule, and that this is all that it takes. Assumes nothing.
+-- What a sheet that breaks no rule keeps, rule by rule, and that this is all that it takes. Assumes
+-- nothing.
 use mathlib.Core.Path.{_≡_, refl, sym, ap, _∙_, subst}
 use Prim.Native.Nat.{ℕ, zero, suc, _+_, _*_, _<_, _≤_}
 use mathlib.Core.List.{List, [], _∷_, _++_}

@@ -1,4 +1,5 @@
--- Known sheets, evaluated: document 01's marked points P1, P7, P11 and P12, by the reader's and the writer's rules. Assumes nothing.
+-- Known sheets, evaluated: document 01's marked points P1, P7, P11 and P12, by the reader's and the
+-- writer's rules. Assumes nothing.
 use mathlib.Core.Path.{_≡_, refl}
 use mathlib.Core.List.{List, [], _∷_, _++_}
 use Prim.Native.Nat.{ℕ, zero, suc}

@@ -1,4 +1,5 @@
--- Lists of rules in their order, as the loops meet them: the first broken rule of two lists one after the other, and a turn of each loop. Assumes nothing.
+-- Lists of rules in their order, as the loops meet them: the first broken rule of two lists one
+-- after the other, and a turn of each loop. Assumes nothing.
 use mathlib.Core.Path.{_≡_, refl, sym, ap, _∙_}
 use mathlib.Core.Logic.{_↔_}
 use Prim.Native.Nat.{ℕ, zero, suc, _+_, _<_, _≤_}
@@ -6,14 +7,14 @@ use mathlib.Core.List.{List, [], _∷_, _++_}
 use mathlib.Core.Bool.{Bool, true, false, not, cond, _||_, true≢false}
 use native.Mathlib.Omega.{arith}
 use native.Mathlib.Numerals.{add-one}
-use borrow.Author.Tests.{eqb-true, eqb-false, eq-eqb, ne-eqb, ltb-false, not-true, not-false}
+use borrow.Author.Tests.{eqb-true, eqb-false, eq-eqb, ne-eqb, lt-ltb, ltb-false, not-true, not-false}
 use lib.Dec.{eqb, ltb}
 use Rattle.bodies.specs.declared.Step.{Step}
 use Rattle.bodies.specs.Read.{stepOf}
 use Rattle.bodies.specs.Rules.{bodyInRule, lacksConvention, lacksEpoch, lacksDuration, lowestBroken}
 use Rattle.sheet.specs.declared.Refusal.{Refusal}
 use Rattle.sheet.specs.Layout.{offsetAt, lengthAt, stepCountOf, kindAt, stepAt}
-use Rattle.sheet.specs.Rules.{Rule, rule, ofCall, ofStep, accepted, firstBroken, rulesOfStep, fiveToEight, elevens, refusal6, refusal7, refusal8, refusal11, hasDeformation, someFrom, endBefore, refusal1, refusal2, refusal3, refusal4, refusal5, refusal5At, readerOrder, refusalOf}
+use Rattle.sheet.specs.Rules.{Rule, rule, ofCall, ofStep, ofIndex, accepted, firstBroken, rulesOfStep, fiveToEight, elevens, refusal6, refusal7, refusal8, refusal11, hasDeformation, someFrom, endBefore, refusal1, refusal2, refusal3, refusal4, refusal5, refusal5At, readerOrder, refusalOf}
 
 -- ---- numbers that a list of rules does not give
 
@@ -103,6 +104,13 @@ unfolding firstBroken
 broken-first [] m h = absurd (h refl)
 broken-first (r ∷ l) m h =
     broken-one (r .broken) (r .answer) (firstBroken l) (firstBroken (l ++ m)) h (broken-first l m)
+
+-- ---- a step's refusal
+
+-- at an index that a sheet can have it is of the step
+pub of-index : (number i : ℕ) → i < 16 → ofIndex number i ≡ ofStep number i
+unfolding ofIndex
+of-index number i h = rw (lt-ltb i 16 h)
 
 -- ---- a body
 

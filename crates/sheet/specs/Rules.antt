@@ -1,5 +1,7 @@
--- The rules of the sheet by document 01's numbers. `refusalN` says when refusal N is given: its rule is broken.
--- The order in which they are asked stands in `readerOrder`; an answer is the first that is broken. A record's rules and the writer's order stand in sheet_writer.
+-- The rules of the sheet by document 01's numbers: `refusal1` to `refusal8` and `refusal11` say
+-- when the rule of that number is broken. The order in which they are asked stands in
+-- `readerOrder`; an answer is the first that is broken. A record's rules and the writer's order
+-- stand in sheet_writer.
 use Prim.Native.Nat.{ℕ, zero, suc, _+_}
 use mathlib.Core.List.{List, [], _∷_, _++_}
 use mathlib.Core.Bool.{Bool, false, not, cond, _&&_, _||_}
@@ -35,7 +37,8 @@ endBefore s (suc i) = offsetAt s i + lengthAt s i
 abbrev pub invertedBroken : ℕ → Bool
 invertedBroken inverted = ltb 1 inverted
 
--- a kind, inverted word or body length outside its rule, or an offset not where the body before it ends
+-- a kind, inverted word or body length outside its rule, or an offset not where the body before it
+-- ends
 unfoldable pub placeBroken : List ℕ → ℕ → Bool
 placeBroken s i =
     eqb (lengthOf (kindAt s i)) 0
@@ -48,7 +51,8 @@ unfoldable pub someFrom : (ℕ → Bool) → ℕ → ℕ → Bool
 someFrom broken zero i = false
 someFrom broken (suc k) i = broken i || someFrom broken k (i + 1)
 
--- directory offset not 16, a directory outside the sheet, a place of it out of rule, or bodies not ending at the total length
+-- directory offset not 16, a directory outside the sheet, a place of it out of rule, or bodies not
+-- ending at the total length
 unfoldable pub refusal4 : List ℕ → Bool
 refusal4 s =
     not (eqb (directoryOffsetOf s) 16)
@@ -98,13 +102,17 @@ pub record Rule : Type 0 where
 abbrev pub accepted : Refusal
 accepted = record { number = 0; step = 0 }
 
--- of the sheet as a whole: step 0
+-- of the call as a whole: step 0
 abbrev pub ofCall : ℕ → Refusal
 ofCall number = record { number = number; step = 0 }
 
 -- of step i, which is answered from 1
 abbrev pub ofStep : ℕ → ℕ → Refusal
 ofStep number i = record { number = number; step = i + 1 }
+
+-- the same of any index: past 15, where no sheet has a step, of the call
+unfoldable pub ofIndex : ℕ → ℕ → Refusal
+ofIndex number i = cond (ltb i 16) (ofStep number i) (ofCall number)
 
 abbrev pub rule : Refusal → Bool → Rule
 rule answer broken = record { answer = answer; broken = broken }

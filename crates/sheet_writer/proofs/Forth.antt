@@ -1,4 +1,5 @@
--- A record that the writer accepts is read back, step by step, from the bytes that it is written as. Assumes nothing.
+-- A record that the writer accepts is read back, step by step, from the bytes that it is written
+-- as. Assumes nothing.
 use mathlib.Core.Path.{_≡_, sym, ap, _∙_}
 use Prim.Native.Nat.{ℕ, zero, suc, _+_, _*_, _-_, _^_, _<_, _≤_}
 use mathlib.Core.List.{List, [], _++_, append-nil, append-assoc}

@@ -1,5 +1,6 @@
--- What is true of sheets as they are written, for callers to cite: a refusal is given exactly when its rule is broken and none before it; what is read and
--- written again is the same bytes; what is written and read is the same record; a sheet is read in one way only. Assumes nothing.
+-- What is true of sheets as they are written, for callers to cite: a refusal is given exactly when
+-- its rule is broken and none before it; what is read and written again is the same bytes; what is
+-- written and read is the same record; a sheet is read in one way only. Assumes nothing.
 use mathlib.Core.Path.{_≡_, sym, ap, _∙_}
 use mathlib.Core.Logic.{_↔_}
 use Prim.Native.Nat.{ℕ, _<_, _≤_}
@@ -110,7 +111,8 @@ pub record SameSheet (a b : Sheet) : Type 0 where
   pub same-count : a .count ≡ b .count
   pub same-entries : (i : ℕ) → i < b .count → entryOf a i ≡ entryOf b i
 
--- a record that the writer takes is read back: every field of every step, -0 and "not given" among them
+-- a record that the writer takes is read back: every field of every step, -0 and "not given" among
+-- them
 pub written-then-read : (sheet : Sheet) (room : ℕ) → HeldSheet sheet → writerRefusalOf sheet room ≡ accepted
     → (refusalOf (sheetBytesOf sheet) ≡ accepted) × SameSheet (recordOf (sheetBytesOf sheet)) sheet
 written-then-read sheet room held e =

@@ -1,4 +1,5 @@
--- The rules of a record by document 01's numbers, as the writer asks them. The order stands in `writerOrder`; an answer is the first that is broken.
+-- The rules of a record by document 01's numbers, as the writer asks them. The order stands in
+-- `writerOrder`; an answer is the first that is broken.
 use Prim.Native.Nat.{ℕ}
 use mathlib.Core.List.{List, [], _∷_, _++_}
 use mathlib.Core.Bool.{Bool, not, cond}
@@ -44,6 +45,7 @@ writerOrder sheet room =
 unfoldable pub writerRefusalOf : Sheet → ℕ → Refusal
 writerRefusalOf sheet room = firstBroken (writerOrder sheet room)
 
--- the room afterwards: the sheet's bytes at its start and nothing after them touched; on refusal what it held
+-- the room afterwards: the sheet's bytes at its start and nothing after them touched; on refusal
+-- what it held
 unfoldable pub roomAfterOf : Sheet → List ℕ → List ℕ
 roomAfterOf sheet room = cond (eqb (writerRefusalOf sheet (length room) .number) 0) (put room 0 (sheetBytesOf sheet)) room

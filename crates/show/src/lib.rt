@@ -1,8 +1,10 @@
-// A sheet shown to whoever fits it: every field by its name and in its unit; or the refusal in words, with the step and the place.
+// A sheet shown to whoever fits it: every field by its name and in its unit; or the refusal in
+// words, with the step and the place.
 //
-// The text is fixed byte by byte by specs/Show.antt, for every sheet and a room of any length. A refused sheet's text has the rule in document 01's words; for
-// a refusal of the sheet as a whole the byte of the word that it is about and the header; for a step's refusal the bytes of its directory entry and its body, and
-// the whole step as it is. Used by the program sheet_show.
+// The text is fixed byte by byte by specs/Show.antt, for every sheet and a room of any length. A
+// refused sheet's text has the rule in document 01's words; for a refusal of the sheet as a whole
+// the byte of the word that it is about and the header; for a step's refusal the bytes of its
+// directory entry and its body, and the whole step as it is. Used by the program sheet_show.
 ghost use mathlib.Core.Path.{_≡_};
 ghost use Prim.Native.Nat.{_+_, _-_, _<_};
 ghost use lib.ListN.{length};
@@ -10,22 +12,10 @@ ghost use Rattle.text.specs.Text.{text, appended};
 ghost use Rattle.text.specs.Digits.{decimalOf};
 ghost use Rattle.show.specs.Show.{lineOf, headerText, headText, entryText, stepText, stepsText, acceptedText, ruleText, answerText, wordPlace, sheetPlace, stepPlace, refusedText, showText};
 
-fn wide(x: u32) -> usize
-    ensures { λ r. ⌜ (r ≡ x) × (r < 4294967296) ⌝ }
-{
-    x as usize
-}
-
-fn long(x: usize) -> u64
-    ensures { λ r. ⌜ r ≡ x ⌝ }
-{
-    x as u64
-}
-
 fn put_count(room: &mut [u8], at: usize, n: usize) -> usize
     ensures { λ r. ⌜ text (now (room .exit)) r ≡ appended (text (now (room .entry)) at) (decimalOf n) ⌝ }
 {
-    text::put_decimal(room, at, long(n))
+    text::put_decimal(room, at, words::long(n))
 }
 
 fn put_line(room: &mut [u8], at: usize, name: &[u8], n: usize) -> usize
@@ -39,7 +29,7 @@ fn put_line(room: &mut [u8], at: usize, name: &[u8], n: usize) -> usize
 fn put_word(room: &mut [u8], at: usize, name: &[u8], n: u32) -> usize
     ensures { λ r. ⌜ text (now (room .exit)) r ≡ appended (text (now (room .entry)) at) (lineOf (now (name .entry)) n) ⌝ }
 {
-    put_line(room, at, name, wide(n))
+    put_line(room, at, name, words::wide(n))
 }
 
 // ----- the header -------------------------------------------------------------------------
@@ -85,11 +75,10 @@ fn put_step(room: &mut [u8], at: usize, s: &[u8], i: usize) -> usize
     requires { ⌜ i < 4294967296 ⌝ }
     ensures { λ r. ⌜ text (now (room .exit)) r ≡ appended (text (now (room .entry)) at) (stepText (now (s .entry)) i) ⌝ }
 {
-    let place = 16 + 16 * i;
-    let kind = words::read32(s, place);
-    let inverted = words::read32(s, place + 4);
-    let offset = words::read32(s, place + 8);
-    let length = words::read32(s, place + 12);
+    let kind = sheet::kind_at(s, i);
+    let inverted = sheet::inverted_at(s, i);
+    let offset = sheet::offset_at(s, i);
+    let length = sheet::length_at(s, i);
     let p = put_line(room, at, b"step ", i + 1);
     let q = put_entry(room, p, kind, inverted, offset, length);
     fields::put_fields(room, q, kind, s, offset)
@@ -170,7 +159,7 @@ fn put_answer(room: &mut [u8], at: usize, number: u32, step: u32) -> usize
 fn put_number(room: &mut [u8], at: usize, n: u32) -> usize
     ensures { λ r. ⌜ text (now (room .exit)) r ≡ appended (text (now (room .entry)) at) (decimalOf n) ⌝ }
 {
-    put_count(room, at, wide(n))
+    put_count(room, at, words::wide(n))
 }
 
 // The byte of the word that a refusal of the sheet as a whole is about.
@@ -198,15 +187,15 @@ fn put_sheet_place(room: &mut [u8], at: usize, s: &[u8], number: u32) -> usize
     put_head(room, q, s)
 }
 
-fn put_step_place(room: &mut [u8], at: usize, s: &[u8], i: usize) -> usize
-    requires { ⌜ i < 4294967296 ⌝ }
+fn put_step_place(room: &mut [u8], at: usize, s: &[u8], i: u32) -> usize
     ensures { λ r. ⌜ text (now (room .exit)) r ≡ appended (text (now (room .entry)) at) (stepPlace (now (s .entry)) i) ⌝ }
 {
-    let place = 16 + 16 * i;
-    let offset = words::read32(s, place + 8);
-    let p = put_line(room, at, b"place: directory entry at byte ", place);
-    let q = put_word(room, p, b"place: body at byte ", offset);
-    put_step(room, q, s, i)
+    let index = words::wide(i);
+    let entry = sheet::entry_offset(i);
+    let body = sheet::offset_at(s, index);
+    let p = put_line(room, at, b"place: directory entry at byte ", entry);
+    let q = put_word(room, p, b"place: body at byte ", body);
+    put_step(room, q, s, index)
 }
 
 fn put_refused(room: &mut [u8], at: usize, s: &[u8], number: u32, step: u32) -> usize
@@ -216,7 +205,7 @@ fn put_refused(room: &mut [u8], at: usize, s: &[u8], number: u32, step: u32) -> 
     if step == 0 {
         return put_sheet_place(room, p, s, number);
     }
-    put_step_place(room, p, s, wide(step - 1))
+    put_step_place(room, p, s, step - 1)
 }
 
 // ----- a sheet ------------------------------------------------------------------------------

@@ -1,4 +1,5 @@
--- A result tells the whole refusal: its number and its step can be taken out of it again, whatever a call was given. Assumes nothing.
+-- A result tells the whole refusal: its number and its step can be taken out of it again, whatever
+-- a call was given. Assumes nothing.
 use Prim.Native.Nat.{ℕ, zero, suc, _+_, _/_, _%_, _<_, _≤_}
 use native.Mathlib.Omega.{arith}
 use mathlib.Core.Path.{_≡_, refl}

@@ -1,4 +1,5 @@
--- How an answer is handed to C: a refusal as one word, and what each call leaves in what it was lent.
+-- How an answer is handed to C: a refusal as one word, and what each call leaves in what it was
+-- lent.
 use Prim.Native.Nat.{ℕ, _+_, _*_, _%_, _<_}
 use mathlib.Core.Bool.{Bool, not}
 use mathlib.Core.List.{List}

@@ -1,4 +1,5 @@
--- The loops of a fresh run, turn by turn: the list copied, and the track, which needs the states alone. Assumes nothing.
+-- The loops of a fresh run, turn by turn: the list copied, and the track, which needs the states
+-- alone. Assumes nothing.
 use Prim.Native.Nat.{ℕ, suc, _+_, _-_, _/_, _%_, _≤_, _<_}
 use native.Mathlib.Omega.{arith}
 use native.Mathlib.Numerals.{add-one}

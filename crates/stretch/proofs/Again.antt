@@ -1,4 +1,5 @@
--- Redoing, turn by turn over what is left of the three lists: the form in which the loop is proved. Assumes nothing.
+-- Redoing, turn by turn over what is left of the three lists: the form in which the loop is proved.
+-- Assumes nothing.
 use Prim.Native.Nat.{ℕ, suc, _+_, _-_, _/_, _≤_, _<_}
 use native.Mathlib.Omega.{arith}
 use native.Mathlib.Nat.{add-zero, add-assoc, add-comm}

@@ -69,7 +69,8 @@ module _ (shift : Shift) (inverse : Bool) (l : List Float) where
 
 -- ---- a corrected run is a fresh one
 
--- for any step: redoing from the state that the run carried, over what the run left, makes the run of the list with the fix in it
+-- for any step: redoing from the state that the run carried, over what the run left, makes the run
+-- of the list with the fix in it
 module _ (f : Turns State) (start : State) (l : List Float) (index : ℕ) (fix : Tuple) (h : 4 * index + 4 ≤ length l) where
   abbrev at : ℕ
   at = 4 * index
@@ -174,8 +175,8 @@ module _ (f : Turns State) (state : State) (old : Kept) (index : ℕ) (h : lengt
       ∙ ap (λ (rs : List Float). keptOf (old .list) rs (take at (old .track) ++ drop at (old .track))) (take-append-drop at (old .results))
       ∙ ap (λ (ts : List Float). keptOf (old .list) (old .results) ts) (take-append-drop at (old .track))
 
--- If results and track came from a fresh run, then after a correction they equal a fresh run of the corrected list: for every sheet's shift,
--- direction, list, index and fix.
+-- If results and track came from a fresh run, then after a correction they equal a fresh run of the
+-- corrected list: for every sheet's shift, direction, list, index and fix.
 module _ (shift : Shift) (inverse : Bool) (l : List Float) (index : ℕ) (fix : Tuple) where
   there : 4 * index + 4 ≤ length l → correctedOf shift inverse (freshOf shift inverse l) index fix .kept ≡ freshOf shift inverse (putAt l (4 * index) fix)
   unfolding correctedOf freshOf
@@ -227,7 +228,8 @@ written-between old new at n h k =
       long = length-paste old at new n h k;
     }
 
--- Nothing outside the stretch is written, in results and track, whatever they held; and nothing of the list but the fix.
+-- Nothing outside the stretch is written, in results and track, whatever they held; and nothing of
+-- the list but the fix.
 module _ (shift : Shift) (inverse : Bool) (old : Kept) (index : ℕ) (fix : Tuple) (h : 4 * index + 4 ≤ length (old .list))
     (er : length (old .results) ≡ length (old .list)) (et : length (old .track) ≡ length (old .list)) where
   abbrev done : Redone

@@ -1,4 +1,5 @@
--- Two runs over the same fixes agree from where their states meet: the redoing of what a run left is the run itself. For any step. Assumes nothing.
+-- Two runs over the same fixes agree from where their states meet: the redoing of what a run left
+-- is the run itself. For any step. Assumes nothing.
 use Prim.Native.Nat.{ℕ, zero, suc, _+_, _*_, _≤_}
 use native.Mathlib.Omega.{arith}
 use native.Mathlib.Nat.{zero-add, add-zero}

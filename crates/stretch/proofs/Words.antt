@@ -21,7 +21,8 @@ use Rattle.stretch.proofs.Meeting.{track-length}
 
 -- ---- a stretch by a test
 
--- n of k fixes from fix j on: the test fails before the last of them, and holds there unless they are all
+-- n of k fixes from fix j on: the test fails before the last of them, and holds there unless they
+-- are all
 pub record First (p : ℕ → Bool) (j k n : ℕ) : Type 0 where
   pub some : 0 < k → 0 < n
   pub within : n ≤ k

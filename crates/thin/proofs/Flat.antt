@@ -1,4 +1,5 @@
--- What the thin entries answer is what the flat entries answer on the same numbers; and a contract of theirs has one answer. Assumes nothing.
+-- What the thin entries answer is what the flat entries answer on the same numbers; and a contract
+-- of theirs has one answer. Assumes nothing.
 use Prim.Native.Nat.{ℕ}
 use mathlib.Core.Path.{_≡_, sym, ap, _∙_}
 use mathlib.Core.Bool.{Bool}

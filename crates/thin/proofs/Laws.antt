@@ -1,5 +1,6 @@
--- A step over a list of tuple records is the step over the same numbers as a flat list; and the law by which the loop over the records is proved: what one
--- turn makes carries the loop's invariant from a tuple to the next. Assumes nothing.
+-- A step over a list of tuple records is the step over the same numbers as a flat list; and the law
+-- by which the loop over the records is proved: what one turn makes carries the loop's invariant
+-- from a tuple to the next. Assumes nothing.
 use Prim.Native.Nat.{ℕ, zero, suc, _+_, _*_, _-_, _%_, _≤_, _<_}
 use native.Mathlib.Omega.{arith}
 use native.Mathlib.Nat.{add-assoc, add-zero, zero-add}
@@ -12,6 +13,7 @@ use lib.Seq.{take-suc-set, drop-set-lt, drop-cons, take-all}
 use lib.Dec.{eqb, ltb}
 use lib.Ieee.{Float, nan}
 use borrow.Author.Tests.{eq-eqb, ne-eqb, eqb-true, lt-ltb, le-ltb, ltb-true, ltb-false}
+use Rattle.blocks.proofs.Counts.{at-most-one}
 use Rattle.tuple.specs.declared.Tuple.{Tuple}
 use Rattle.tuple.specs.Sums.{nanTuple}
 use Rattle.helmert.specs.declared.State.{State}
@@ -92,7 +94,8 @@ turn-is velocities marks plan k at u = refl
 
 -- ---- the loop over the records
 
--- the invariant at index i: what stands before it and what the run makes from there on are the run of the whole list, and so are the counts
+-- the invariant at index i: what stands before it and what the run makes from there on are the run
+-- of the whole list, and so are the counts
 pub record Walked (f : Turns State) (start : State) (ys : List Tuple) (i : ℕ) (at : Carried) (zs : List Tuple) : Type 0 where
   pub within : i ≤ length ys
   pub long : length zs ≡ length ys
@@ -102,10 +105,6 @@ pub record Walked (f : Turns State) (start : State) (ys : List Tuple) (i : ℕ) 
 
 pub walk-start : (f : Turns State) (start : State) (ys : List Tuple) → Walked f start ys 0 (record { state = start; counted = 0 }) ys
 walk-start f start ys = record { within = omega arith; long = refl; run = refl; total = zero-add (tallyOf f 0 start ys); few = omega arith }
-
-at-most-one : (b : Bool) → cond b 1 0 ≤ 1
-at-most-one true = omega arith
-at-most-one false = omega arith
 
 pub walk-again : {f : Turns State} {start : State} {ys : List Tuple} {i : ℕ} {at : Carried} {zs : List Tuple} {r : Turned} → i < length zs
     → r ≡ tallied at (f i (at .state) (getD zs i nanTuple)) → Walked f start ys i at zs → Walked f start ys (i + 1) (r .carried) (set zs i (r .tuple))

@@ -1,4 +1,5 @@
--- A step made ready: what depends on the record alone is worked out once a list, and the direction is in the plan.
+-- A step made ready: what depends on the record alone is worked out once a list, and the direction
+-- is in the plan.
 use Prim.Native.Nat.{ℕ, _+_}
 use mathlib.Core.Bool.{Bool, cond}
 use mathlib.Core.List.{List}

@@ -1,4 +1,5 @@
--- What the loop over a sheet's steps goes by: the rules, how many steps are run, which comes next and in which direction, and where its count stands.
+-- What the loop over a sheet's steps goes by: the rules, how many steps are run, which comes next
+-- and in which direction, and where its count stands.
 use Prim.Native.Nat.{ℕ, _*_, _-_}
 use mathlib.Core.Bool.{Bool, cond}
 use mathlib.Core.List.{List}
@@ -13,7 +14,8 @@ use Rattle.chain.specs.Chain.{reversedOf}
 use Rattle.chain.specs.Rules.{shiftRefusalOf}
 use Rattle.thin.specs.declared.Todo.{Todo}
 
--- the flat entry's refusal of as many tuples: the rules read the list's length and nothing else of it
+-- the flat entry's refusal of as many tuples: the rules read the list's length and nothing else of
+-- it
 unfoldable pub thinRefusalOf : List ℕ → ℕ → List Float → List ℕ → Refusal
 thinRefusalOf s tuples velocities marks =
     shiftRefusalOf (refusalOf s) (hasDeformation (kindAt s) (stepCountOf s)) (replicate (4 * tuples) nan) velocities marks

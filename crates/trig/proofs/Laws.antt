@@ -1,4 +1,5 @@
--- What is true of sine and cosine, at every binary64 number unless it says otherwise, for callers to cite. Assumes nothing.
+-- What is true of sine and cosine, at every binary64 number unless it says otherwise, for callers
+-- to cite. Assumes nothing.
 use mathlib.Core.Path.{_≡_, refl, sym, _∙_, ap}
 use Prim.Native.Nat.{ℕ, zero, suc, _+_, _*_, _<_}
 use native.Mathlib.Nat.{add-comm, zero-mul, mul-pos, zero-lt-suc}

@@ -1,4 +1,5 @@
--- What the loops over a block hand to one another gives the sine and the cosine of each angle. Assumes nothing.
+-- What the loops over a block hand to one another gives the sine and the cosine of each angle.
+-- Assumes nothing.
 use Prim.Native.Nat.{ℕ}
 use mathlib.Core.Path.{_≡_, refl, sym, _∙_}
 use mathlib.Core.Bool.{Bool, true, false, cond, true≢false}

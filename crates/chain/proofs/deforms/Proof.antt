@@ -1,4 +1,7 @@
--- `chain::deforms` meets its contract. Assumes nothing.
+-- Invariant: found says whether one of the first i steps is a deformation step (`hasDeformation`),
+-- and i is at most n. A turn asks whether the kind of step i, as the directory has it (`kindAt`),
+-- is 5, and found then speaks of one step more (`before-next`). The loop ends at i = n, so found is
+-- the answer for all n steps. The measure is n - i. Assumes nothing.
 use borrow.Author.Needs.{needs}
 use native.Mathlib.Omega.{arith}
 use Prim.Native.Nat.{_+_, _*_, _-_, _≤_}
@@ -19,14 +22,8 @@ loop-holds : tie.Need-loop-holds Inv-loop μ-loop
 unfolding hasDeformation
 loop-holds c = (search needs, refl)
 
-mul-read32 : tie.Need-mul-read32 Inv-loop μ-loop
-mul-read32 c = search needs
-
-add-read32 : tie.Need-add-read32 Inv-loop μ-loop
-add-read32 c = search needs
-
-read32-requires : tie.Need-read32-requires Inv-loop μ-loop
-read32-requires c κs = search needs
+kind-at-requires : tie.Need-kind-at-requires Inv-loop μ-loop
+kind-at-requires c κs = search needs
 
 add-i : tie.Need-add-i Inv-loop μ-loop
 add-i c = search needs
@@ -35,7 +32,7 @@ loop-less : tie.Need-loop-less Inv-loop μ-loop
 loop-less c = search needs
 
 loop-again : tie.Need-loop-again Inv-loop μ-loop
-loop-again c = (search needs, rw (before-next, ← c .read32 .ensures, ← c .before .before .loop .inv .1))
+loop-again c = (search needs, rw (before-next, ← c .kind-at .ensures, ← c .before .before .loop .inv .1))
 
 returns : tie.Need-returns Inv-loop μ-loop
 returns c = let l = c .before .loop in let s : l .i ≡ c .before .before .before .args .n = omega arith in l .inv .1 ∙ ap (hasDeformation (kindAt (c .before .before .before .args .s .now))) s
@@ -47,9 +44,7 @@ deforms-spec =
     Inv-loop
     μ-loop
     loop-holds
-    mul-read32
-    add-read32
-    read32-requires
+    kind-at-requires
     add-i
     loop-less
     loop-again

@@ -1,50 +1,24 @@
--- `chain::forward_at` meets its contract. Assumes nothing.
-use mathlib.Core.Path.{_≡_, sym, _∙_}
+-- One case for each return. Calls are replaced by what they ensure; the definition is left.
+-- Assumes nothing.
+use mathlib.Core.Path.{sym, _∙_}
 use borrow.Author.Needs.{needs}
 use borrow.Author.Tests.{lt-ltb}
-use Rattle.sheet.specs.Layout.{bodyAt, entryAt}
+use Rattle.sheet.specs.Layout.{entryAt}
 use Rattle.chain.specs.Chain.{bodyListOf, bodyCountOf, stepListOf, tuplesCountedOf}
 use Rattle.chain.proofs.forward_at.Statement.{statement}
 use Rattle.chain.proofs.forward_at.Tie as tie
 
-mul-place : tie.Need-mul-place
-mul-place c = search needs
-
-add-place : tie.Need-add-place
-add-place c = search needs
-
-add-read32 : tie.Need-add-read32
-add-read32 c = search needs
-
-read32-requires : tie.Need-read32-requires
-read32-requires c κs = search needs
+inverted-at-requires : tie.Need-inverted-at-requires
+inverted-at-requires c κs = search needs
 
 reversed-by-requires : tie.Need-reversed-by-requires
 reversed-by-requires c κs = search needs
 
-read32-requires-2 : tie.Need-read32-requires-2
-read32-requires-2 c κs = search needs
+kind-at-requires : tie.Need-kind-at-requires
+kind-at-requires c κs = search needs
 
-add-read32-2 : tie.Need-add-read32-2
-add-read32-2 c = search needs
-
-read32-requires-3 : tie.Need-read32-requires-3
-read32-requires-3 c κs = search needs
-
-wide-requires : tie.Need-wide-requires
-wide-requires c κs = search needs
-
-add-read32-3 : tie.Need-add-read32-3
-add-read32-3 c = search needs
-
-read32-requires-4 : tie.Need-read32-requires-4
-read32-requires-4 c κs = search needs
-
-wide-requires-2 : tie.Need-wide-requires-2
-wide-requires-2 c κs = search needs
-
-part-requires : tie.Need-part-requires
-part-requires c κs = search needs
+body-at-requires : tie.Need-body-at-requires
+body-at-requires c κs = search needs
 
 held-kind-requires : tie.Need-held-kind-requires
 held-kind-requires c κs = search needs
@@ -56,19 +30,15 @@ same-length : tie.Need-same-length
 same-length c = search needs
 
 returns : tie.Need-returns
-unfolding stepListOf tuplesCountedOf entryAt bodyAt bodyListOf bodyCountOf
+unfolding stepListOf tuplesCountedOf entryAt bodyListOf bodyCountOf
 returns c =
     let f = c .before .before .before .before .before .before in
-    rw (lt-ltb _ _ (f .before .before .before .before .before .before .before .before .before .before .before .before .pre .1))
+    rw (lt-ltb _ _ (f .before .before .before .before .before .before .before .before .pre))
     (rw (
-      f .part .ensures,
-      f .before .wide2 .ensures,
-      f .before .before .read324 .ensures,
-      f .before .before .before .wide .ensures,
-      f .before .before .before .before .read323 .ensures,
-      f .before .before .before .before .before .read322 .ensures,
-      f .before .before .before .before .before .before .reversed-by .ensures,
-      f .before .before .before .before .before .before .before .read32 .ensures,
+      f .body-at .ensures,
+      f .before .kind-at .ensures,
+      f .before .before .reversed-by .ensures,
+      f .before .before .before .inverted-at .ensures,
     )
     at (c .before .before .run-helmert .ensures))
 
@@ -79,19 +49,15 @@ same-length-2 : tie.Need-same-length-2
 same-length-2 c = search needs
 
 returns-2 : tie.Need-returns-2
-unfolding stepListOf tuplesCountedOf entryAt bodyAt bodyListOf bodyCountOf
+unfolding stepListOf tuplesCountedOf entryAt bodyListOf bodyCountOf
 returns-2 c =
     let f = c .before .before .before .before .before .before in
-    rw (lt-ltb _ _ (f .before .before .before .before .before .before .before .before .before .before .before .before .pre .1))
+    rw (lt-ltb _ _ (f .before .before .before .before .before .before .before .before .pre))
     (rw (
-      f .part .ensures,
-      f .before .wide2 .ensures,
-      f .before .before .read324 .ensures,
-      f .before .before .before .wide .ensures,
-      f .before .before .before .before .read323 .ensures,
-      f .before .before .before .before .before .read322 .ensures,
-      f .before .before .before .before .before .before .reversed-by .ensures,
-      f .before .before .before .before .before .before .before .read32 .ensures,
+      f .body-at .ensures,
+      f .before .kind-at .ensures,
+      f .before .before .reversed-by .ensures,
+      f .before .before .before .inverted-at .ensures,
     )
     at (c .before .before .run-other .ensures))
 
@@ -99,19 +65,10 @@ pub forward-at-spec : {M : Type 1} → statement M
 forward-at-spec =
     tie.close
     (tie.spec
-    mul-place
-    add-place
-    add-read32
-    read32-requires
+    inverted-at-requires
     reversed-by-requires
-    read32-requires-2
-    add-read32-2
-    read32-requires-3
-    wide-requires
-    add-read32-3
-    read32-requires-4
-    wide-requires-2
-    part-requires
+    kind-at-requires
+    body-at-requires
     held-kind-requires
     run-helmert-requires
     same-length

@@ -1,4 +1,5 @@
--- `chain::reversed_by` meets its contract. Assumes nothing.
+-- One case for each way through the tests. The test's outcome picks the definition's case.
+-- Assumes nothing.
 use borrow.Author.Tests.{eq-eqb, ne-eqb}
 use Rattle.chain.proofs.reversed_by.Statement.{statement}
 use Rattle.chain.proofs.reversed_by.Tie as tie

@@ -1,4 +1,7 @@
--- `chain_record::deforms_record` meets its contract. Assumes nothing.
+-- Invariant: found says whether one of the first i steps is a deformation step (`hasDeformation`),
+-- and i is at most n. A turn asks whether the kind of step i of the record (`kind_of`, `kindIn`) is
+-- 5, and found then speaks of one step more (`before-next`). The loop ends at i = n, so found is
+-- the answer for all n steps. The measure is n - i. Assumes nothing.
 use borrow.Author.Needs.{needs}
 use native.Mathlib.Omega.{arith}
 use Prim.Native.Nat.{_-_, _≤_}

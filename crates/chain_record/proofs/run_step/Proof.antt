@@ -1,4 +1,5 @@
--- `chain_record::run_step` meets its contract. Assumes nothing.
+-- One case for each variant. Calls are replaced by what they ensure; the definition is left.
+-- Assumes nothing.
 use Rattle.chain.specs.Chain.{stepListOf, tuplesCountedOf}
 use borrow.Author.Needs.{needs}
 use Rattle.chain_record.proofs.run_step.Statement.{statement}

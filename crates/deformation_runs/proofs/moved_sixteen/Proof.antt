@@ -1,4 +1,4 @@
--- `deformation_runs::moved_sixteen` meets its contract. Assumes nothing.
+-- By `columns`, `turned`, `taken` and `moved-columns`, from what the calls ensure. Assumes nothing.
 use Prim.Native.Nat.{_/_}
 use borrow.Author.Needs.{needs}
 use mathlib.Core.Path.{_∙_}

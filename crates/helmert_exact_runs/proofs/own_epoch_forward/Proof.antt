@@ -1,4 +1,11 @@
--- `helmert_exact_runs::own_epoch_forward` meets its contract. Assumes nothing.
+-- Invariant: the first i numbers of the list, followed by the run of the rest, are the forward run
+-- of the whole list (`Ran`), and the six columns end with the sines and cosines of the next fixes,
+-- as many as left says (`Ahead`). At left = 0 `ahead` may take sixteen anew; either way `matrix_at`
+-- gives the matrix of R at the time that the fix goes by (`ahead-here`), so the turn is the
+-- definition's (`own-epoch-turn`, `ran-again`). Writing a fix leaves those after it, so the other
+-- sines and cosines stay theirs (`ahead-on`). With fewer than four numbers left the list is the
+-- whole run (`ran-end`). The list is shorter than 2^64 numbers, so i does not overflow, and the
+-- measure is what is left of it. Assumes nothing.
 use Prim.Native.Nat.{_+_, _-_, _^_, _≤_, _<_}
 use native.Mathlib.Omega.{arith}
 use borrow.Author.Needs.{needs}

@@ -1,4 +1,12 @@
--- `helmert_exact_runs::running_forward` meets its contract. Assumes nothing.
+-- Invariant: the first i numbers of the list, followed by the run of the rest from the state, are
+-- the forward run of the whole list (`Ran`); s and m are S and the matrix at the last time
+-- (`Current`); and the six columns end with the sines and cosines of the next fixes, as many as
+-- left says (`Ahead`). A turn keeps s and m at an equal time (`met-again`) and recomputes both
+-- otherwise (`met-anew`), m from the columns if they hold the fix (`ahead-here`); so the turn is
+-- the definition's (`held-turn`, `ran-again`). Writing a fix leaves those after it, so the other
+-- sines and cosines stay theirs (`ahead-on`). With fewer than four numbers left the list is the
+-- whole run (`ran-end`). The list is shorter than 2^64 numbers, so i does not overflow, and the
+-- measure is what is left of it. Assumes nothing.
 use Prim.Native.Nat.{_+_, _-_, _^_, _≤_, _<_}
 use native.Mathlib.Omega.{arith}
 use borrow.Author.Needs.{needs}

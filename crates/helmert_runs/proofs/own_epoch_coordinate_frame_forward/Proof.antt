@@ -1,4 +1,9 @@
--- `helmert_runs::own_epoch_coordinate_frame_forward` meets its contract. Assumes nothing.
+-- Invariant: the first i numbers of the list, followed by the run of the rest, are the forward run
+-- of the whole list (`Ran`). A turn computes T, S and the matrix at the fix's own time, so it is
+-- the definition's (`own-epoch-turn`, `ran-again`). By the precondition the shift is rotated, by
+-- small angles and in the coordinate frame convention, which the loop has as constants. With fewer
+-- than four numbers left the list is the whole run (`ran-end`). The list is shorter than 2^64
+-- numbers, so i does not overflow, and the measure is what is left of it. Assumes nothing.
 use Prim.Native.Nat.{_+_, _-_, _^_, _≤_, _<_}
 use native.Mathlib.Omega.{arith}
 use borrow.Author.Needs.{needs}

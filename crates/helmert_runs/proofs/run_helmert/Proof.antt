@@ -1,4 +1,5 @@
--- `helmert_runs::run_helmert` meets its contract. Assumes nothing.
+-- One case for each way through the tests. Each by `counted-all`, `running-list`, `own-epoch-list`
+-- and `fixed-list`, from what the calls ensure. Assumes nothing.
 use mathlib.Core.Path.{_≡_, refl, sym, _∙_}
 use Rattle.helmert.specs.Modes.{startOf}
 use Rattle.helmert.specs.Turns.{helmertTurns}

@@ -1,4 +1,11 @@
--- `helmert_runs::running_position_vector_inverse` meets its contract. Assumes nothing.
+-- Invariant: the first i numbers of the list, followed by the run of the rest from the state, are
+-- the inverse run of the whole list (`Ran`); s and m are S and the matrix at the last time
+-- (`Current`). A turn keeps s and m at an equal time (`met-again`) and recomputes both otherwise
+-- (`met-anew`), so it is the definition's (`held-turn`, `ran-again`). By the precondition the shift
+-- is rotated, by small angles and in the position vector convention, which the loop has as
+-- constants. With fewer than four numbers left the list is the whole run (`ran-end`). The list is
+-- shorter than 2^64 numbers, so i does not overflow, and the measure is what is left of it.
+-- Assumes nothing.
 use Prim.Native.Nat.{_+_, _-_, _^_, _≤_, _<_}
 use native.Mathlib.Omega.{arith}
 use borrow.Author.Needs.{needs}

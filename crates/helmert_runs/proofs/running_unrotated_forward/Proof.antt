@@ -1,4 +1,10 @@
--- `helmert_runs::running_unrotated_forward` meets its contract. Assumes nothing.
+-- Invariant: the first i numbers of the list, followed by the run of the rest from the state, are
+-- the forward run of the whole list (`Ran`), and s is S at the last time (`Current`). A turn keeps
+-- s at an equal time (`scaled-again`) and recomputes it otherwise (`scaled-anew`). By the
+-- precondition the shift is not rotated, so no matrix is used, and the turn with the matrix from
+-- before the loop is the definition's (`unrotated-turn`, `ran-again`). With fewer than four numbers
+-- left the list is the whole run (`ran-end`). The list is shorter than 2^64 numbers, so i does not
+-- overflow, and the measure is what is left of it. Assumes nothing.
 use Prim.Native.Nat.{_+_, _-_, _^_, _≤_, _<_}
 use native.Mathlib.Omega.{arith}
 use borrow.Author.Needs.{needs}

@@ -1,4 +1,10 @@
--- `helmert_runs::running_unrotated_inverse` meets its contract. Assumes nothing.
+-- Invariant: the numbers before i, followed by the run of the rest from the current state, are the
+-- run of the whole list (`Ran`), and s is S at the state's last time (`Current`, where the matrix
+-- is the definition's, since m is not used). A turn recomputes s where the time changes
+-- (`scaled-anew`) and keeps it otherwise (`scaled-again`). The fix that it writes is the
+-- definition's whatever m is, because the shift is not rotated (`unrotated-turn`), and so
+-- `ran-again` carries the run on. When less than a fix is left, the list is the run (`ran-end`).
+-- The measure is what is left of the list. Assumes nothing.
 use Prim.Native.Nat.{_+_, _-_, _^_, _≤_, _<_}
 use native.Mathlib.Omega.{arith}
 use borrow.Author.Needs.{needs}

@@ -1,4 +1,5 @@
--- `kept::correct` meets its contract. Assumes nothing.
+-- One case for each way through the tests. Each by `fit-told`, `right-fits`, `passed` and `below`,
+-- from what the calls ensure. Assumes nothing.
 use borrow.Author.Needs.{needs}
 use mathlib.Core.Path.{sym, ap, _∙_}
 use Rattle.sheet.specs.declared.Refusal.{Refusal}
@@ -18,10 +19,13 @@ returns c = correct-refused _ _ _ _ _ (c .before .before .check .ensures) (c .if
 index-broken-requires : tie.Need-index-broken-requires
 index-broken-requires c κs = search needs
 
+of-call-requires : tie.Need-of-call-requires
+of-call-requires c κs = search needs
+
 returns-2 : tie.Need-returns-2
 unfolding keepRefusalOf
 returns-2 c =
-    correct-refused-14 _ _ _ _ _ (sym (ap (λ (r : Refusal). r .number) (c .before .before .before .before .check .ensures)) ∙ c .before .before .if1 .left) (sym (c .before .index-broken .ensures) ∙ c .if2 .taken)
+    rw (c .of-call .ensures) (correct-refused-14 _ _ _ _ _ (sym (ap (λ (r : Refusal). r .number) (c .before .before .before .before .before .check .ensures)) ∙ c .before .before .before .if1 .left) (sym (c .before .before .index-broken .ensures) ∙ c .before .if2 .taken))
 
 entry-at-requires : tie.Need-entry-at-requires
 entry-at-requires c κs = search needs
@@ -63,6 +67,7 @@ correct-spec =
     check-requires
     returns
     index-broken-requires
+    of-call-requires
     returns-2
     entry-at-requires
     step-of-requires

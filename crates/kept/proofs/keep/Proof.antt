@@ -1,4 +1,5 @@
--- `kept::keep` meets its contract. Assumes nothing.
+-- One case for each way through the tests. Each by `fit-told`, `fresh-fits`, `passed` and
+-- `keep-refused`, from what the calls ensure. Assumes nothing.
 use borrow.Author.Needs.{needs}
 use mathlib.Core.Path.{sym, ap, _∙_}
 use Rattle.sheet.specs.declared.Refusal.{Refusal}

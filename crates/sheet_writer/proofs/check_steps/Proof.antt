@@ -1,4 +1,9 @@
--- `sheet_writer::check_steps` meets its contract. Assumes nothing.
+-- Invariant: `before` tells whether a step of the record before i is a deformation step
+-- (`hasDeformation`), and the first refusal by rule 11 among the n steps is the first among the
+-- steps from i on (`elevens`). A turn at a second deformation step returns that refusal
+-- (`elevens-off`); any other goes on (`elevens-on`) and brings `before` up to i + 1
+-- (`before-next`). With no step left nothing is refused (`elevens-end`). The measure is n - i.
+-- Assumes nothing.
 use borrow.Author.Needs.{needs}
 use native.Mathlib.Omega.{arith}
 use mathlib.Core.Path.{_≡_, refl, sym, ap, _∙_}
@@ -7,7 +12,7 @@ use native.Mathlib.Nat.{sub-zero}
 use mathlib.Core.Bool.{true, false}
 use Rattle.sheet.specs.Rules.{refusal11, hasDeformation, elevens, firstBroken}
 use Rattle.sheet.specs.Layout.{kindIn}
-use Rattle.sheet.proofs.Order.{elevens-on, elevens-off, elevens-end, before-next}
+use Rattle.sheet.proofs.Order.{elevens-on, elevens-off, elevens-end, before-next, of-index}
 use Rattle.sheet_writer.proofs.check_steps.Statement.{statement}
 use Rattle.sheet_writer.proofs.check_steps.Tie as tie
 
@@ -33,7 +38,7 @@ returns c = let l = c .before .before .before .before in
     let a = l .before .args in
     let left : a .n - l .loop .i ≡ suc (a .n - (l .loop .i + 1)) = omega arith in
     let second : refusal11 (kindIn (a .sheet)) (l .loop .i) ≡ true = rw (← c .before .before .kind-in .ensures, ← l .loop .inv .1 .0) (c .before .if1 .taken) in
-    rw (c .of-step .ensures) (sym (l .loop .inv .1 .1 ∙ elevens-off _ _ _ _ left second))
+    c .of-step .ensures ∙ of-index _ _ (omega arith) ∙ sym (l .loop .inv .1 .1 ∙ elevens-off _ _ _ _ left second)
 
 add-i : tie.Need-add-i Inv-loop μ-loop
 add-i c = search needs

@@ -1,4 +1,5 @@
--- `sheet_writer::write` meets its contract. Assumes nothing.
+-- One case for each way through the tests. Each by `accepted-record`, from what the calls ensure.
+-- Assumes nothing.
 use mathlib.Core.Path.{_≡_, sym, _∙_}
 use borrow.Author.Tests.{eq-eqb, ne-eqb}
 use Rattle.sheet_writer.specs.Rules.{roomAfterOf}

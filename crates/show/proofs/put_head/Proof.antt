@@ -1,4 +1,4 @@
--- `show::put_head` meets its contract. Assumes nothing.
+-- Calls are replaced by what they ensure; the definition is left. Assumes nothing.
 use Rattle.show.specs.Show.{headText}
 use borrow.Author.Needs.{needs}
 use Rattle.show.proofs.put_head.Statement.{statement}

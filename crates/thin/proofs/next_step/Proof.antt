@@ -1,4 +1,4 @@
--- `thin::next_step` meets its contract. Assumes nothing.
+-- Calls are replaced by what they ensure; the definition is left. Assumes nothing.
 use Rattle.thin.specs.Sheets.{todoOf}
 use borrow.Author.Needs.{needs}
 use Rattle.thin.proofs.next_step.Statement.{statement}

@@ -1,4 +1,5 @@
--- `trig::signed` meets its contract. Assumes nothing.
+-- One case for each way through the tests. The test's outcome picks the definition's case.
+-- Assumes nothing.
 use Rattle.trig.specs.Trig.{mirroredOf}
 use Rattle.trig.proofs.signed.Statement.{statement}
 use Rattle.trig.proofs.signed.Tie as tie

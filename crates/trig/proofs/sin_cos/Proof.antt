@@ -1,4 +1,4 @@
--- `trig::sin_cos` meets its contract: of a number that is not zero, being below zero tells the sign. Assumes nothing.
+-- Of a number that is not zero, being below zero tells the sign. Assumes nothing.
 use borrow.Author.Needs.{needs}
 use Rattle.trig.specs.Trig.{signedOf, mirroredOf, sinOf, cosOf}
 use lib.Ieee.{eq, lt, le}

@@ -1,4 +1,4 @@
--- `trig_block::sine_from` meets its contract: of a number that is not zero, being below zero tells the sign. Assumes nothing.
+-- Of a number that is not zero, being below zero tells the sign. Assumes nothing.
 use borrow.Author.Needs.{needs}
 use Rattle.trig.specs.Trig.{signedOf, mirroredOf}
 use Rattle.trig_block.specs.Block.{sinFrom}

@@ -1,4 +1,4 @@
--- `vectors::place` meets its contract. Assumes nothing.
+-- Calls are replaced by what they ensure; the definition is left. Assumes nothing.
 use mathlib.Core.Path.{_≡_, ap, _∙_}
 use Rattle.words.specs.Words.{word32}
 use Rattle.tuple.specs.declared.Tuple.{Tuple}
