@@ -1,7 +1,6 @@
 -- Whole jobs, evaluated from their bytes to the bytes of their text. Assumes nothing.
 use mathlib.Core.Path.{_≡_, refl}
-use mathlib.Core.List.{List, [], _∷_, _++_}
-use Prim.Native.Nat.{ℕ}
+use mathlib.Core.List.{[], _∷_, _++_}
 use lib.ListN.{take, drop, replicate}
 use lib.Ieee.{ofBits, toBits, neg, add, sub, mul, div, lt, le, eq, ne, isNan, sum, round, size}
 use Rattle.floats.specs.Number.{signOf}

@@ -1,4 +1,5 @@
--- What is true of jobs and answers, for callers to cite. Assumes nothing.
+-- What is true of jobs and answers, for callers to cite. Working definition, which no promise
+-- cites: `Good`. Assumes nothing.
 use mathlib.Core.Path.{_≡_, refl, sym, ap, _∙_}
 use Prim.Native.Nat.{ℕ, _+_, _-_, _*_, _<_, _≤_}
 use mathlib.Core.Bool.{Bool, true, false, not, cond, _||_}

@@ -14,7 +14,8 @@ use borrow.Author.Tests.{eqb-true, leb-true, leb-false}
 use Rattle.sheet.specs.declared.Refusal.{Refusal}
 use Rattle.sheet.specs.Layout.{stepCountOf, kindAt, entryAt}
 use Rattle.sheet.specs.Rules.{Rule, rule, ofCall, firstBroken, hasDeformation, refusalOf}
-use Rattle.sheet.proofs.Order.{Without, without-rule, Unbroken, kept-first, kept-rest, number-given-exactly-when, none-given-exactly-when, own-given-exactly-when, reader-never-gives, ownRule, own-kept, keep-own, own-without}
+use Rattle.sheet.specs.Given.{Unbroken}
+use Rattle.sheet.proofs.Order.{Without, without-rule, kept-first, kept-rest, number-given-exactly-when, none-given-exactly-when, own-given-exactly-when, reader-never-gives, ownRule, own-kept, keep-own, own-without}
 use Rattle.chain.specs.Chain.{Run, chainOf, entriesOf}
 use Rattle.chain.specs.Rules.{refusal9, refusal10, shiftRefusalOf, outcome, refusedAnswer, ranOutcome, outcomeOf, shiftOf}
 

@@ -1,5 +1,6 @@
 -- The chain's laws: what a chain of one step and of steps A then B is; and the invariants by which
--- the loops over the steps are proved. Assumes nothing.
+-- the loops over the steps are proved. Working definitions, which no promise cites: `leftFrom`,
+-- `Forward`, `Backward`. Assumes nothing.
 use Prim.Native.Nat.{ℕ, zero, suc, _+_, _-_, _≤_, _<_}
 use native.Mathlib.Omega.{arith}
 use mathlib.Core.Path.{_≡_, refl, sym, ap, _∙_}

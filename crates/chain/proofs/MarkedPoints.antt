@@ -1,12 +1,7 @@
 -- Document 01's marked points of the chain, evaluated through the whole definition of a call: a
 -- sheet's bytes, a list, an outcome. Assumes nothing.
-use mathlib.Core.Path.{_≡_, refl}
-use mathlib.Core.Bool.{Bool, true, false}
-use mathlib.Core.List.{List, [], _∷_, _++_}
-use Prim.Native.Nat.{ℕ, suc}
-use lib.ListN.{take, drop, replicate}
-use lib.Ieee.{Float, nan, ofBits, toBits, neg, add, sub, mul, div, lt, le, eq, ne, isNan, sum, round, size}
-use Rattle.floats.specs.Binary64.{bits, _⊖_}
+use mathlib.Core.Path.{refl}
+use lib.Ieee.{ofBits, toBits, neg, add, sub, mul, div, lt, le, eq, ne, isNan, sum, round, size}
 use Rattle.floats.specs.Number.{signOf}
 use Rattle.root.specs.Sqrt.{sqrtOf}
 use Rattle.trig.specs.Table.{rowOf}
@@ -15,7 +10,7 @@ use Rattle.arctan.specs.Table.{cells, cellAt, octants, octantAt}
 use Rattle.arctan.specs.Arctan.{tailOf, headOf, smallAngleOf, cutAngleOf, cellIndexOf, small, quotientAngleOf, moderate, scaleOf, extremeAngleOf, withinOf, octantIndexOf, insideOf, alongOf, diagonalOf, angleOf, atan2Of}
 use Rattle.hypot.specs.Hypot.{infinite, larger, smaller, squaresOf, ordinary, guessOf, reciprocalRootOf, rootOf, scaledRootOf, rescaledOf, lengthOf, boundedOf, hypotOf}
 use Rattle.ellipsoid.specs.Figure.{ellipsoidOf, namedOf, wOf, primeVerticalOf, meridianOf, geocentricOf}
-use Rattle.geocart.specs.Geocart.{cartesianOf, poleOf, poleHeightOf, halfPi}
+use Rattle.geocart.specs.Geocart.{cartesianOf, poleOf, poleHeightOf}
 use Rattle.cart.specs.Step.{inverseFiguresOf, onAxisOf, cartInvOf}
 use Rattle.permtide.specs.Record.{coefficientOf}
 use Rattle.permtide.specs.Step.{tideOf, liftOf}
@@ -30,7 +25,7 @@ use Rattle.bodies.specs.Kinds.{lengthOf as bodyLengthOf}
 use Rattle.bodies.specs.Read.{stepOf as readOf, vec3At, helmertOf as helmertRecordOf, cartOf as cartRecordOf, molodenskyOf as molodenskyRecordOf, permtideOf as permtideRecordOf}
 use Rattle.bodies.specs.Rules.{stepInRule, lacksConvention, lacksEpoch, lacksDuration, writtenInRule, bodyInRule}
 use Rattle.sheet.specs.Layout.{bodyAt, entryAt}
-use Rattle.sheet.specs.Rules.{refusal1, refusal2, refusal3, refusal4, refusal5, endBefore, placeBroken, someFrom, hasDeformation, refusal11, rulesOfStep, fiveToEight, elevens, readerOrder, firstBroken, refusalOf, ofCall, ofStep}
+use Rattle.sheet.specs.Rules.{refusal1, refusal2, refusal3, refusal4, refusal5, endBefore, placeBroken, someFrom, hasDeformation, refusal11, rulesOfStep, fiveToEight, elevens, readerOrder, firstBroken, refusalOf}
 use Rattle.chain.specs.Chain.{chainForwardOf, chainInverseOf, entriesOf, stepListOf, tuplesCountedOf}
 use Rattle.chain.specs.Rules.{shiftOf, outcomeOf, shiftRefusalOf, refusal9, refusal10, overOne}
 use Rattle.chain.specs.MarkedPoints.{bytes, p1, helmertSheet, p9, p10, fixes, xs, one, y2001, y2002, shifted-x, only, OfTheChain}

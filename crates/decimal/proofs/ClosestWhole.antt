@@ -1,7 +1,8 @@
 -- `wholeOf x` is D where x lies within 3/8 of D, for D below 2^50. The sum with 2^52 has 53 binary
 -- digits before the point, so it rounds to the whole number closest to it, and its lower 52 bits
 -- are what that number has above 2^52. Magnitudes are counted in units of 2^-1074. 4503599627370496
--- is 2^52, 9007199254740992 is 2^53 and 1125899906842624 is 2^50. Assumes nothing.
+-- is 2^52, 9007199254740992 is 2^53 and 1125899906842624 is 2^50. Working definition, which no
+-- promise cites: `Within`. Assumes nothing.
 use mathlib.Core.Path.{_≡_, sym, ap, _∙_, subst}
 use mathlib.Core.Logic.{_↔_}
 use Prim.Native.Nat.{ℕ, suc, _+_, _-_, _*_, _/_, _%_, _^_, _≤_, _<_}

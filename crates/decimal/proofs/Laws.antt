@@ -1,22 +1,20 @@
 -- What is true of the decimal that is found, for callers to cite. Assumes nothing.
 use mathlib.Core.Path.{_≡_, refl, sym, ap, _∙_, subst}
-use Prim.Native.Nat.{ℕ, zero, suc, _+_, _*_, _%_, _^_, _<_, _≤_}
+use Prim.Native.Nat.{ℕ, zero, suc, _+_, _*_, _^_, _<_, _≤_}
 use native.Mathlib.Omega.{arith}
 use native.Mathlib.Nat.{mul-one, mul-assoc, mul-comm, mul-pos, zero-mul, one-le-pow}
 use mathlib.Core.Bool.{Bool, true, false, cond, false≢true}
 use lib.Dec.{T, eqb}
 use borrow.Author.Tests.{eqb-true, eqb-false, ne-eqb}
 use lib.IntN.{ℤ, pos}
-use lib.Pow.{pow-pos}
-use lib.Ieee.{Float, nan, inf, fin, binary64, fits, toBits, ofInt, neg, div, lt, round, up, down}
+use lib.Ieee.{Float, nan, inf, fin, binary64, fits, ofInt, neg, div, lt, round, up, down}
 use lib.Ieee.Fits.{neg-fits, cond-fits, div-fits, down-pos}
 use lib.Ieee.Exact.{HasValue}
 use lib.Ieee.Back.{round-whole}
 use lib.Ieee.Scale.{round-same}
-use Rattle.floats.specs.Binary64.{_⊗_, _⊘_, bits}
-use Rattle.floats.specs.Number.{signOf, absOf, sameOf}
+use Rattle.floats.specs.Binary64.{_⊗_, _⊘_}
+use Rattle.floats.specs.Number.{signOf, absOf}
 use Rattle.floats.proofs.Laws.{same-are-equal}
-use Rattle.decimal.specs.declared.Decimal.{Decimal}
 use Rattle.decimal.specs.declared.Decimal.the-variants.{Found, Nothing}
 use Rattle.decimal.specs.Places.{tenTo, twoTo52, wholeOf, digitsOf, readOf, passesOf, firstFrom, decimalOf}
 use Rattle.decimal.proofs.Tens.{ten-is-exact}

@@ -1,8 +1,8 @@
 -- Rounding is near: the whole number closest to a fraction lies within half a unit of it, and a
 -- fraction in binary64's normal range rounds to within 2^-53 of itself. Magnitudes are counted in
 -- units of binary64's smallest number, 2^-1074. 4503599627370496 is 2^52, 9007199254740992 is 2^53.
--- Assumes nothing.
-use mathlib.Core.Path.{_≡_, refl, sym, ap, _∙_, subst}
+-- Working definitions, which no promise cites: `Half`, `Close`. Assumes nothing.
+use mathlib.Core.Path.{_≡_, ap, _∙_, subst}
 use Prim.Native.Nat.{ℕ, suc, _+_, _-_, _*_, _/_, _%_, _^_, _≤_, _<_, compare, Ordering, Ordering·lt, Ordering·eq, Ordering·gt}
 use native.Mathlib.Omega.{arith}
 use native.Mathlib.Nat.{mul-comm, mul-assoc, mul-left-comm, one-mul, suc-mul, add-mul, mul-le-mul-right, mul-pos, mod-lt, div-add-mod', le-div-iff-mul-le, le-antisymm, lt-of-lt-of-le, lt-of-not-le, not-le-of-lt}

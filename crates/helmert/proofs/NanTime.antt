@@ -5,22 +5,21 @@
 use Prim.Native.Nat.{ℕ, zero, suc, _+_, _-_, _*_, _≤_}
 use native.Mathlib.Omega.{arith}
 use mathlib.Core.Path.{_≡_, refl, sym, ap, _∙_, subst}
-use mathlib.Core.Bool.{Bool, true, false, cond}
+use mathlib.Core.Bool.{Bool, true, false}
 use mathlib.Core.List.{List, [], _∷_}
 use lib.Dec.{eqb}
 use lib.ListN.{length, take}
 use lib.Ieee.{Float, nan, add, sub, mul, div, neg}
 use borrow.Author.Tests.{eqb-true, eqb-false}
 use Rattle.tuple.specs.declared.Tuple.{Tuple}
-use Rattle.rotation.specs.declared.Vec3.{Vec3}
 use Rattle.rotation.specs.Matrix.{Matrix}
-use Rattle.lists.specs.Flat.{fourOf, numbersOf, tupleAt}
+use Rattle.lists.specs.Flat.{fourOf, tupleAt}
 use Rattle.lists.specs.Run.{Turns, ranOf, stateAfterOf}
 use Rattle.lists.proofs.Results.{tuple-first, tuple-beyond, result-at, state-keeps}
 use Rattle.helmert.specs.declared.Shift.{Shift}
 use Rattle.helmert.specs.declared.State.{State}
 use Rattle.helmert.specs.Apply.{offsetOf, deoffsetOf, forwardOf, inverseOf, applyOf}
-use Rattle.helmert.specs.Modes.{nothing3, startOf, nextOf, runningOf, isRunningOf, stepOf}
+use Rattle.helmert.specs.Modes.{nothing3, startOf, nextOf, runningOf, isRunningOf}
 use Rattle.helmert.specs.Turns.{helmertTurns}
 use Rattle.helmert.proofs.Laws.{plus-nan, nan-time-spoils, spoilt-stays-spoilt, state-in-running, step-in-running}
 

@@ -1,4 +1,5 @@
--- Refusals in their order, and what a call leaves by them. Assumes nothing.
+-- Refusals in their order, and what a call leaves by them. Working definition, which no promise
+-- cites: `Passed`. Assumes nothing.
 use Prim.Native.Nat.{ℕ, _/_, _%_, _≤_, _<_}
 use native.Mathlib.Omega.{arith}
 use mathlib.Core.Bool.{Bool, true, false, not, cond}

@@ -12,7 +12,8 @@ use lib.ListN.{length}
 use Rattle.tuple.specs.declared.Tuple.{Tuple}
 use Rattle.sheet.specs.declared.Refusal.{Refusal}
 use Rattle.sheet.specs.Rules.{Rule, rule, ofCall, firstBroken, refusalOf}
-use Rattle.sheet.proofs.Order.{Without, without-rule, Numbered, Unbroken, kept-first, kept-rest, number-given-exactly-when, none-given-exactly-when, own-given-exactly-when, ownRule, own-kept, keep-own, own-without}
+use Rattle.sheet.specs.Given.{Unbroken}
+use Rattle.sheet.proofs.Order.{Without, without-rule, Numbered, kept-first, kept-rest, number-given-exactly-when, none-given-exactly-when, own-given-exactly-when, ownRule, own-kept, keep-own, own-without}
 use Rattle.chain.specs.Rules.{refusal9}
 use Rattle.stretch.specs.Kept.{Kept, correctedOf}
 use Rattle.kept.specs.Entries.{refusal12, refusal13, refusal14, keptOrder, keepRefusalOf, correctRefusalOf, shiftIn, reversedIn, outcome, correctedAs, correctOf}

@@ -4,10 +4,7 @@ use Prim.Native.Nat.{ℕ}
 use mathlib.Core.Bool.{false}
 use native.Mathlib.Omega.{arith}
 use mathlib.Core.Path.{_≡_, refl, ap, subst}
-use mathlib.Core.List.{List, [], _∷_}
-use lib.ListN.{replicate}
-use lib.Ieee.{Float, ofBits, toBits, add, sub, mul, div, neg, eq, ne, lt, le, isNan, sum, round, size}
-use Rattle.floats.specs.Binary64.{bits}
+use lib.Ieee.{ofBits, toBits, add, sub, mul, div, neg, eq, ne, lt, le, isNan, sum, round, size}
 use Rattle.rotation.specs.Matrix.{firstOrderOf, rowsOf, rotationMatrixOf}
 use Rattle.helmert.specs.Units.{winnerOf, lengthsOf, anglesOf, parametersOf}
 use Rattle.helmert.specs.Rules.{fieldsInRuleOf, vectorsFiniteOf, scalesFiniteOf, finite3Of, timeOf, lacksConventionOf, lacksEpochOf, rotatedOf, dynamicOf, someOf}
@@ -18,15 +15,14 @@ use Rattle.bodies.specs.Kinds.{lengthOf}
 use Rattle.bodies.specs.Read.{stepOf as readOf, vec3At, helmertOf as helmertRecordOf}
 use Rattle.bodies.specs.Rules.{stepInRule, lacksConvention, lacksEpoch, lacksDuration, writtenInRule, bodyInRule}
 use Rattle.sheet.specs.Layout.{bodyAt, entryAt}
-use Rattle.sheet.specs.Rules.{accepted, refusal1, refusal2, refusal3, refusal4, refusal5, endBefore, placeBroken, someFrom, hasDeformation, refusal11, rulesOfStep, fiveToEight, elevens, readerOrder, firstBroken, refusalOf}
-use Rattle.lists.specs.Flat.{fourOf, tupleAt, putAt}
+use Rattle.sheet.specs.Rules.{refusal1, refusal2, refusal3, refusal4, refusal5, endBefore, placeBroken, someFrom, hasDeformation, refusal11, rulesOfStep, fiveToEight, elevens, readerOrder, firstBroken, refusalOf}
+use Rattle.lists.specs.Flat.{tupleAt, putAt}
 use Rattle.chain.specs.Rules.{refusal9}
 use Rattle.chain.specs.MarkedPoints.{bytes, helmertSheet, fixes, xs, one, y2001, y2002}
 use Rattle.stretch.specs.Same.{alikeNumberOf, alikeOf}
-use Rattle.tuple.specs.declared.Tuple.{Tuple}
 use Rattle.kept.specs.declared.Corrected.{Corrected}
-use Rattle.stretch.specs.Kept.{Kept, keptOf, keptAt, putFix, Stretch, freshOf, meetsOf, stretchFrom, stretchOf, redoOf, beforeOf, correctedOf}
-use Rattle.kept.specs.Entries.{refusal12, refusal13, refusal14, keepRefusalOf, correctRefusalOf, keepOf, CorrectOutcome, correctedAs, correctOf}
+use Rattle.stretch.specs.Kept.{keptAt, putFix, Stretch, freshOf, meetsOf, stretchFrom, stretchOf, redoOf, beforeOf, correctedOf}
+use Rattle.kept.specs.Entries.{refusal12, refusal13, refusal14, keepRefusalOf, correctRefusalOf, keepOf, correctOf}
 use Rattle.kept.specs.MarkedPoints.{p6-sheet, y2000, p6-lists, p6-kept, p6-fix, P6}
 use Rattle.kept.proofs.Promises.{count-by-the-tracks}
 

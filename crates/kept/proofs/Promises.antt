@@ -38,10 +38,13 @@ use Rattle.chain.specs.Rules.{refusal10, overOne, ranOutcome, shiftOf}
 use Rattle.chain.proofs.Laws.{one-step-forward, one-step-inverse}
 use Rattle.chain.proofs.Outcome.{run-through}
 use Rattle.stretch.specs.Kept.{trackedOf, heldOf, Kept, freshOf, carriedAt, keptAt, Stretch, beforeOf, putFix, correctedOf, Correction}
+use Rattle.stretch.specs.Unwritten.{Unwritten}
+use Rattle.kept.specs.Corrections.{keptAfterOf, standsAfterOf}
+use Rattle.kept.specs.Still.{Still}
 use Rattle.kept.specs.Entries.{refusal12, refusal14, keepRefusalOf, correctRefusalOf, helmertOf, shiftIn, reversedIn, keepOf, CorrectOutcome, outcome, correctedAs, correctOf}
 use Rattle.stretch.proofs.Meeting.{state-stays, whole-take, state-append, track-length}
 use Rattle.kept.proofs.Answers.{Passed, passed, below, keep-done, taken, not-refused, correct-done, correct-refused-14}
-use Rattle.stretch.proofs.Laws.{Unwritten, step-stays, fresh-list, before-is, corrected-equals-fresh, redone-is-the-stretch, results-outside, track-outside, list-outside, still-track, still-redoes-one}
+use Rattle.stretch.proofs.Laws.{step-stays, fresh-list, before-is, corrected-equals-fresh, redone-is-the-stretch, results-outside, track-outside, list-outside, still-track, still-redoes-one}
 
 -- ---- the one step is the chain's
 
@@ -239,15 +242,6 @@ module _ (inverse : Bool) (s : List ℕ) (old : Kept) (passes : keepRefusalOf s 
 
 -- ---- any corrections, one after another
 
-abbrev pub keptAfterOf : Bool → List ℕ → Kept → List Correction → Kept
-keptAfterOf inverse s kept [] = kept
-keptAfterOf inverse s kept (c ∷ later) = keptAfterOf inverse s (correctOf inverse s kept (c .index) (c .fix) .kept) later
-
--- the list as it stands after them
-abbrev pub standsAfterOf : Kept → List Correction → Kept
-standsAfterOf old [] = old
-standsAfterOf old (c ∷ later) = standsAfterOf (putFix old (c .index) (c .fix)) later
-
 -- A kept run equals a fresh run of the list as it stands.
 pub kept-equals-fresh-always : (inverse : Bool) (s : List ℕ) (old : Kept) → keepRefusalOf s old .number ≡ 0 → (corrections : List Correction)
     → keptAfterOf inverse s (keepOf inverse s old) corrections ≡ keepOf inverse s (standsAfterOf old corrections)
@@ -411,10 +405,6 @@ module _ (inverse : Bool) (s : List ℕ) (old : Kept) (passes : keepRefusalOf s 
       (count-is-the-stretch inverse s kept-before index fix nothing-refuses))
 
 -- ---- static, fixed and own-epoch
-
--- a shift in one of these three modes
-abbrev pub Still : Shift → Type 0
-Still shift = (shift .dynamic ≡ false) ⊎ (shift .fixed ≡ true) ⊎ (shift .«own_epoch» ≡ true)
 
 pub still-is-not-running : (shift : Shift) → Still shift → isRunningOf shift ≡ false
 still-is-not-running shift = by-mode (shift .dynamic) (shift .fixed) (shift .«own_epoch»)

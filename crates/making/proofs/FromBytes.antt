@@ -20,8 +20,8 @@ use Rattle.sheet.specs.Layout.{stepCountOf, kindAt, bodyAt, lengthAt, offsetAt,
 use Rattle.sheet.specs.Rules.{refusalOf}
 use Rattle.sheet.proofs.Accepted.{accepted-keeps}
 use Rattle.sheet.proofs.Back.{bytes-part, entry-same, step-same, record-count}
-use Rattle.sheet_writer.proofs.Laws.{HeldSheet}
-use Rattle.making.proofs.Longer.{Tidy}
+use Rattle.sheet_writer.specs.SameSheet.{HeldSheet}
+use Rattle.making.specs.InTurn.{Tidy}
 
 module _ (b : List ℕ) (bytes : Bytes b) where
   word : (at : ℕ) → word32 b at < 4294967296

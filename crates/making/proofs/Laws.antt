@@ -30,9 +30,11 @@ use Rattle.sheet.proofs.Back.{bytes-part}
 use Rattle.sheet_writer.proofs.Forth.{taken}
 use Rattle.sheet_writer.proofs.Writing.{sheet-bytes-length}
 use Rattle.sheet_writer.proofs.WriterOrder.{accepted-record}
-use Rattle.sheet_writer.proofs.Laws.{HeldSheet, SameSheet, written-then-read, room-starts-with-the-sheet}
+use Rattle.sheet_writer.specs.SameSheet.{HeldSheet, SameSheet}
+use Rattle.sheet_writer.proofs.Laws.{written-then-read, room-starts-with-the-sheet}
 use Rattle.making.specs.Adding.{readingAs, standingOf, withStepOf, AddOutcome, outcome, addedAs, writtenAs, addedOf}
-use Rattle.making.proofs.Longer.{Tidy, tidy-same, blank-is-tidy, blank-is-held, more-is-tidy, more-is-held, Begins, begins-itself, begins-on, begins-more, taken-before, shorter, writer-takes}
+use Rattle.making.specs.InTurn.{Sheeted, Tidy, allAdded, withSteps, EachHeld}
+use Rattle.making.proofs.Longer.{tidy-same, blank-is-tidy, blank-is-held, more-is-tidy, more-is-held, Begins, begins-itself, begins-on, begins-more, taken-before, shorter, writer-takes}
 use Rattle.making.proofs.FromBytes.{read-is-held, read-is-tidy}
 
 number-of : {r : Refusal} → r ≡ accepted → r .number ≡ 0
@@ -135,12 +137,6 @@ module _ (room : List ℕ) (inverted : ℕ) (step : Step) (sheet : Sheet) (tidy 
   held-after : HeldSheet (withStepOf sheet inverted step)
   held-after = more-is-held sheet tidy few-before inverted step held new
 
--- what an accepted addition leaves: at the room's start, and as long as it says, a sheet that is
--- accepted
-pub record Sheeted (o : AddOutcome) : Type 0 where
-  pub within : o .answer .length ≤ length (o .room)
-  pub passes : refusalOf (take (o .answer .length) (o .room)) ≡ accepted
-
 pub written-is-sheeted : (sheet : Sheet) (room : List ℕ) → Tidy sheet → HeldSheet sheet → writerRefusalOf sheet (length room) ≡ accepted
     → (len : ℕ) → Sheeted (writtenAs sheet room len)
 written-is-sheeted sheet room tidy held e len =
@@ -182,23 +178,6 @@ module _ (room : List ℕ) (len inverted : ℕ) (step : Step) (bytes : Bytes roo
   accepted-passes-check h = sheeted-by (eqb (standingOf room len .refusal .number) 0) refl h
 
 -- ---- steps one after another
-
--- each added in turn, until one is refused
-unfoldable pub allAdded : List ℕ → ℕ → List Entry → AddOutcome
-allAdded room len [] = outcome (addedAs accepted len) room
-allAdded room len (e ∷ es) =
-    let first = addedOf room len (e .inverted) (e .step) in
-    cond (eqb (first .answer .refusal .number) 0) (allAdded (first .room) (first .answer .length) es) first
-
--- a record with some steps more
-unfoldable pub withSteps : Sheet → List Entry → Sheet
-withSteps sheet [] = sheet
-withSteps sheet (e ∷ es) = withSteps (withStepOf sheet (e .inverted) (e .step)) es
-
--- every step is what a computer's memory holds
-pub data EachHeld : List Entry → Type 0 where
-  none : EachHeld []
-  next : {e : Entry} {es : List Entry} → Held (e .step) → EachHeld es → EachHeld (e ∷ es)
 
 count-grows : (es : List Entry) (sheet : Sheet) → sheet .count ≤ withSteps sheet es .count
 unfolding withSteps withStepOf

@@ -1,5 +1,5 @@
--- What a sheet that breaks no rule keeps, rule by rule, and that this is all that it takes. Assumes
--- nothing.
+-- What a sheet that breaks no rule keeps, rule by rule, and that this is all that it takes. Working
+-- definitions, which no promise cites: `PlaceKept`, `Accepted`. Assumes nothing.
 use mathlib.Core.Path.{_≡_, refl, sym, ap, _∙_, subst}
 use Prim.Native.Nat.{ℕ, zero, suc, _+_, _*_, _<_, _≤_}
 use mathlib.Core.List.{List, [], _∷_, _++_}
@@ -13,7 +13,8 @@ use Rattle.bodies.specs.Kinds.{lengthOf}
 use Rattle.bodies.specs.Rules.{bodyInRule}
 use Rattle.sheet.specs.Layout.{formOf, totalLengthOf, stepCountOf, directoryOffsetOf, kindAt, invertedAt, offsetAt, lengthAt, directoryEnd, bodyAt, stepAt}
 use Rattle.sheet.specs.Rules.{refusal1, refusal2, refusal3, refusal4, refusal5, refusal5At, refusal11, endBefore, placeBroken, invertedBroken, someFrom, fiveToEight, elevens, readerOrder, firstBroken, refusalOf, accepted}
-use Rattle.sheet.proofs.Order.{Unbroken, all-kept, none-broken, kept-append, kept-left, kept-right, neither, numbered-reader, count-kept}
+use Rattle.sheet.specs.Given.{Unbroken}
+use Rattle.sheet.proofs.Order.{all-kept, none-broken, kept-append, kept-left, kept-right, neither, numbered-reader, count-kept}
 use Rattle.sheet.proofs.Each.{StepKept, each-step, every-step, each-eleven, every-eleven, each-kept, every-kept}
 
 -- a place of the directory in rule

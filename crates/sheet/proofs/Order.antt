@@ -1,5 +1,6 @@
 -- Lists of rules in their order, as the loops meet them: the first broken rule of two lists one
--- after the other, and a turn of each loop. Assumes nothing.
+-- after the other, and a turn of each loop. Working definitions, which no promise cites: `Without`,
+-- `Numbered`, `byNumber`, `ownRule`. Assumes nothing.
 use mathlib.Core.Path.{_≡_, refl, sym, ap, _∙_}
 use mathlib.Core.Logic.{_↔_}
 use Prim.Native.Nat.{ℕ, zero, suc, _+_, _<_, _≤_}
@@ -15,6 +16,7 @@ use Rattle.bodies.specs.Rules.{bodyInRule, lacksConvention, lacksEpoch, lacksDu
 use Rattle.sheet.specs.declared.Refusal.{Refusal}
 use Rattle.sheet.specs.Layout.{offsetAt, lengthAt, stepCountOf, kindAt, stepAt}
 use Rattle.sheet.specs.Rules.{Rule, rule, ofCall, ofStep, ofIndex, accepted, firstBroken, rulesOfStep, fiveToEight, elevens, refusal6, refusal7, refusal8, refusal11, hasDeformation, someFrom, endBefore, refusal1, refusal2, refusal3, refusal4, refusal5, refusal5At, readerOrder, refusalOf}
+use Rattle.sheet.specs.Given.{Unbroken}
 
 -- ---- numbers that a list of rules does not give
 
@@ -191,10 +193,6 @@ end-next s i = rw add-one
 
 -- ---- kept: no rule of a list is broken
 
-pub data Unbroken : List Rule → Type 0 where
-  none : Unbroken []
-  next : {r : Rule} {l : List Rule} → r .broken ≡ false → Unbroken l → Unbroken (r ∷ l)
-
 kept-head : (b : Bool) (a x : Refusal) → (b ≡ true → a .number ≡ 0 → ⊥) → cond b a x .number ≡ 0 → (b ≡ false) × (x .number ≡ 0)
 kept-head true a x h e = absurd (h refl e)
 kept-head false a x h e = (refl, e)
@@ -202,34 +200,34 @@ kept-head false a x h e = (refl, e)
 -- where nothing is answered nothing is broken
 pub all-kept : (l : List Rule) → Numbered l → firstBroken l .number ≡ 0 → Unbroken l
 unfolding firstBroken
-all-kept [] n e = none
+all-kept [] n e = Unbroken.none
 all-kept (r ∷ l) (next h n) e =
     let p = kept-head (r .broken) (r .answer) (firstBroken l) h e in
-    next (p .0) (all-kept l n (p .1))
+    Unbroken.next (p .0) (all-kept l n (p .1))
 
 -- and where nothing is broken nothing is answered
 pub none-broken : (l : List Rule) → Unbroken l → firstBroken l ≡ accepted
 unfolding firstBroken
 none-broken [] k = refl
-none-broken (r ∷ l) (next h k) = rw h (none-broken l k)
+none-broken (r ∷ l) (Unbroken.next h k) = rw h (none-broken l k)
 
 pub kept-append : {l m : List Rule} → Unbroken l → Unbroken m → Unbroken (l ++ m)
-kept-append none k = k
-kept-append (next h l) k = next h (kept-append l k)
+kept-append Unbroken.none k = k
+kept-append (Unbroken.next h l) k = Unbroken.next h (kept-append l k)
 
 pub kept-left : (l m : List Rule) → Unbroken (l ++ m) → Unbroken l
-kept-left [] m k = none
-kept-left (r ∷ l) m (next h k) = next h (kept-left l m k)
+kept-left [] m k = Unbroken.none
+kept-left (r ∷ l) m (Unbroken.next h k) = Unbroken.next h (kept-left l m k)
 
 pub kept-right : (l m : List Rule) → Unbroken (l ++ m) → Unbroken m
 kept-right [] m k = k
-kept-right (r ∷ l) m (next h k) = kept-right l m k
+kept-right (r ∷ l) m (Unbroken.next h k) = kept-right l m k
 
 pub kept-first : {r : Rule} {l : List Rule} → Unbroken (r ∷ l) → r .broken ≡ false
-kept-first (next h k) = h
+kept-first (Unbroken.next h k) = h
 
 pub kept-rest : {r : Rule} {l : List Rule} → Unbroken (r ∷ l) → Unbroken l
-kept-rest (next h k) = k
+kept-rest (Unbroken.next h k) = k
 
 pub neither : (a b : Bool) → (a || b) ≡ false → (a ≡ false) × (b ≡ false)
 neither true b e = absurd (true≢false e)
@@ -263,7 +261,7 @@ module _ (s : List ℕ) (kept1 : refusal1 s ≡ false) (kept2 : refusal2 s ≡ f
 
 kept-count : (s : List ℕ) → Unbroken (readerOrder s) → refusal3 (stepCountOf s) ≡ false
 unfolding readerOrder
-kept-count s (next a (next b (next c k))) = c
+kept-count s (Unbroken.next a (Unbroken.next b (Unbroken.next c k))) = c
 
 -- an accepted sheet has 1 to 16 steps
 pub accepted-count : (s : List ℕ) → refusalOf s .number ≡ 0 → stepCountOf s ≤ 16
@@ -277,7 +275,7 @@ pub give : (before : List Rule) (r : Rule) (after : List Rule) → Unbroken befo
     → firstBroken (before ++ (r ∷ after)) ≡ r .answer
 unfolding firstBroken
 give [] r after k e = rw e
-give (q ∷ before) r after (next h k) e = rw h (give before r after k e)
+give (q ∷ before) r after (Unbroken.next h k) e = rw h (give before r after k e)
 
 by-number : {A : Type 0} (b : Bool) (a x : Refusal) (n : ℕ) → (b ≡ true → a .number ≡ n → A) → (b ≡ false → x .number ≡ n → A)
     → cond b a x .number ≡ n → A
@@ -295,11 +293,11 @@ module _ (r : Rule) (after : List Rule) (some : r .answer .number ≡ 0 → ⊥)
       → Unbroken before × (r .broken ≡ true)
   unfolding firstBroken
   only-then [] w e =
-      by-number (r .broken) (r .answer) (firstBroken after) (r .answer .number) (λ b d. (none, b))
+      by-number (r .broken) (r .answer) (firstBroken after) (r .answer .number) (λ b d. (Unbroken.none, b))
       (λ b d. absurd (never-given (r .answer .number) some after later d)) e
   only-then (q ∷ before) (next h w) e =
       by-number (q .broken) (q .answer) (firstBroken (before ++ (r ∷ after))) (r .answer .number) (λ b d. absurd (h b d))
-      (λ b d. let p = only-then before w d in (next b (p .0), p .1)) e
+      (λ b d. let p = only-then before w d in (Unbroken.next b (p .0), p .1)) e
 
 -- A rule's number is given exactly when every rule before it is kept and it is broken, where no
 -- other rule of the order has its number.

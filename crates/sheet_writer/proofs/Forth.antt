@@ -1,5 +1,5 @@
 -- A record that the writer accepts is read back, step by step, from the bytes that it is written
--- as. Assumes nothing.
+-- as. Working definition, which no promise cites: `Taken`. Assumes nothing.
 use mathlib.Core.Path.{_≡_, sym, ap, _∙_}
 use Prim.Native.Nat.{ℕ, zero, suc, _+_, _*_, _-_, _^_, _<_, _≤_}
 use mathlib.Core.List.{List, [], _++_, append-nil, append-assoc}
@@ -25,7 +25,8 @@ use Rattle.sheet.specs.Layout.{formOf, totalLengthOf, stepCountOf, directoryOff
 use Rattle.sheet_writer.specs.Bytes.{lengthIn, bodyStart, sheetLength, headerBytes, placeBytes, directoryBytes, bodiesBytes, sheetBytesOf}
 use Rattle.sheet.specs.Rules.{endBefore, refusal5, refusal5At, refusal6, refusal7, refusal8, refusal11, fiveToEight, elevens}
 use Rattle.sheet_writer.specs.Rules.{recordRefusal4, recordRefusal5, invertedBrokenIn, writerOrder, writerRefusalOf}
-use Rattle.sheet.proofs.Order.{Unbroken, all-kept, kept-left, kept-right, count-kept}
+use Rattle.sheet.specs.Given.{Unbroken}
+use Rattle.sheet.proofs.Order.{all-kept, kept-left, kept-right, count-kept}
 use Rattle.sheet_writer.proofs.WriterOrder.{numbered-writer, last}
 use Rattle.sheet.proofs.Each.{StepKept, each-step, each-eleven, each-kept, eleven-same}
 use Rattle.sheet_writer.proofs.Writing.{length-small, start-small, bodies-length, place-length, directory-length, header-length, sheet-bytes-length}

@@ -13,7 +13,6 @@ use lib.ListN.{length, take}
 use lib.Seq.{take-at}
 use Rattle.words.specs.Words.{Bytes, put}
 use Rattle.bodies.specs.Rules.{stepInRule}
-use Rattle.bodies.specs.Held.{Held}
 use Rattle.bodies.proofs.Laws.{step-of-body-in-rule}
 use Rattle.sheet.specs.declared.Refusal.{Refusal}
 use Rattle.sheet.specs.declared.Sheet.{Sheet}
@@ -21,14 +20,16 @@ use Rattle.sheet.specs.Layout.{stepCountOf, kindAt, bodyAt, recordOf, entryOf, 
 use Rattle.sheet_writer.specs.Bytes.{sheetLength, sheetBytesOf}
 use Rattle.sheet.specs.Rules.{accepted, refusalOf, refusal3, refusal6, refusal7, refusal8, refusal11, fiveToEight, elevens}
 use Rattle.sheet_writer.specs.Rules.{writerOrder, writerRefusalOf, roomAfterOf, recordRefusal4, recordRefusal5, refusal15, invertedBrokenIn}
-use Rattle.sheet.proofs.Order.{Unbroken, none-broken, kept-append}
+use Rattle.sheet.specs.Given.{Unbroken, FirstBroken}
+use Rattle.sheet.proofs.Order.{none-broken, kept-append}
 use Rattle.sheet.proofs.Each.{StepKept, every-step, every-eleven, every-kept, eleven-same}
 use Rattle.sheet.proofs.Accepted.{Accepted, accepted-keeps, keeps-accepted, body-kept}
+use Rattle.sheet_writer.specs.SameSheet.{HeldSheet, SameSheet}
 use Rattle.sheet_writer.proofs.Forth.{taken, count-back, accepted-back, entry-back}
 use Rattle.sheet_writer.proofs.Writing.{sheet-bytes-length}
 use Rattle.sheet.proofs.Back.{record-count, count-same, entry-same, step-same, inverted-same, kind-same}
 use Rattle.sheet_writer.proofs.SameBytes.{sheet-length-same, bytes-same}
-use Rattle.sheet.proofs.Laws.{FirstBroken, first-broken-exactly-when}
+use Rattle.sheet.proofs.Laws.{first-broken-exactly-when}
 
 -- ---- given exactly when
 
@@ -101,15 +102,6 @@ module _ (s : List ℕ) (bytes : Bytes s) (e : refusalOf s ≡ accepted) where
       rw (writer-takes-what-was-read (length room) h) (ap (put room 0) (bytes-same s bytes ok))
 
 -- ---- written, then read
-
--- what every record in memory meets: a theorem over records takes it as its premise
-abbrev pub HeldSheet : Sheet → Type 0
-HeldSheet sheet = (i : ℕ) → i < sheet .count → Held (stepIn sheet i)
-
--- the same record up to its step count
-pub record SameSheet (a b : Sheet) : Type 0 where
-  pub same-count : a .count ≡ b .count
-  pub same-entries : (i : ℕ) → i < b .count → entryOf a i ≡ entryOf b i
 
 -- a record that the writer takes is read back: every field of every step, -0 and "not given" among
 -- them

@@ -1,4 +1,5 @@
--- The writer's order, as `check_record` goes through it. Assumes nothing.
+-- The writer's order, as `check_record` goes through it. Working definitions, which no promise
+-- cites: `last`, `after`. Assumes nothing.
 use mathlib.Core.Path.{_≡_, sym, ap, _∙_}
 use Prim.Native.Nat.{ℕ, _≤_}
 use mathlib.Core.List.{List, [], _∷_, _++_}
@@ -10,7 +11,8 @@ use Rattle.sheet.specs.Layout.{stepIn, kindIn}
 use Rattle.sheet_writer.specs.Bytes.{sheetLength}
 use Rattle.sheet.specs.Rules.{Rule, rule, ofCall, accepted, firstBroken, fiveToEight, elevens, refusal3}
 use Rattle.sheet_writer.specs.Rules.{recordRefusal4, recordRefusal5, refusal15, writerOrder, writerRefusalOf}
-use Rattle.sheet.proofs.Order.{Without, Numbered, not-zero, without-append, numbered-steps, numbered-elevens, kept-then, broken-first, Unbroken, all-kept, kept-right, count-kept}
+use Rattle.sheet.specs.Given.{Unbroken}
+use Rattle.sheet.proofs.Order.{Without, Numbered, not-zero, without-append, numbered-steps, numbered-elevens, kept-then, broken-first, all-kept, kept-right, count-kept}
 
 -- after step by step 5 to 8 and 11: 15
 abbrev pub last : Sheet → ℕ → List Rule

@@ -1,6 +1,6 @@
 -- A result tells the whole refusal: its number and its step can be taken out of it again, whatever
--- a call was given. Assumes nothing.
-use Prim.Native.Nat.{ℕ, zero, suc, _+_, _/_, _%_, _<_, _≤_}
+-- a call was given. Working definition, which no promise cites: `Whole`. Assumes nothing.
+use Prim.Native.Nat.{ℕ, zero, suc, _+_, _<_, _≤_}
 use native.Mathlib.Omega.{arith}
 use mathlib.Core.Path.{_≡_, refl}
 use mathlib.Core.Bool.{Bool, true, false, cond}
@@ -22,17 +22,12 @@ use Rattle.chain.specs.Rules.{shiftRefusalOf, outcomeOf, shiftOf}
 use Rattle.stretch.specs.Kept.{Kept}
 use Rattle.kept.specs.Entries.{keepRefusalOf, correctRefusalOf, correctOf}
 use Rattle.making.specs.Adding.{readingAs, standingOf, withStepOf, writtenAs, addedOf}
-use Rattle.sillfeather.specs.Codes.{codeOf}
+use Rattle.sillfeather.specs.Told.{Told}
 
 -- a refusal whose parts have each their half of the word
 pub record Whole (r : Refusal) : Type 0 where
   pub low : r .number < 65536
   pub high : r .step < 65536
-
--- what a caller takes out of a result: the number is the low half, the step the high one
-pub record Told (r : Refusal) : Type 0 where
-  pub number : codeOf r % 65536 ≡ r .number
-  pub step : codeOf r / 65536 ≡ r .step
 
 told : (r : Refusal) → Whole r → Told r
 told r w = let low = w .low in let high = w .high in record { number = omega arith; step = omega arith }

@@ -1,5 +1,5 @@
 -- The loops of a fresh run, turn by turn: the list copied, and the track, which needs the states
--- alone. Assumes nothing.
+-- alone. Working definitions, which no promise cites: `Copied`, `Tracking`. Assumes nothing.
 use Prim.Native.Nat.{ℕ, suc, _+_, _-_, _/_, _%_, _≤_, _<_}
 use native.Mathlib.Omega.{arith}
 use native.Mathlib.Numerals.{add-one}

@@ -1,5 +1,6 @@
 -- Redoing, turn by turn over what is left of the three lists: the form in which the loop is proved.
--- Assumes nothing.
+-- Working definitions, which no promise cites: `Again`, `againOf`, `joined`, `Redoing`. Assumes
+-- nothing.
 use Prim.Native.Nat.{ℕ, suc, _+_, _-_, _/_, _≤_, _<_}
 use native.Mathlib.Omega.{arith}
 use native.Mathlib.Nat.{add-zero, add-assoc, add-comm}

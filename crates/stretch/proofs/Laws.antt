@@ -21,6 +21,7 @@ use Rattle.lists.proofs.Places.{from-place, put-there, put-none, put-length, pu
 use Rattle.lists.proofs.Laws.{ran-length}
 use Rattle.lists.proofs.Results.{track-at}
 use Rattle.stretch.specs.Kept.{trackedOf, heldOf, Kept, keptOf, freshOf, splicedOf, carriedAt, keptAt, Stretch, Redone, redoOf, beforeOf, putFix, correctedOf}
+use Rattle.stretch.specs.Unwritten.{Unwritten}
 use Rattle.helmert.specs.Turns.{helmertTurns}
 use Rattle.stretch.proofs.Again.{Again, againOf, again-short}
 use Rattle.stretch.proofs.Stretch.{redo-is-again}
@@ -211,12 +212,6 @@ redone-is-the-stretch shift inverse old index fix h =
     let at = 4 * index in
     let long : length (putAt (old .list) at fix) ≡ length (old .list) = put-length (old .list) at fix h in
     rw long at (stretch-by-states (helmertTurns inverse shift) (beforeOf shift (old .track) index) (putAt (old .list) at fix) (old .track) index (rw long h))
-
--- a list is as it was before a place and from another on
-pub record Unwritten (old new : List Float) (start end : ℕ) : Type 0 where
-  pub before : take start new ≡ take start old
-  pub after : drop end new ≡ drop end old
-  pub long : length new ≡ length old
 
 written-between : (old new : List Float) (at n : ℕ) → at + n ≤ length old → n ≤ length new → Unwritten old (splicedOf old at new n) at (at + n)
 written-between old new at n h k =

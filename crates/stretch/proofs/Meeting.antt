@@ -1,8 +1,9 @@
 -- Two runs over the same fixes agree from where their states meet: the redoing of what a run left
--- is the run itself. For any step. Assumes nothing.
+-- is the run itself. For any step. Working definitions, which no promise cites: `Renewed`, `Whole`.
+-- Assumes nothing.
 use Prim.Native.Nat.{ℕ, zero, suc, _+_, _*_, _≤_}
 use native.Mathlib.Omega.{arith}
-use native.Mathlib.Nat.{zero-add, add-zero}
+use native.Mathlib.Nat.{zero-add}
 use mathlib.Core.Bool.{Bool, true, false}
 use mathlib.Core.Path.{_≡_, refl, sym, ap, _∙_}
 use mathlib.Core.List.{List, [], _∷_, _++_}
@@ -10,9 +11,9 @@ use lib.ListN.{length, take}
 use lib.Ieee.{Float}
 use Rattle.tuple.specs.declared.Tuple.{Tuple}
 use Rattle.helmert.specs.declared.State.{State}
-use Rattle.lists.specs.Flat.{fourOf, numbersOf, tupleAt}
+use Rattle.lists.specs.Flat.{fourOf, numbersOf}
 use Rattle.lists.specs.Run.{Turn, Turns, ranOf, trackOf, stateAfterOf}
-use Rattle.lists.proofs.Results.{tuple-first, tuple-beyond, state-keeps}
+use Rattle.lists.proofs.Results.{tuple-first, state-keeps}
 use Rattle.stretch.specs.Same.{alikeOf}
 use Rattle.stretch.specs.Kept.{trackedOf, heldOf}
 use Rattle.stretch.proofs.Data.{alike-are-equal}

@@ -1,4 +1,5 @@
--- The stretch is the one that the words define, and there is no other. Assumes nothing.
+-- The stretch is the one that the words define, and there is no other. Working definition, which no
+-- promise cites: `First`. Assumes nothing.
 use Prim.Native.Nat.{ℕ, zero, suc, _+_, _-_, _*_, _/_, _≤_, _<_}
 use native.Mathlib.Omega.{arith}
 use native.Mathlib.Nat.{add-zero, zero-add}
