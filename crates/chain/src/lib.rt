@@ -64,9 +64,9 @@ fn cart_of(kind: u32, b: &[u8]) -> Cart
     Cart::blank()
 }
 
-// A body over the list, read where it lies: the kind is decided here, once a list, and no step of
-// any kind is made to be taken apart again. Helmert's stands apart from the others', so that
-// neither has the other's columns on the stack.
+// Runs one step over the list, reading its record from the sheet's bytes. No `Step` is built: the
+// enum is as large as a Helmert record and would be copied at each call. Helmert stands apart from
+// the other kinds, so that the columns of one are not on the stack of the other.
 fn run_helmert(
     inv: bool,
     kind: u32,
@@ -113,8 +113,9 @@ fn run_other(
     runs::run_cart(list, inv, cart_of(held, b))
 }
 
-// The step at an index over the list, in the chain's direction. One function a direction: what both
-// call is then not laid into their own frame.
+// The step at index i over the list, in the chain's direction. Two copies on purpose. The compiler
+// inlines a function that has one caller; with a single `step_at` the frames of `run_helmert` and
+// `run_other` would add up (examples/c/stack.c holds the limit).
 fn forward_at(s: &[u8], i: usize, list: &mut [f64], velocities: &[f64], marks: &[u8]) -> usize
     requires { ⌜ i < stepCountOf (now s) ⌝ }
     ensures { λ r. ⌜ (now (list .exit) ≡ stepListOf false (now (velocities .entry)) (now (marks .entry)) (entryAt (now (s .entry)) i) (now (list .entry)))

@@ -1,10 +1,11 @@
 // Where a sheet breaks rule 4: the byte at which the first word stands that is outside its rule.
 //
-// Rule 4 is of the sheet as a whole and answered with step 0; a fitter wants the place. In the
-// order of rule 4's own words: the directory offset, the step count of a directory outside the
-// sheet, then entry by entry its kind, inverted word, body length and body offset, and last the
-// total length at which the bodies do not end. The laws tie the place to the rule:
-// `fault-in-the-directory` and `no-fault-in-an-entry`. Used by `show`.
+// Rule 4 is of the sheet as a whole and answered with step 0; a fitter wants the place. The words
+// are asked in the order of rule 4's own text: the directory offset, the step count of a directory
+// outside the sheet, then entry by entry its kind, inverted word, body length and body offset, and
+// last the total length at which the bodies do not end. Proved of every sheet that breaks rule 4
+// and keeps those before it: the byte named is that of the first word outside its rule, and the
+// sheet has that word (`fault-in-the-directory`). Used by `show`.
 ghost use mathlib.Core.Path.{_≡_};
 ghost use Prim.Native.Nat.{_+_, _<_, _≤_};
 ghost use Rattle.sheet.specs.Layout.{stepCountOf};

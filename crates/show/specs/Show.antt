@@ -3,9 +3,10 @@
 use Prim.Native.Nat.{ℕ, zero, suc, _+_, _-_}
 use mathlib.Core.Bool.{cond}
 use mathlib.Core.List.{List, [], _++_}
-use lib.Dec.{eqb}
+use lib.Dec.{eqb, ltb}
 use lib.ListN.{length}
-use Rattle.sheet.specs.Layout.{formOf, totalLengthOf, stepCountOf, directoryOffsetOf, entryOffset, kindAt, invertedAt, offsetAt, lengthAt}
+use Rattle.words.specs.Words.{word32}
+use Rattle.sheet.specs.Layout.{stepCountOf, entryOffset, kindAt, invertedAt, offsetAt, lengthAt}
 use Rattle.sheet.specs.Rules.{refusalOf}
 use Rattle.text.specs.Ascii.{ascii}
 use Rattle.text.specs.Digits.{decimalOf}
@@ -19,15 +20,16 @@ lineOf name n = name ++ decimalOf n ++ ascii "\n"
 
 -- ---- the header: form; total length; step count; directory offset
 
-unfoldable pub headerText : ℕ → ℕ → ℕ → ℕ → List ℕ
-headerText form total count offset =
-    lineOf (ascii "form: ") form
-    ++ lineOf (ascii "total length: ") total
-    ++ lineOf (ascii "step count: ") count
-    ++ lineOf (ascii "directory offset: ") offset
+-- the word at an offset; of a sheet that is too short to have it, that it is missing
+unfoldable pub headLine : List ℕ → List ℕ → ℕ → List ℕ
+headLine name s offset = cond (ltb (length s) (offset + 4)) (name ++ ascii "missing\n") (lineOf name (word32 s offset))
 
 unfoldable pub headText : List ℕ → List ℕ
-headText s = headerText (formOf s) (totalLengthOf s) (stepCountOf s) (directoryOffsetOf s)
+headText s =
+    headLine (ascii "form: ") s 0
+    ++ headLine (ascii "total length: ") s 4
+    ++ headLine (ascii "step count: ") s 8
+    ++ headLine (ascii "directory offset: ") s 12
 
 -- ---- a step: its directory entry, kind; inverted; body offset; body length; then its fields
 

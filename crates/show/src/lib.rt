@@ -2,15 +2,16 @@
 // words, with the step and the place.
 //
 // The text is fixed byte by byte by specs/Show.antt, for every sheet and a room of any length. A
-// refused sheet's text has the rule in document 01's words; for a refusal of the sheet as a whole
-// the byte of the word that it is about and the header; for a step's refusal the bytes of its
-// directory entry and its body, and the whole step as it is. Used by the program sheet_show.
+// refused sheet's text has the rule in document 01's words. For a refusal of the sheet as a whole
+// it has the byte of the word that the refusal is about, and the header, as far as the sheet has
+// it. For a step's refusal it has the bytes of the directory entry and of the body, and the whole
+// step as it is. Used by the program sheet_show.
 ghost use mathlib.Core.Path.{_≡_};
-ghost use Prim.Native.Nat.{_+_, _-_, _<_};
+ghost use Prim.Native.Nat.{_+_, _-_, _<_, _≤_};
 ghost use lib.ListN.{length};
 ghost use Rattle.text.specs.Text.{text, appended};
 ghost use Rattle.text.specs.Digits.{decimalOf};
-ghost use Rattle.show.specs.Show.{lineOf, headerText, headText, entryText, stepText, stepsText, acceptedText, ruleText, answerText, wordPlace, sheetPlace, stepPlace, refusedText, showText};
+ghost use Rattle.show.specs.Show.{lineOf, headLine, headText, entryText, stepText, stepsText, acceptedText, ruleText, answerText, wordPlace, sheetPlace, stepPlace, refusedText, showText};
 
 fn put_count(room: &mut [u8], at: usize, n: usize) -> usize
     ensures { λ r. ⌜ text (now (room .exit)) r ≡ appended (text (now (room .entry)) at) (decimalOf n) ⌝ }
@@ -34,23 +35,25 @@ fn put_word(room: &mut [u8], at: usize, name: &[u8], n: u32) -> usize
 
 // ----- the header -------------------------------------------------------------------------
 
-fn put_header(room: &mut [u8], at: usize, form: u32, total: u32, count: u32, offset: u32) -> usize
-    ensures { λ r. ⌜ text (now (room .exit)) r ≡ appended (text (now (room .entry)) at) (headerText form total count offset) ⌝ }
+// The word at an offset; of a sheet that is too short to have it, that it is missing.
+fn put_head_word(room: &mut [u8], at: usize, name: &[u8], s: &[u8], offset: usize) -> usize
+    requires { ⌜ offset ≤ 12 ⌝ }
+    ensures { λ r. ⌜ text (now (room .exit)) r ≡ appended (text (now (room .entry)) at) (headLine (now (name .entry)) (now (s .entry)) offset) ⌝ }
 {
-    let p = put_word(room, at, b"form: ", form);
-    let q = put_word(room, p, b"total length: ", total);
-    let r = put_word(room, q, b"step count: ", count);
-    put_word(room, r, b"directory offset: ", offset)
+    if s.len() < offset + 4 {
+        let p = text::put_bytes(room, at, name);
+        return text::put_bytes(room, p, b"missing\n");
+    }
+    put_word(room, at, name, words::read32(s, offset))
 }
 
 fn put_head(room: &mut [u8], at: usize, s: &[u8]) -> usize
     ensures { λ r. ⌜ text (now (room .exit)) r ≡ appended (text (now (room .entry)) at) (headText (now (s .entry))) ⌝ }
 {
-    let form = words::read32(s, 0);
-    let total = words::read32(s, 4);
-    let count = words::read32(s, 8);
-    let offset = words::read32(s, 12);
-    put_header(room, at, form, total, count, offset)
+    let p = put_head_word(room, at, b"form: ", s, 0);
+    let q = put_head_word(room, p, b"total length: ", s, 4);
+    let r = put_head_word(room, q, b"step count: ", s, 8);
+    put_head_word(room, r, b"directory offset: ", s, 12)
 }
 
 // ----- a step -----------------------------------------------------------------------------

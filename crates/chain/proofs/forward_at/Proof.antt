@@ -1,10 +1,9 @@
--- One case for each return. Calls are replaced by what they ensure; the definition is left.
--- Assumes nothing.
+-- What the body runs as is what the step runs as (`at-index`), by whichever of the two functions it
+-- runs. Assumes nothing.
 use mathlib.Core.Path.{sym, _∙_}
 use borrow.Author.Needs.{needs}
-use borrow.Author.Tests.{lt-ltb}
-use Rattle.sheet.specs.Layout.{entryAt}
-use Rattle.chain.specs.Chain.{bodyListOf, bodyCountOf, stepListOf, tuplesCountedOf}
+use mathlib.Core.Bool.{false}
+use Rattle.chain.proofs.AtIndex.{at-index}
 use Rattle.chain.proofs.forward_at.Statement.{statement}
 use Rattle.chain.proofs.forward_at.Tie as tie
 
@@ -30,17 +29,11 @@ same-length : tie.Need-same-length
 same-length c = search needs
 
 returns : tie.Need-returns
-unfolding stepListOf tuplesCountedOf entryAt bodyListOf bodyCountOf
 returns c =
     let f = c .before .before .before .before .before .before in
-    rw (lt-ltb _ _ (f .before .before .before .before .before .before .before .before .pre))
-    (rw (
-      f .body-at .ensures,
-      f .before .kind-at .ensures,
-      f .before .before .reversed-by .ensures,
-      f .before .before .before .inverted-at .ensures,
-    )
-    at (c .before .before .run-helmert .ensures))
+    let t = f .before .before .before in
+    at-index false _ _ _ _ _ (t .before .before .before .before .before .pre) (t .inverted-at .ensures) (f .before .before .reversed-by .ensures)
+    (f .before .kind-at .ensures) (f .body-at .ensures) (c .before .before .run-helmert .ensures)
 
 run-other-requires : tie.Need-run-other-requires
 run-other-requires c κs = λ e. c .before .if1 .left (c .before .before .held-kind .ensures ∙ e)
@@ -49,17 +42,11 @@ same-length-2 : tie.Need-same-length-2
 same-length-2 c = search needs
 
 returns-2 : tie.Need-returns-2
-unfolding stepListOf tuplesCountedOf entryAt bodyListOf bodyCountOf
 returns-2 c =
     let f = c .before .before .before .before .before .before in
-    rw (lt-ltb _ _ (f .before .before .before .before .before .before .before .before .pre))
-    (rw (
-      f .body-at .ensures,
-      f .before .kind-at .ensures,
-      f .before .before .reversed-by .ensures,
-      f .before .before .before .inverted-at .ensures,
-    )
-    at (c .before .before .run-other .ensures))
+    let t = f .before .before .before in
+    at-index false _ _ _ _ _ (t .before .before .before .before .before .pre) (t .inverted-at .ensures) (f .before .before .reversed-by .ensures)
+    (f .before .kind-at .ensures) (f .body-at .ensures) (c .before .before .run-other .ensures)
 
 pub forward-at-spec : {M : Type 1} → statement M
 forward-at-spec =
