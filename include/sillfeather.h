@@ -1,28 +1,47 @@
 /* Sillfeather, the datum-shift library of ship-borne positioning pairs, as C and C++ call it.
  *
- * Link target/staticlib/libsillfeather.a (`rt staticlib sillfeather`, x86-64 Linux), or what `tools/archive sillfeather` writes to target/native for the
- * machine at hand. Of the C library it calls at most memcpy, memmove and memset. There is no start-up call, no heap, and no state between calls, so that any
- * number of threads may call at once, each with memory of its own to be written.
+ * Link target/staticlib/libsillfeather.a (`rt staticlib sillfeather`, x86-64 Linux), or what
+ * `tools/archive sillfeather` writes to target/native for the machine at hand. Of the C library it
+ * calls at most memcpy, memmove and memset. There is no start-up call, no heap, and no state
+ * between calls, so any number of threads may call at once, each with memory of its own to be
+ * written.
  *
- * A TUPLE is four doubles: three coordinates (radians or metres) and a time in years. A LIST is tuples one after another, 0 to 2,048 of them, so up to 8,192
- * doubles. Any bits are allowed: NaNs and infinities are numbers like others, and no call refuses them in a list.
+ * A TUPLE is four doubles: three coordinates (radians or metres) and a time in years. A LIST is
+ * tuples one after another, 0 to 2,048 of them, so up to 8,192 doubles. Any bits are allowed: NaNs
+ * and infinities are numbers like others, and no call refuses them in a list.
  *
- * A SHEET is 16 to 4,240 bytes that name 1 to 16 steps with their parameters. docs/FORMAT.md gives it byte by byte; the sillfeather_add_ functions below make
- * one without a byte placed by hand.
+ * A SHEET is 16 to 4,240 bytes that name 1 to 16 steps with their parameters. docs/FORMAT.md gives
+ * it byte by byte; the sillfeather_add_ functions below make one without a byte placed by hand.
  *
  * LENGTHS count elements: bytes of a sheet, doubles of a list.
  *
- * A RESULT of type uint32_t is 0 where the call is done. Otherwise the call is refused: the result is the refusal's number plus 65536 times the step, which is
- * counted from 1 and is 0 where no step is to blame. A refused call leaves all the memory lent to it as it was, but that `counts` gets zeros and `*redone` 0.
- * A refusal is given exactly when its rule is broken and no rule before it in the function's order is.
+ * A RESULT of type uint32_t is 0 where the call is done. Otherwise the call is refused: the result
+ * is the refusal's number plus 65536 times the step, which is counted from 1 and is 0 where no step
+ * is to blame. A refused call leaves all the memory lent to it as it was, but that `counts` gets
+ * zeros and `*redone` 0. A refusal is given exactly when its rule is broken and no rule before it
+ * in the function's order is.
  *
- * WHAT IS PROVED. For each function, and for every input, that the result and the memory afterwards are what its definition says (crates/sillfeather/src/lib.rt
- * has the contract, docs/CONFORMANCE.md the way from document 01 to it); that it ends; and that it touches nothing but what it is lent. What is said below of
- * what a call reads, writes, refuses and leaves alone follows from that. The compiler and the machine's binary64 arithmetic are assumed.
+ * WHAT IS PROVED. For each function, and for every input, that the result and the memory afterwards
+ * are what its definition says (crates/sillfeather/src/lib.rt has the contract, docs/CONFORMANCE.md
+ * the way from document 01 to it); that it ends; and that it touches nothing but what it is lent.
+ * What is said below of what a call reads, writes, refuses and leaves alone follows from that. The
+ * compiler and the machine's binary64 arithmetic are assumed.
  *
- * WHAT THE CALLER OWES. Each pointer leads to as many elements as the length beside it says, or the array's size in the declaration, aligned as C aligns them.
- * Where a length is 0 its pointer is not followed and may be null; no other pointer may be. What a call may write overlaps with nothing else that is lent to that
- * call, and nobody else reads or writes it meanwhile; two things that a call only reads may overlap. The processor rounds to the nearest, as C programs start.
+ * WHAT THE CALLER OWES.
+ *   Memory    Each pointer leads to as many elements as the length beside it says, or the array's
+ *             size in the declaration, aligned as C aligns them. Where a length is 0 its pointer is
+ *             not followed and may be null; no other pointer may be. What a call may write overlaps
+ *             with nothing else that is lent to that call, and nobody else reads or writes it
+ *             meanwhile; two things that a call only reads may overlap.
+ *   Machine   size_t has 64 bits.
+ *   Rounding  The processor is in the state that C programs start in: it rounds to the nearest and
+ *             keeps subnormal numbers, with neither flush-to-zero nor denormals-are-zero set. A
+ *             program that is linked with -ffast-math may set both. The archive rounds each
+ *             multiplication and each addition apart; whoever compiles it again must not let the
+ *             compiler contract the two into one operation.
+ *   Stack     sillfeather_check, sillfeather_shift, sillfeather_keep and sillfeather_correct need
+ *             up to 5 kB of stack, each sillfeather_add_ function up to 32 kB. examples/c/stack.c
+ *             holds these limits.
  */
 #ifndef SILLFEATHER_H
 #define SILLFEATHER_H
@@ -35,38 +54,43 @@
 extern "C" {
 #endif
 
-/* ----- limits ---------------------------------------------------------------------------------------------------------------------------------------- */
+/* ----- limits -------------------------------------------------------------------------------- */
 
 #define SILLFEATHER_SHEET_MIN 16   /* bytes */
 #define SILLFEATHER_SHEET_MAX 4240 /* bytes: a room that any sheet fits */
 #define SILLFEATHER_STEPS_MAX 16
 #define SILLFEATHER_TUPLES_MAX 2048
 
-/* ----- results --------------------------------------------------------------------------------------------------------------------------------------- */
+/* ----- results ------------------------------------------------------------------------------- */
 
-#define SILLFEATHER_NUMBER(result) ((uint32_t)(result) & 0xffffu) /* the refusal's number, 0 for none */
-#define SILLFEATHER_STEP(result) ((uint32_t)(result) >> 16)       /* the step to blame, from 1; else 0 */
+#define SILLFEATHER_NUMBER(result) ((uint32_t)(result) & 0xffffu) /* the refusal's number, else 0 */
+#define SILLFEATHER_STEP(result) ((uint32_t)(result) >> 16)       /* the step to blame, or 0 */
 
 enum {
     SILLFEATHER_DONE = 0,
-    SILLFEATHER_REFUSED_LENGTH = 1,       /* fewer than 16 or more than 4,240 bytes, or not as many as the sheet's total length says */
+    SILLFEATHER_REFUSED_LENGTH = 1,       /* fewer than 16 or more than 4,240 bytes, or not as many
+                                             as the sheet's total length says */
     SILLFEATHER_REFUSED_FORM = 2,         /* the form is not 1 */
     SILLFEATHER_REFUSED_COUNT = 3,        /* no step, or more than 16 */
-    SILLFEATHER_REFUSED_DIRECTORY = 4,    /* a directory offset, kind, inverted word, body length or body offset outside its rule */
+    SILLFEATHER_REFUSED_DIRECTORY = 4,    /* a directory offset, kind, inverted word, body length or
+                                             body offset outside its rule; a directory that does not
+                                             fit into the sheet; or bodies that do not end at the
+                                             sheet's end */
     SILLFEATHER_REFUSED_FIELD = 5,        /* a field of the step's body is outside its rule */
     SILLFEATHER_REFUSED_CONVENTION = 6,   /* Helmert: rotated, and no convention */
     SILLFEATHER_REFUSED_EPOCH = 7,        /* Helmert: dynamic, and t_epoch not given */
     SILLFEATHER_REFUSED_DURATION = 8,     /* deformation: neither dt nor t_epoch given */
-    SILLFEATHER_REFUSED_LIST = 9,         /* a list that is not of whole tuples, or of more than 2,048 */
-    SILLFEATHER_REFUSED_VELOCITIES = 10,  /* velocities or marks of the wrong length, or a mark over 1 */
+    SILLFEATHER_REFUSED_LIST = 9,         /* a list not of whole tuples, or of more than 2,048 */
+    SILLFEATHER_REFUSED_VELOCITIES = 10,  /* velocities or marks of wrong length; a mark over 1 */
     SILLFEATHER_REFUSED_DEFORMATION = 11, /* a second deformation step */
     SILLFEATHER_REFUSED_KEPT_SHEET = 12,  /* kept run: the sheet is not one Helmert step */
     SILLFEATHER_REFUSED_KEPT_LENGTH = 13, /* kept run: results or track not as long as the list */
-    SILLFEATHER_REFUSED_INDEX = 14,       /* the corrected fix's index is not below the number of tuples */
+    SILLFEATHER_REFUSED_INDEX = 14,       /* the corrected fix's index is not below the number of
+                                             tuples */
     SILLFEATHER_REFUSED_ROOM = 15         /* the room is too short for the sheet */
 };
 
-/* ----- a sheet over a list ----------------------------------------------------------------------------------------------------------------------------- */
+/* ----- a sheet over a list ------------------------------------------------------------------- */
 
 /* Whether a sheet breaks no rule.
  *   Reads     the sheet.
@@ -74,45 +98,58 @@ enum {
  *   Refuses   1, 2, 3, 4; then step by step 5, 6, 7, 8; then 11. With the step: 5 to 8 and 11. */
 uint32_t sillfeather_check(const uint8_t *sheet, size_t sheet_len);
 
-/* Runs a sheet's steps over a list, in place: in order where `inverse` is 0, else in reverse with each step turned round.
- *   Reads     the sheet, the list, and, for a deformation step, a velocity (east, north, up, mm/year: three doubles) and a mark a tuple, in the list's order: 1
- *             where the velocity is present, 0 where it is absent. A sheet without a deformation step asks for both of length 0.
- *   Writes    the list; and all 16 counts: how many tuples each step counted, in the sheet's order and never over 2,048, 0 where there is no such step.
+/* Runs a sheet's steps over a list, in place: in order where `inverse` is 0, else in reverse with
+ * each step turned round.
+ *   Reads     the sheet, the list, and, for a deformation step, a velocity (east, north, up,
+ *             mm/year: three doubles) and a mark a tuple, in the list's order: 1 where the velocity
+ *             is present, 0 where it is absent. A sheet without a deformation step asks for both of
+ *             length 0.
+ *   Writes    the list; and all 16 counts: how many tuples each step counted, in the sheet's order
+ *             and never over 2,048, 0 where there is no such step.
  *   Refuses   as sillfeather_check; then 9, then 10.
  *   Leaves    on refusal the list as it was, and zeros in counts. */
 uint32_t sillfeather_shift(uint32_t inverse, const uint8_t *sheet, size_t sheet_len, double *list, size_t list_len, const double *velocities,
                            size_t velocities_len, const uint8_t *marks, size_t marks_len, uint32_t counts[16]);
 
-/* ----- the kept run ------------------------------------------------------------------------------------------------------------------------------------ */
+/* ----- the kept run -------------------------------------------------------------------------- */
 
-/* A run that is kept, to be corrected later: the list stays, and the results and the track go where the caller keeps them. The sheet is one Helmert step.
+/* A run that is kept, to be corrected later: the list stays, and the results and the track go where
+ * the caller keeps them. The sheet is one Helmert step.
  *   Reads     the sheet and the list.
- *   Writes    results: what sillfeather_shift makes of the list. track: four doubles a fix, the state after it: the last time and the translation.
+ *   Writes    results: what sillfeather_shift makes of the list. track: four doubles a fix, the
+ *             state after it: the last time and the translation.
  *   Refuses   as sillfeather_check; then 12, 9, 13.
  *   Leaves    the list; on refusal results and track as they were. */
 uint32_t sillfeather_keep(uint32_t inverse, const uint8_t *sheet, size_t sheet_len, const double *list, size_t list_len, double *results,
                           size_t results_len, double *track, size_t track_len);
 
-/* Corrects one fix of a kept run: puts it in the list at `index`, counted in tuples from 0, and redoes from there until the carried state is the one that the
- * track has, else to the end. With `inverse`, sheet, list, results and track of a sillfeather_keep that was done, and of corrections after it, the three lists
- * end as a sillfeather_keep of the corrected list would leave them.
+/* Corrects one fix of a kept run: puts it in the list at `index`, counted in tuples from 0, and
+ * redoes from there until the carried state is the one that the track has, else to the end. With
+ * `inverse`, sheet, list, results and track of a sillfeather_keep that was done, and of corrections
+ * after it, the three lists end as a sillfeather_keep of the corrected list would leave them.
  *   Reads     the sheet, the list, the fix, and the track.
- *   Writes    the list's tuple at `index`; results and track of the fixes redone and of no others; *redone, how many those are: at least 1.
+ *   Writes    the list's tuple at `index`; results and track of the fixes redone and of no others;
+ *             *redone, how many those are: at least 1.
  *   Refuses   as sillfeather_check; then 12, 9, 13, 14.
  *   Leaves    on refusal list, results and track as they were, and 0 in *redone. */
 uint32_t sillfeather_correct(uint32_t inverse, const uint8_t *sheet, size_t sheet_len, double *list, size_t list_len, double *results,
                              size_t results_len, double *track, size_t track_len, size_t index, const double fix[4], uint64_t *redone);
 
-/* ----- making a sheet ---------------------------------------------------------------------------------------------------------------------------------- */
+/* ----- making a sheet ------------------------------------------------------------------------ */
 
-/* Each function adds one step at the end of the sheet that stands in the first *sheet_len bytes of the room; *sheet_len is 0 where there is none yet. Added to
- * nothing one after another, steps give the bytes that the proved writer gives for a record of those steps, and a sheet that sillfeather_check accepts.
+/* Each function adds one step at the end of the sheet that stands in the first *sheet_len bytes of
+ * the room; *sheet_len is 0 where there is none yet. Added to nothing one after another, steps give
+ * the bytes that the proved writer gives for a record of those steps, and a sheet that
+ * sillfeather_check accepts.
  *   Reads     the sheet in the room, and the numbers.
- *   Writes    the new sheet at the room's start, and nothing after it; *sheet_len, its length. A room of SILLFEATHER_SHEET_MAX bytes is never too short.
- *   Refuses   first what stands in the room, as sillfeather_check (1 too where *sheet_len is more than the room's length); then the sheet with the step added:
- *             3, a seventeenth step; 4, `inverted` neither 0 nor 1; step by step 5, 6, 7, 8; 11; 15, the room too short.
+ *   Writes    the new sheet at the room's start, and nothing after it; *sheet_len, its length. A
+ *             room of SILLFEATHER_SHEET_MAX bytes is never too short.
+ *   Refuses   first what stands in the room, as sillfeather_check (1 too where *sheet_len is more
+ *             than the room's length); then the sheet with the step added: 3, a seventeenth step;
+ *             4, `inverted` neither 0 nor 1; step by step 5, 6, 7, 8; 11; 15, the room too short.
  *   Leaves    on refusal the room and *sheet_len as they were.
- * `inverted` is 1 where the step is to run the other way round. All numbers are finite, save that t_epoch, t_obs and dt may be a NaN, which is "not given". */
+ * `inverted` is 1 where the step is to run the other way round. All numbers are finite, save that
+ * t_epoch, t_obs and dt may be a NaN, which is "not given". */
 
 #define SILLFEATHER_NOT_GIVEN ((double)NAN)
 
@@ -127,7 +164,7 @@ enum {
 
 /* Helmert: flags, to be added up, and the rotation's convention. */
 enum {
-    SILLFEATHER_HELMERT_EXACT = 1,    /* the rotation matrix by sines and cosines, not for small angles */
+    SILLFEATHER_HELMERT_EXACT = 1,    /* the matrix by sines and cosines, not small-angle */
     SILLFEATHER_HELMERT_UAS = 2,      /* angles in micro-arcseconds, not in arcseconds */
     SILLFEATHER_HELMERT_MM = 4,       /* lengths in millimetres, not in metres */
     SILLFEATHER_HELMERT_OWN_EPOCH = 8 /* each tuple at its own time, not running */
@@ -139,8 +176,9 @@ enum {
     SILLFEATHER_COORDINATE_FRAME = 2
 };
 
-/* The 30 numbers of a Helmert step, in the body's order. A single (x, dx, rx, drx, ..) that is not zero wins over its place in the series before it, and so
- * do scale over s and scale_rate over ds. */
+/* The 30 numbers of a Helmert step, in the body's order. A single (x, dx, rx, drx, ..) that is not
+ * zero wins over its place in the series before it, and so do scale over s and scale_rate over
+ * ds. */
 struct sillfeather_helmert {
     double translation[3];      /* metres, or mm */
     double xyz[3];              /* singles of the translation */
@@ -175,7 +213,8 @@ uint32_t sillfeather_add_helmert(uint8_t *room, size_t room_len, uint64_t *sheet
 /* Geographic (longitude, latitude, height) to cartesian. */
 uint32_t sillfeather_add_cart(uint8_t *room, size_t room_len, uint64_t *sheet_len, uint32_t inverted, uint32_t ellipsoid);
 
-/* Molodensky: flags, to be added up. With two ellipsoids da and df are the second's less the first's, and the numbers da and df are +0; without, second is 0. */
+/* Molodensky: flags, to be added up. With two ellipsoids da and df are the second's less the
+ * first's, and the numbers da and df are +0; without, second is 0. */
 enum {
     SILLFEATHER_MOLODENSKY_ABRIDGED = 1,
     SILLFEATHER_MOLODENSKY_TWO_ELLIPSOIDS = 2
@@ -206,14 +245,17 @@ enum {
 uint32_t sillfeather_add_deformation(uint8_t *room, size_t room_len, uint64_t *sheet_len, uint32_t inverted, uint32_t flags, uint32_t ellipsoid,
                                      double dt, double t_epoch);
 
-/* ----- the kernels ------------------------------------------------------------------------------------------------------------------------------------- */
+/* ----- the kernels --------------------------------------------------------------------------- */
 
-/* On any doubles; nothing is refused. docs/KERNELS.md has each one's sequence of operations, its special cases (proved) and its error (measured). */
+/* On any doubles; nothing is refused. docs/KERNELS.md has each one's sequence of operations, its
+ * special cases (proved) and its error (measured). */
 
-/* The square root, correctly rounded: -0 of -0, +infinity of +infinity, NaN of a negative number or a NaN. */
+/* The square root, correctly rounded: -0 of -0, +infinity of +infinity, NaN of a negative number or
+ * of a NaN. */
 double sillfeather_sqrt(double x);
 
-/* Sine and cosine of x in radians: within -1 to 1; NaN where x is not finite or beyond 1024 either way. */
+/* Sine and cosine of x in radians: within -1 to 1; NaN where x is not finite or beyond 1024 either
+ * way. */
 double sillfeather_sin(double x);
 double sillfeather_cos(double x);
 

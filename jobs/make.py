@@ -2,8 +2,9 @@
 
     make.py FOLDER      writes NAME.job and NAME.out for each job below
 
-Document 01, "Program", "Marked points" and "Numbers of refusal"; docs/FORMAT.md has the job byte by byte. Sheets are made by oracle/damaged.py. The texts
-are written from document 01, by no code of the library.
+Document 01, "Program", "Marked points" and "Numbers of refusal"; docs/FORMAT.md has the job byte by
+byte. Sheets are made by oracle/damaged.py. The texts are written from document 01, by no code of the
+library. Of the marked points P6 has no job: the program keeps no run.
 """
 import math
 import os
@@ -13,7 +14,7 @@ import sys
 HERE = os.path.dirname(os.path.abspath(__file__))
 sys.path.insert(0, os.path.join(HERE, "../oracle"))
 sys.dont_write_bytecode = True
-from damaged import NOT_GIVEN, cart, deformation, helmert, permtide, sheet
+from damaged import NOT_GIVEN, cart, deformation, helmert, molodensky, permtide, sheet
 
 # ---- jobs ----------------------------------------------------------------------------------
 
@@ -87,6 +88,10 @@ JOBS = {
     ),
     "p7": (job(GRS80[:-1], [ORIGIN]), refused(1)),
     "p8": (job(GRS80, [(0.0, 0.0, 7000000.0, 0.0)], inverse=1), ran([0], [(0.0, math.pi / 2, 7000000.0 - B, 0.0)])),
+    "p9": (
+        job(sheet([molodensky(first=1, offsets=(0.0,) * 5)]), [(0.0, 0.0, -6378137.0, 0.0)]),
+        ran([1], [(NOT_GIVEN,) * 3 + (0.0,)]),
+    ),
     "p10": (job(sheet([permtide()]), [ORIGIN]), ran([1], [(0.0, 0.0, 0.099, 0.0)])),
     "p11": (job(sheet([helmert(convention=0, n15=1.0, t_epoch=NOT_GIVEN)])), refused(6, 1)),
     "p12": (job(sheet([helmert(n9=1.0, t_epoch=NOT_GIVEN)])), refused(7, 1)),

@@ -164,8 +164,10 @@ FIELDS = {1: helmert_lines, 2: cart_lines, 3: molodensky_lines, 4: permtide_line
 
 
 def head(s):
+    """The header's words; one that the sheet ends before, or in the middle of, is missing."""
     for i, name in enumerate(["form", "total length", "step count", "directory offset"]):
-        yield "%s: %d" % (name, word(s, 4 * i))
+        whole = len(s[4 * i : 4 * i + 4]) == 4
+        yield "%s: %s" % (name, word(s, 4 * i) if whole else "missing")
 
 
 def step(s, i):
@@ -261,6 +263,8 @@ STORED = {
     "deformation": sheet([deformation(flags=1, ellipsoid=5, dt=-2.5)], [0]),
     "refused_1": P1[:-1],
     "refused_1_empty": b"",
+    "refused_1_in_a_word": P1[:11],
+    "refused_1_header_cut": P1[:12],
     "refused_2": set_word(P1, 0, 2),
     "refused_3": sheet([cart()] * 17, [0] * 17),
     "refused_3_none": sheet([], []),

@@ -1,4 +1,5 @@
--- What is true of jobs and answers, for callers to cite. Assumes nothing.
+-- What is true of jobs and answers, for callers to cite. Working definition, which no promise
+-- cites: `Good`. Assumes nothing.
 use mathlib.Core.Path.{_≡_, refl, sym, ap, _∙_}
 use Prim.Native.Nat.{ℕ, _+_, _-_, _*_, _<_, _≤_}
 use mathlib.Core.Bool.{Bool, true, false, not, cond, _||_}
@@ -12,16 +13,16 @@ use lib.Ieee.{Float}
 use borrow.Author.Tests.{ltb-false, eqb-true, eqb-false, not-false}
 use Rattle.sheet.specs.declared.Entry.{Entry}
 use Rattle.sheet.specs.Layout.{stepCountOf, kindAt, entryAt}
-use Rattle.sheet.specs.Rules.{refusalOf, deformationBefore}
+use Rattle.sheet.specs.Rules.{refusalOf, hasDeformation}
 use Rattle.sheet.proofs.Order.{neither, accepted-count}
-use Rattle.chain.specs.Chain.{forwardOf, inverseOf, chainOf, entriesOf, stepListOf}
+use Rattle.chain.specs.Chain.{chainForwardOf, chainInverseOf, chainOf, entriesOf, stepListOf}
 use Rattle.chain.specs.Rules.{Outcome, shiftOf, outcomeOf, shiftRefusalOf}
 use Rattle.chain.proofs.Laws.{step-length}
 use Rattle.chain.proofs.Outcome.{refused-own}
 use Rattle.text.specs.Text.{text, appended}
 use Rattle.text.proofs.Laws.{fits}
 use Rattle.job.specs.Job.{headOf, tuplesAt, velocitiesAt, marksAt, endAt, refusal16, numbersOf, sheetOf, tuplesOf, velocitiesOf, marksOf}
-use Rattle.job.specs.Job.{inverseOf as inverseJob}
+use Rattle.job.specs.Job.{asksInverse}
 use Rattle.job.specs.declared.Head.{Head}
 use Rattle.job.proofs.Laws.{length-numbersOf}
 use Rattle.report.specs.Report.{refusedText, ranText}
@@ -83,16 +84,16 @@ pick-length : (b : Bool) (x y : Outcome) (n : ℕ) → length (x .list) ≡ n �
 pick-length true x y n p q = p
 pick-length false x y n p q = q
 
-forward-length : (velocities : List Float) (marks : List ℕ) (es : List Entry) (l : List Float) → length (forwardOf velocities marks es l .list) ≡ length l
-unfolding forwardOf
+forward-length : (velocities : List Float) (marks : List ℕ) (es : List Entry) (l : List Float) → length (chainForwardOf velocities marks es l .list) ≡ length l
+unfolding chainForwardOf
 forward-length velocities marks [] l = refl
 forward-length velocities marks (e ∷ es) l =
     forward-length velocities marks es (stepListOf false velocities marks e l) ∙ step-length false velocities marks e l
 
-inverse-length : (velocities : List Float) (marks : List ℕ) (es : List Entry) (l : List Float) → length (inverseOf velocities marks es l .list) ≡ length l
-unfolding inverseOf
+inverse-length : (velocities : List Float) (marks : List ℕ) (es : List Entry) (l : List Float) → length (chainInverseOf velocities marks es l .list) ≡ length l
+unfolding chainInverseOf
 inverse-length velocities marks [] l = refl
-inverse-length velocities marks (e ∷ es) l = step-length true velocities marks e (inverseOf velocities marks es l .list) ∙ inverse-length velocities marks es l
+inverse-length velocities marks (e ∷ es) l = step-length true velocities marks e (chainInverseOf velocities marks es l .list) ∙ inverse-length velocities marks es l
 
 chain-length : (inverse : Bool) (velocities : List Float) (marks : List ℕ) (es : List Entry) (l : List Float)
     → length (chainOf inverse velocities marks es l .list) ≡ length l
@@ -102,7 +103,7 @@ chain-length false velocities marks es l = forward-length velocities marks es l
 shift-length : (inverse : Bool) (s : List ℕ) (l velocities : List Float) (marks : List ℕ) → length (shiftOf inverse s l velocities marks .list) ≡ length l
 unfolding shiftOf outcomeOf
 shift-length inverse s l velocities marks =
-    pick-length (eqb (shiftRefusalOf (refusalOf s) (deformationBefore (kindAt s) (stepCountOf s)) l velocities marks .number) 0) _ _ (length l)
+    pick-length (eqb (shiftRefusalOf (refusalOf s) (hasDeformation (kindAt s) (stepCountOf s)) l velocities marks .number) 0) _ _ (length l)
     (chain-length inverse velocities marks (entriesOf (entryAt s) (stepCountOf s) 0) l) refl
 
 -- a sheet that runs has at most sixteen steps
@@ -115,7 +116,7 @@ few-steps inverse s l velocities marks h = by (eqb (refusalOf s .number) 0) refl
     by true e = accepted-count s (eqb-true (refusalOf s .number) 0 e)
     by false e =
         let broken = eqb-false (refusalOf s .number) 0 e in
-        let own = refused-own (refusalOf s) (deformationBefore (kindAt s) (stepCountOf s)) inverse (entriesOf (entryAt s) (stepCountOf s) 0) l velocities marks broken in
+        let own = refused-own (refusalOf s) (hasDeformation (kindAt s) (stepCountOf s)) inverse (entriesOf (entryAt s) (stepCountOf s) 0) l velocities marks broken in
         absurd (broken (ap (λ (o : Outcome). o .answer .refusal .number) (sym own) ∙ h))
 
 told-is-short : (steps : ℕ) (o : Outcome) → (o .answer .refusal .number ≡ 0 → steps ≤ 16) → length (o .list) ≤ 2048 → length (toldOf steps o) ≤ 35751
@@ -135,9 +136,9 @@ unfolding jobText
 job-is-short j g =
     let n : length (tuplesOf j) ≡ 4 * headOf j .tuples = length-tuples j in
     let t = g .tuples in
-    told-is-short (stepCountOf (sheetOf j)) (shiftOf (inverseJob j) (sheetOf j) (tuplesOf j) (velocitiesOf j) (marksOf j))
-    (few-steps (inverseJob j) (sheetOf j) (tuplesOf j) (velocitiesOf j) (marksOf j))
-    (rw (shift-length (inverseJob j) (sheetOf j) (tuplesOf j) (velocitiesOf j) (marksOf j)) (omega arith))
+    told-is-short (stepCountOf (sheetOf j)) (shiftOf (asksInverse j) (sheetOf j) (tuplesOf j) (velocitiesOf j) (marksOf j))
+    (few-steps (asksInverse j) (sheetOf j) (tuplesOf j) (velocitiesOf j) (marksOf j))
+    (rw (shift-length (asksInverse j) (sheetOf j) (tuplesOf j) (velocitiesOf j) (marksOf j)) (omega arith))
 
 -- No text is longer than 35,751 bytes, so that the program's room of 65,536 holds every one.
 pub text-is-short : (j : List ℕ) → length (answerOf j) ≤ 35751

@@ -7,7 +7,7 @@ use lib.ListN.{length}
 use lib.Ieee.{Float}
 use Rattle.sheet.specs.Layout.{stepCountOf}
 use Rattle.chain.specs.Rules.{Outcome, shiftOf}
-use Rattle.job.specs.Job.{headOf, refusal16, inverseOf, sheetOf, tuplesOf, velocitiesOf, marksOf}
+use Rattle.job.specs.Job.{headOf, refusal16, asksInverse, sheetOf, tuplesOf, velocitiesOf, marksOf}
 use Rattle.report.specs.Report.{refusedText, ranText}
 
 -- what is told of a sheet over a list: the run, or the refusal
@@ -22,7 +22,7 @@ shiftText inverse sheet list velocities marks = toldOf (stepCountOf sheet) (shif
 
 -- a job's sheet over its list
 unfoldable pub jobText : List ℕ → List ℕ
-jobText j = shiftText (inverseOf j) (sheetOf j) (tuplesOf j) (velocitiesOf j) (marksOf j)
+jobText j = shiftText (asksInverse j) (sheetOf j) (tuplesOf j) (velocitiesOf j) (marksOf j)
 
 -- A bad job is 16, before all others.
 unfoldable pub answerOf : List ℕ → List ℕ

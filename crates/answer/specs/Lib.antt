@@ -1,2 +1,3 @@
--- What the contracts of `answer` cite.
+-- What the contracts of `answer` cite; and P1's text.
 pub mod Answer
+pub mod MarkedPoints

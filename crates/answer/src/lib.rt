@@ -1,7 +1,9 @@
-// The program's work, from the bytes of a job to the bytes of its text: `job` reads, `chain` shifts, `report` tells.
+// The program's work, from the bytes of a job to the bytes of its text: `job` reads, `chain`
+// shifts, `report` tells.
 //
-// Document 01, "Program". The text is fixed for every job by specs/Answer.antt, in a room of any length; the longest text has 35,147 bytes. A bad job is 16,
-// before all others. No rounding but the steps' own. Used by the program `shift`.
+// Document 01, "Program". The text is fixed for every job by specs/Answer.antt, in a room of any
+// length; the longest text has 35,147 bytes. A bad job is 16, before all others. No rounding but
+// the steps' own. Used by the program `shift`.
 ghost use mathlib.Core.Path.{_≡_};
 ghost use Prim.Native.Nat.{_*_, _≤_};
 ghost use lib.ListN.{length};
@@ -72,7 +74,7 @@ pub fn answer(job: &[u8], room: &mut [u8]) -> usize
     }
     let mut list = zeros();
     let mut velocities = zeros();
-    let n = 4 * job::wide(head.tuples);
-    let m = 3 * job::wide(head.velocities);
+    let n = 4 * words::wide(head.tuples);
+    let m = 3 * words::wide(head.velocities);
     shifted(room, job, head, &mut list[..n], &mut velocities[..m])
 }

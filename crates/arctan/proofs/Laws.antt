@@ -1,4 +1,5 @@
--- What is true of `atan2Of` for every two numbers, for callers to cite: IEEE 754's cases, each by its name. Assumes nothing.
+-- What is true of `atan2Of` for every two numbers, for callers to cite: IEEE 754's cases, each by
+-- its name. Assumes nothing.
 use mathlib.Core.Path.{_≡_, refl, sym, ap, _∙_}
 use Prim.Native.Nat.{ℕ, zero, suc}
 use mathlib.Core.Bool.{Bool, true, false, cond, _||_, true≢false}
@@ -15,11 +16,8 @@ use Rattle.floats.proofs.Laws.{neg-neg}
 use Rattle.floats.proofs.Zero.{equals-zero}
 use Rattle.arctan.specs.Table.{quarterPi, halfPi, threeQuarterPi, pi, octants, octantAt}
 use Rattle.arctan.specs.Arctan.{infinity, octantIndexOf, withinOf, insideOf, alongOf, diagonalOf, angleOf, signed, atan2Of}
+use Rattle.arctan.specs.Cases.{zeroOf, Between}
 use Rattle.arctan.proofs.Parts.{zero-of-abs, no-zero-is-above, zero-is-below}
-
--- ±0
-abbrev pub zeroOf : Bool → Float
-zeroOf s = fin s 0 (pos 0)
 
 -- what the answer is where no part is NaN
 pub by-magnitude-and-sign : (y x : Float) → isNan y ≡ false → isNan x ≡ false → atan2Of y x ≡ signed (signOf y) (angleOf (absOf y) x)
@@ -120,13 +118,6 @@ both-infinite-is-the-diagonal false true = refl
 both-infinite-is-the-diagonal false false = refl
 
 -- ---- quadrants
-
--- between two angles, neither NaN nor with a sign
-pub record Between (low high v : Float) : Type 0 where
-  pub above : le low v ≡ true
-  pub below : le v high ≡ true
-  pub number : isNan v ≡ false
-  pub unsigned : signOf v ≡ false
 
 -- what lies strictly between two finite numbers, the lower without sign, is positive and finite
 strictly-between : (low high r : Float) → signOf low ≡ false → T (finite low) → T (finite high) → lt low r ≡ true → lt r high ≡ true → T (positive r)

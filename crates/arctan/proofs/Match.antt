@@ -1,4 +1,5 @@
--- What the last arm of a `match` on a number knows: it is none of the numbers of the arms before. Assumes nothing.
+-- What the last arm of a `match` on a number knows: it is none of the numbers of the arms before.
+-- Assumes nothing.
 use mathlib.Core.Path.{_≡_}
 use Prim.Native.Nat.{ℕ, zero, suc, _≤_}
 use native.Mathlib.Omega.{arith}

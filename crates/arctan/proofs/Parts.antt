@@ -1,4 +1,5 @@
--- Magnitudes: what the test for the usual case says of them, and what they keep of the number. Assumes nothing.
+-- Magnitudes: what the test for the usual case says of them, and what they keep of the number.
+-- Assumes nothing.
 use mathlib.Core.Path.{_≡_, refl, sym, ap, _∙_}
 use Prim.Native.Nat.{ℕ, zero, suc, _*_, _<_}
 use native.Mathlib.Nat.{zero-mul, mul-pos, zero-lt-suc}

@@ -31,7 +31,8 @@ tailOf t =
 unfoldable pub headOf : Float → Float
 headOf v = let w = bits 0x41a0_0000_0200_0000 ⊗ v in w ⊖ (w ⊖ v)
 
--- arctan (b/a) for a quotient up to 1/12: the quotient in two parts, its head and what the head leaves of b, and the tail
+-- arctan (b/a) for a quotient up to 1/12: the quotient in two parts, its head and what the head
+-- leaves of b, and the tail
 unfoldable pub smallAngleOf : Float → Float → Float
 smallAngleOf a b =
     let inverse = one ⊘ a in
@@ -39,14 +40,16 @@ smallAngleOf a b =
     let left = b ⊖ headOf t ⊗ headOf a ⊖ headOf t ⊗ (a ⊖ headOf a) in
     headOf t ⊕ (left ⊗ inverse ⊕ tailOf t)
 
--- The octant's base, with the angle of the quotient b/a added or taken away. With c the cell's cut, arctan (b/a) = arctan c + arctan t for t = (b - c·a)/(a + c·b);
+-- The octant's base, with the angle of the quotient b/a added or taken away. With c the cell's cut,
+-- arctan (b/a) = arctan c + arctan t for t = (b - c·a)/(a + c·b);
 -- b - c·a loses nothing, since each part of c has one binary digit.
 unfoldable pub cutAngleOf : Octant → Cell → Float → Float → Float
 cutAngleOf o c a b =
     let t = (b ⊖ c .coarse ⊗ a ⊖ c .fine ⊗ a) ⊘ (o .side ⊗ (a ⊕ (c .coarse ⊕ c .fine) ⊗ b)) in
     o .base ⊕ o .side ⊗ c .angle ⊕ (t ⊕ (o .rest ⊕ o .side ⊗ c .rest) ⊕ tailOf t)
 
--- the cell of b/a: four to a halving, told by the difference of the bits; the last, 16, takes all below
+-- the cell of b/a: four to a halving, told by the difference of the bits; the last, 16, takes all
+-- below
 unfoldable pub cellIndexOf : Float → Float → ℕ
 cellIndexOf a b = min ((toBits binary64 a - toBits binary64 b) / 0x4_0000_0000_0000) 16
 
@@ -54,7 +57,8 @@ cellIndexOf a b = min ((toBits binary64 a - toBits binary64 b) / 0x4_0000_0000_0
 unfoldable pub small : ℕ → ℕ → Bool
 small k i = eqb k 0 && eqb i 16
 
--- the angle in the octant k of the larger magnitude a and the smaller b: where it is near 0, with the quotient in two parts
+-- the angle in the octant k of the larger magnitude a and the smaller b: where it is near 0, with
+-- the quotient in two parts
 unfoldable pub quotientAngleOf : ℕ → Float → Float → Float
 quotientAngleOf k a b =
     let i = cellIndexOf a b in
@@ -64,7 +68,8 @@ quotientAngleOf k a b =
 unfoldable pub moderate : Float → Float → Bool
 moderate a b = lt a (bits 0x6bb0_0000_0000_0000) && lt (bits 0x1430_0000_0000_0000) b
 
--- other magnitudes are scaled before they are divided: by 2⁻³⁰⁰ if the larger is above 1, else by 2³⁰⁰
+-- other magnitudes are scaled before they are divided: by 2⁻³⁰⁰ if the larger is above 1, else by
+-- 2³⁰⁰
 unfoldable pub scaleOf : Float → Float
 scaleOf a = cond (lt one a) (bits 0x2d30_0000_0000_0000) (bits 0x52b0_0000_0000_0000)
 

@@ -1,3 +1,4 @@
--- What the contract of `atan2` cites.
+-- What the contract of `atan2` cites; and what the laws of its cases speak of.
 pub mod Table
 pub mod Arctan
+pub mod Cases

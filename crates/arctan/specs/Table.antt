@@ -1,4 +1,5 @@
--- The constants of atan2: a cut and its arctangent for each cell of the quotient, and for each octant the angle from which it counts.
+-- The constants of atan2: a cut and its arctangent for each cell of the quotient, and for each
+-- octant the angle from which it counts.
 use Prim.Native.Nat.{ℕ}
 use mathlib.Core.List.{List, [], _∷_}
 use lib.ListN.{getD}
@@ -20,7 +21,8 @@ threeQuarterPi = bits 0x4002_d97c_7f33_21d2
 abbrev pub pi : Float
 pi = bits 0x4009_21fb_5444_2d18
 
--- a cut in two parts of one binary digit each, and its arctangent in two parts, the first a multiple of 2⁻⁵⁰
+-- a cut in two parts of one binary digit each, and its arctangent in two parts, the first a
+-- multiple of 2⁻⁵⁰
 abbrev pub row : ℕ → ℕ → ℕ → ℕ → Cell
 row coarse fine angle rest = record { coarse = bits coarse; fine = bits fine; angle = bits angle; rest = bits rest }
 
@@ -49,11 +51,13 @@ cells =
 unfoldable pub cellAt : ℕ → Cell
 cellAt i = getD cells i (row 0 0 0 0)
 
--- The angle from which an octant counts, in two parts; +1 where the quotient's angle is added to it and -1 where it is taken away; and the angles between which the octant lies.
+-- The angle from which an octant counts, in two parts; +1 where the quotient's angle is added to it
+-- and -1 where it is taken away; and the angles between which the octant lies.
 abbrev pub octant : ℕ → ℕ → ℕ → ℕ → ℕ → Octant
 octant base rest side low high = record { base = bits base; rest = bits rest; side = bits side; low = bits low; high = bits high }
 
--- by whether |y| is above |x|, and then by whether x is negative: from 0 up to π/4, from π/2 down to π/4, from π down to 3π/4, from π/2 up to 3π/4
+-- by whether |y| is above |x|, and then by whether x is negative: from 0 up to π/4, from π/2 down
+-- to π/4, from π down to 3π/4, from π/2 up to 3π/4
 unfoldable pub octants : List Octant
 octants =
     octant 0 0 0x3ff0_0000_0000_0000 0 0x3fe9_21fb_5444_2d18 ∷

@@ -1,11 +1,12 @@
--- A block of points: when the rows of the tables give a point's angle, and the loop that tells so of all. Assumes nothing.
+-- A block of points: when the rows of the tables give a point's angle, and the loop that tells so
+-- of all. Assumes nothing.
 use Prim.Native.Nat.{ℕ, zero, suc, _+_, _-_, _*_, _/_, _%_, _<_, _≤_, min}
-use native.Mathlib.Nat.{not-suc-le-zero, eq-or-lt-of-le, lt-of-lt-of-le, le-div-iff-mul-le, div-lt-iff-lt-mul, zero-lt-suc, lt-irrefl, le-refl, le-of-suc-le-suc}
+use native.Mathlib.Nat.{not-suc-le-zero, eq-or-lt-of-le, lt-of-lt-of-le, le-div-iff-mul-le, div-lt-iff-lt-mul, zero-lt-suc, lt-irrefl}
 use native.Mathlib.Omega.{arith}
 use mathlib.Core.Path.{_≡_, refl, ap, _∙_, sym, subst}
 use mathlib.Core.Logic.{_⊎_, inl, inr}
 use mathlib.Core.Bool.{Bool, true, false, cond, not, _&&_, true≢false}
-use mathlib.Core.List.{List, [], _∷_}
+use mathlib.Core.List.{List}
 use lib.Dec.{T, leb, ltb}
 use lib.ListN.{set, length}
 use lib.Ieee.{Float, nan, inf, fin, binary64, fits, toBits, isNan, neg, lt, ofBits}
@@ -16,7 +17,7 @@ use Rattle.floats.specs.Number.{signOf, absOf}
 use Rattle.floats.proofs.Values.{sign-is-the-highest-bit}
 use Rattle.floats.proofs.Laws.{abs-is-not-negative}
 use Rattle.blocks.specs.Each.{at, wholeAt, UpTo, Each}
-use Rattle.blocks.proofs.Laws.{none-filled, one-more, none-filled-whole, one-more-whole, told}
+use Rattle.blocks.proofs.Laws.{none-filled, one-more, told}
 use Rattle.arctan.specs.declared.Octant.{Octant}
 use Rattle.arctan_block.specs.declared.Point.{Point}
 use Rattle.arctan.specs.Table.{cellAt, octantAt, octants}
@@ -219,8 +220,8 @@ none-sized a b c d =
     record {
       larger-are = none-filled a;
       smaller-are = none-filled b;
-      quarters-are = none-filled-whole c;
-      octants-are = none-filled-whole d;
+      quarters-are = none-filled c;
+      octants-are = none-filled d;
       bound = omega arith;
       usual = λ h j k. absurd (not-suc-le-zero k);
     }
@@ -232,8 +233,8 @@ one-more-sized {y} {x} {larger} {smaller} {quarters} {octants} {i} {n} {p} room 
     record {
       larger-are = one-more room (point .larger-is) (before .larger-are);
       smaller-are = one-more room (point .smaller-is) (before .smaller-are);
-      quarters-are = one-more-whole room (point .quarters-is) (before .quarters-are);
-      octants-are = one-more-whole room (point .octant-is) (before .octants-are);
+      quarters-are = one-more room (point .quarters-is) (before .quarters-are);
+      octants-are = one-more room (point .octant-is) (before .octants-are);
       bound = more (before .bound) (point .bound);
       usual = λ h j k. at-or-before h j (eq-or-lt-of-le (up-to j k));
     }
@@ -260,35 +261,6 @@ all-sized {y} {x} {larger} {smaller} {quarters} {octants} {i} {n} h g s = subst 
   where
     full : 16 ≤ i → i ≤ 16 → i ≡ 16
     full a b = omega arith
-
--- ---- a loop that goes over a block in place: the places before i hold the values of f, the others what they held
-
-pub record MendedUpTo (i : ℕ) (before l : List Float) (f : ℕ → Float) : Type 0 where
-  pub mended : UpTo i l f
-  pub left-alone : (j : ℕ) → i ≤ j → at l j ≡ at before j
-
-pub none-mended : {l : List Float} {f : ℕ → Float} → length l ≡ 16 → MendedUpTo 0 l l f
-none-mended b = record { mended = none-filled b; left-alone = λ j k. refl }
-
-get-set-after : (l : List Float) (i j : ℕ) (v : Float) → i < j → at (set l i v) j ≡ at l j
-get-set-after [] i j v h = refl
-get-set-after (x ∷ xs) zero zero v h = absurd (not-suc-le-zero h)
-get-set-after (x ∷ xs) zero (suc j) v h = refl
-get-set-after (x ∷ xs) (suc i) zero v h = absurd (not-suc-le-zero h)
-get-set-after (x ∷ xs) (suc i) (suc j) v h = get-set-after xs i j v (le-of-suc-le-suc h)
-
-pub one-more-mended : {before l : List Float} {i : ℕ} {v : Float} {f : ℕ → Float} → i < 16 → (at l i ≡ at before i → v ≡ f i) → MendedUpTo i before l f → MendedUpTo (i + 1) before (set l i v) f
-one-more-mended {before} {l} {i} {v} {f} room value m =
-    record {
-      mended = one-more room (value (m .left-alone i (le-refl i))) (m .mended);
-      left-alone = λ j k. get-set-after l i j v (further j k) ∙ m .left-alone j (weaker j k);
-    }
-  where
-    further : (j : ℕ) → i + 1 ≤ j → i < j
-    further j k = omega arith
-
-    weaker : (j : ℕ) → i + 1 ≤ j → i ≤ j
-    weaker j k = omega arith
 
 -- ---- a loop that fills two places at a turn
 

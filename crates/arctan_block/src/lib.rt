@@ -1,8 +1,10 @@
 // atan2 by the block: the angles of sixteen points (x, y), each as `arctan::atan2` gives it.
 //
-// The method is atan2's. The points are sized first, in a loop of their own. Where together they are not odd, the rows of atan2's tables give the angles, two points at a time, and the points near 0
-// are mended afterwards; any other block goes one point after the other. Proved: each number is atan2's, so that its exactness is atan2's too.
-// Longitude and latitude in `cart` and `geocart_block` and the geocentric latitude in `permtide` are taken by it.
+// The method is atan2's. The points are sized first, in a loop of their own. Where together they
+// are not odd, the rows of atan2's tables give the angles, two points at a time, and the points
+// near 0 are mended afterwards; any other block goes one point after the other. Proved: each number
+// is atan2's, so that its exactness is atan2's too. Longitude and latitude in `cart` and
+// `geocart_block` and the geocentric latitude in `permtide` are taken by it.
 ghost use mathlib.Core.Path.{_≡_};
 ghost use Prim.Native.Nat.{ℕ, min};
 ghost use mathlib.Core.Bool.{cond};
@@ -47,8 +49,10 @@ fn odd_if(usual: bool, quarters: u64) -> u64
     if usual { quarters } else { 8192 }
 }
 
-// What a point of a block comes to before the tables: its two magnitudes, held within the moderate; the quarters of a halving from the one to the other; its octant; and how odd it is:
-// the quarters, and 8192 if a magnitude was held. Points that are less than 256 odd together are moderate, each of them, and mostly away from the axes.
+// What a point of a block comes to before the tables: its two magnitudes, held within the moderate;
+// the quarters of a halving from the one to the other; its octant; and how odd it is: the quarters,
+// and 8192 if a magnitude was held. Points that are less than 256 odd together are moderate, each
+// of them, and mostly away from the axes.
 struct Point {
     larger: f64,
     smaller: f64,
@@ -112,7 +116,8 @@ fn cell_of(quarters: u64) -> u64
     if quarters < 16 { quarters } else { 16 }
 }
 
-// The angle by the rows of the tables. The order of the bounds is of no account, and this is two instructions.
+// The angle by the rows of the tables. The order of the bounds is of no account, and this is two
+// instructions.
 fn quick(y: f64, o: Octant, c: Cell, a: f64, b: f64) -> f64
     ensures { λ r. ⌜ r ≡ quickOf y o c a b ⌝ }
 {
@@ -120,7 +125,8 @@ fn quick(y: f64, o: Octant, c: Cell, a: f64, b: f64) -> f64
     if y < 0.0 { -r } else { r }
 }
 
-// The angles by the rows of the tables, two points at a time: of two the compiler makes one vector, rows and all.
+// The angles by the rows of the tables, two points at a time: of two the compiler makes one vector,
+// rows and all.
 fn pairs(
     y: &[f64; WIDTH],
     larger: &[f64; WIDTH],
@@ -188,7 +194,8 @@ fn any_block(y: &[f64; WIDTH], x: &[f64; WIDTH], r: &mut [f64; WIDTH])
     }
 }
 
-// The angles of a block of points, each as `atan2` gives it. A block with an odd point, or with most of its points near an axis, goes one point after the other.
+// The angles of a block of points, each as `atan2` gives it. A block with an odd point, or with
+// most of its points near an axis, goes one point after the other.
 pub fn atan2_block(y: &[f64; WIDTH], x: &[f64; WIDTH], r: &mut [f64; WIDTH])
     ensures { λ _. ⌜ Each (now (r .exit)) (λ (j : ℕ). atan2Of (at (now (y .entry)) j) (at (now (x .entry)) j)) ⌝ }
 {

@@ -1,7 +1,9 @@
-// A tuple and a step's record from the arrays of numbers that C lends, each number at one stated place.
+// A tuple and a step's record from the arrays of numbers that C lends, each number at one stated
+// place.
 //
-// specs/Arrays.antt has a line a field with its place in the array; a Helmert step's 30 numbers come in the order of its body. Exact: no number changes. Used by
-// the library that C and Rust link.
+// specs/Arrays.antt has a line a field with its place in the array; a Helmert step's 30 numbers
+// come in the order of its body. Exact: no number changes. Used by the library that C and Rust
+// link.
 ghost use mathlib.Core.Path.{_≡_};
 ghost use Prim.Native.Nat.{_≤_};
 ghost use Rattle.arrays.specs.Arrays.{tupleOf, threeAt, helmertOf, molodenskyOf};

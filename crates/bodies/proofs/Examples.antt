@@ -1,4 +1,5 @@
--- Known values: the body of document 01's P1, and a Helmert body in which every field differs, read. Assumes nothing.
+-- Known values: the body of document 01's P1, and a Helmert body in which every field differs,
+-- read. Assumes nothing.
 use mathlib.Core.Path.{_≡_, refl}
 use mathlib.Core.Bool.{true, false}
 use mathlib.Core.List.{List, [], _∷_, _++_}

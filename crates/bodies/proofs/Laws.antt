@@ -1,5 +1,5 @@
--- What is true of bodies as they are read, for callers to cite: the parts of rule 5, what a body of each kind and length reads as, and the lowest rule that is
--- broken. Assumes nothing.
+-- What is true of bodies as they are read, for callers to cite: the parts of rule 5, what a body of
+-- each kind and length reads as, and the lowest rule that is broken. Assumes nothing.
 use mathlib.Core.Path.{_≡_, refl, sym, _∙_, subst}
 use Prim.Native.Nat.{ℕ}
 use mathlib.Core.Bool.{Bool, true, false, not, cond, _&&_}

@@ -1,4 +1,5 @@
--- Rule 5 on a body, and rules 5 to 8 on a step. What a record's fields may be is said in the crate of its kind; here stands what only the bytes show.
+-- Rule 5 on a body, and rules 5 to 8 on a step. What a record's fields may be is said in the crate
+-- of its kind; here stands what only the bytes show.
 use Prim.Native.Nat.{ℕ}
 use mathlib.Core.Bool.{Bool, false, cond, _&&_}
 use mathlib.Core.List.{List}
@@ -51,7 +52,8 @@ lacksDuration (Deformation r) = neitherOf r
 
 -- ---- a body
 
--- Reserved words are 0, and a number that may be "not given" is written so in one way only: Helmert's t_epoch and t_obs, deformation's dt and t_epoch.
+-- Reserved words are 0, and a number that may be "not given" is written so in one way only:
+-- Helmert's t_epoch and t_obs, deformation's dt and t_epoch.
 unfoldable pub writtenInRule : ℕ → List ℕ → Bool
 writtenInRule kind b =
     byKind kind
@@ -62,7 +64,8 @@ writtenInRule kind b =
     (oneNanAt b 8 && oneNanAt b 16)
     false
 
--- rule 5 on the bytes of a body: its length is its kind's, it is written by the rule, and so are the fields of its record
+-- rule 5 on the bytes of a body: its length is its kind's, it is written by the rule, and so are
+-- the fields of its record
 unfoldable pub bodyInRule : ℕ → List ℕ → Bool
 bodyInRule kind b = eqb (length b) (lengthOf kind) && writtenInRule kind b && stepInRule (stepOf kind b)
 

@@ -1,9 +1,13 @@
-// The bodies of the sheet's steps: each kind's bytes read into its record, and tested by rules 5 to 8.
+// The bodies of the sheet's steps: each kind's bytes read into its record, and tested by rules 5 to
+// 8.
 //
-// The layout is document 01's table, each field at one stated place: specs/Read.antt has a reader's line a field with the place of its first byte. The bytes
-// in order, and that the two say the same, stand in body_writer. A body is lent as a part of the sheet that starts in its middle. Its length is tested once,
-// so that a field is one load, and it is decoded once to be tested. What a record's fields may be is said in the crate of its kind. Exact: every bit of every
-// number comes back, zeros by sign, and "not given" is 7ff8000000000000 and no other NaN. Used by the sheet, and by who reads a body of a known kind.
+// The layout is document 01's table, each field at one stated place: specs/Read.antt has a reader's
+// line a field with the place of its first byte. The bytes in order, and that the two say the same,
+// stand in body_writer. A body is lent as a part of the sheet that starts in its middle. Its length
+// is tested once, so that a field is one load, and it is decoded once to be tested. What a record's
+// fields may be is said in the crate of its kind. Exact: every bit of every number comes back,
+// zeros by sign, and "not given" is 7ff8000000000000 and no other NaN. Used by the sheet, and by
+// who reads a body of a known kind.
 ghost use mathlib.Core.Path.{_≡_};
 ghost use Prim.Native.Nat.{_+_, _≤_};
 ghost use lib.ListN.{length};
@@ -71,7 +75,8 @@ pub fn blank_step() -> Step
 
 // ----- reading ---------------------------------------------------------------------------
 
-// Bodies of their kind's length are taken whole as a part: the compiler then knows how long they are, and no field is tested.
+// Bodies of their kind's length are taken whole as a part: the compiler then knows how long they
+// are, and no field is tested.
 fn read_vec3(b: &[u8], at: usize) -> Vec3
     requires { ⌜ at + 24 ≤ length (now b) ⌝ }
     ensures { λ r. ⌜ r ≡ vec3At (now (b .entry)) at ⌝ }
@@ -161,7 +166,8 @@ fn deformation_fields(b: &[u8]) -> Deformation
     }
 }
 
-// The record of a body whose kind is known, with no step made of it. A body of another length than its kind's reads as the blank record.
+// The record of a body whose kind is known, with no step made of it. A body of another length than
+// its kind's reads as the blank record.
 pub fn read_helmert(b: &[u8]) -> Helmert
     ensures { λ r. ⌜ r ≡ helmertIn (now (b .entry)) ⌝ }
 {
@@ -207,7 +213,8 @@ pub fn read_deformation(b: &[u8]) -> Deformation
     Deformation::blank()
 }
 
-// The step that a body holds. A body of another length than its kind's, or of no kind, reads as the blank cart step.
+// The step that a body holds. A body of another length than its kind's, or of no kind, reads as the
+// blank cart step.
 pub fn read_body(kind: u32, b: &[u8]) -> Step
     ensures { λ r. ⌜ r ≡ stepOf kind (now (b .entry)) ⌝ }
 {
@@ -298,7 +305,8 @@ pub fn lacks_duration(step: Step) -> bool
     }
 }
 
-// The lowest of rules 5 to 8 that a body of each kind breaks, its record decoded once; 0 where it keeps all four.
+// The lowest of rules 5 to 8 that a body of each kind breaks, its record decoded once; 0 where it
+// keeps all four.
 fn broken_helmert(b: &[u8]) -> u32
     ensures { λ r. ⌜ r ≡ lowestBroken 1 (now (b .entry)) ⌝ }
 {

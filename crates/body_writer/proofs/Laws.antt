@@ -1,5 +1,6 @@
--- What is true of bodies as they are written, for callers to cite. A body has its kind's length. What was written is read: every field of a record comes back,
--- the zeros by sign and "not given" among them. What was read is written: a body in rule comes back byte for byte. Assumes nothing.
+-- What is true of bodies as they are written, for callers to cite. A body has its kind's length.
+-- What was written is read: every field of a record comes back, the zeros by sign and "not given"
+-- among them. What was read is written: a body in rule comes back byte for byte. Assumes nothing.
 use mathlib.Core.Path.{_≡_, refl, sym, ap, _∙_, subst}
 use Prim.Native.Nat.{ℕ, _+_, _≤_}
 use mathlib.Core.Bool.{Bool, true, false, not, cond, _&&_}

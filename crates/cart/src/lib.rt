@@ -1,12 +1,15 @@
-// Geographic to cartesian coordinates and back as a step of a sheet: cart.rs of the crate geodesy 0.15.0.
+// Geographic to cartesian coordinates and back as a step of a sheet: cart.rs of the crate geodesy
+// 0.15.0.
 //
-// Forward is `geocart::cartesian`. Inverse is cart.rs's own method, Fukushima's (2006) in Claessens' (2019) form, with the Rust's letters and sequence of
-// roundings; it is not `geocart::geographic`, from which it parts in the last bits and near the axis (cutoff a·1e-16 against 1e-12). On the axis the tuple
-// is written and not counted; a NaN Z gives a NaN latitude there, a listed difference. Elsewhere a tuple counts where no number of the result is NaN.
+// Forward is `geocart::cartesian`. Inverse is cart.rs's own method, Fukushima's (2006) in
+// Claessens' (2019) form, with the Rust's letters and sequence of roundings; it is not
+// `geocart::geographic`, from which it parts in the last bits and near the axis (cutoff a·1e-16
+// against 1e-12). On the axis the tuple is written and not counted; a NaN Z gives a NaN latitude
+// there, a listed difference. Elsewhere a tuple counts where no number of the result is NaN.
 // Sixteen tuples at a time: the crate cart_block.
 ghost use mathlib.Core.Path.{_≡_};
 ghost use Rattle.cart.specs.Record.{blankOf, inRuleOf};
-ghost use Rattle.cart.specs.Step.{countedOf, cartFwdOf, inverseOf, meridianOf, heightOf, offAxisOf, onAxisOf, cartInvOf};
+ghost use Rattle.cart.specs.Step.{countedOf, cartFwdOf, inverseFiguresOf, latitudeLegsOf, heightWith, heightOf, offAxisOf, onAxisOf, cartInvOf};
 use ellipsoid::Ellipsoid;
 use tuple::Shifted;
 use tuple::Tuple;
@@ -67,7 +70,7 @@ pub fn cart_fwd(ellps: Ellipsoid, coord: Tuple) -> Shifted
 
 impl Inverse {
     pub fn new(ellps: Ellipsoid) -> Self
-        ensures { λ r. ⌜ r ≡ inverseOf ellps ⌝ }
+        ensures { λ r. ⌜ r ≡ inverseFiguresOf ellps ⌝ }
     {
         let ra = 1.0 / ellps.a;
         Inverse {
@@ -83,9 +86,10 @@ impl Inverse {
     }
 }
 
-// S1 and CC, the legs of the latitude's angle, of a point of the meridian plane: p, s0 and c0 reduced by the semimajor axis, a the hypotenuse of s0 and c0.
+// S1 and CC, the legs of the latitude's angle, of a point of the meridian plane: p, s0 and c0
+// reduced by the semimajor axis, a the hypotenuse of s0 and c0.
 pub fn meridian(k: Inverse, p: f64, s0: f64, c0: f64, a: f64) -> Legs
-    ensures { λ r. ⌜ r ≡ meridianOf k p s0 c0 a ⌝ }
+    ensures { λ r. ⌜ r ≡ latitudeLegsOf k p s0 c0 a ⌝ }
 {
     let es = k.ellps.es;
     let f = p * a * a * a - es * c0 * c0 * c0;
@@ -98,13 +102,27 @@ pub fn meridian(k: Inverse, p: f64, s0: f64, c0: f64, a: f64) -> Legs
     }
 }
 
+// The height, with two hypotenuses at hand: inner that of CC and ar·S1, outer that of CC and S1.
+pub fn height_with(k: Inverse, p: f64, z: f64, m: Legs, inner: f64, outer: f64) -> f64
+    ensures { λ r. ⌜ r ≡ heightWith k p z m inner outer ⌝ }
+{
+    let along = p * floats::abs(m.cc) + floats::abs(z) * floats::abs(m.s1);
+    (along - k.ellps.a * inner) / outer
+}
+
 fn height(k: Inverse, p: f64, z: f64, m: Legs) -> f64
     ensures { λ r. ⌜ r ≡ heightOf k p z m ⌝ }
 {
     let s1 = m.s1;
     let cc = m.cc;
-    let along = p * floats::abs(cc) + floats::abs(z) * floats::abs(s1);
-    (along - k.ellps.a * hypot::hypot(cc, k.ar * s1)) / hypot::hypot(cc, s1)
+    height_with(
+        k,
+        p,
+        z,
+        m,
+        hypot::hypot(cc, k.ar * s1),
+        hypot::hypot(cc, s1),
+    )
 }
 
 fn off_axis(k: Inverse, lam: f64, p: f64, coord: Tuple) -> Tuple

@@ -1,3 +1,2 @@
--- How a loop counts, and what loops over blocks reach.
-pub mod Counts
+-- What loops over blocks reach.
 pub mod Parts

@@ -1,4 +1,5 @@
--- What the loops over blocks reach is what `cartFwdOf` and `cartInvOf` say, number by number. Assumes nothing.
+-- What the loops over blocks reach is what `cartFwdOf` and `cartInvOf` say, number by number.
+-- Assumes nothing.
 use mathlib.Core.Path.{_≡_, refl, _∙_, sym}
 use mathlib.Core.Bool.{Bool, true, false, not, cond}
 use lib.Ieee.{Float, lt}
@@ -14,8 +15,8 @@ use Rattle.geocart_block.specs.Blocks.{latitudeOf}
 use Rattle.geocart_block.proofs.Parts.{through, either-way}
 use Rattle.cart.specs.declared.Inverse.{Inverse}
 use Rattle.cart.specs.declared.Legs.{Legs}
-use Rattle.cart.specs.Step.{cartFwdOf, heightOf, offAxisOf, onAxisOf, cartInvOf}
-use Rattle.cart_block.specs.Blocks.{reducedLegsOf, legsOf, levelOf, eitherHeightOf, countsOf}
+use Rattle.cart.specs.Step.{cartFwdOf, s0Of, c0Of, legsWith, legsOf, heightWith, heightOf, offAxisOf, onAxisOf, cartInvOf}
+use Rattle.cart_block.specs.Blocks.{levelOf, countsOf}
 
 -- ---- forward
 
@@ -25,12 +26,12 @@ counted-forward e v x y z = rw (x, y, z)
 
 -- ---- inverse
 
-pub legs-are : (k : Inverse) (p Z : Float) {S0 C0 A : Float} → S0 ≡ k .ra ⊗ Z → C0 ≡ k .ar ⊗ (k .ra ⊗ p) → A ≡ hypotOf S0 C0 → reducedLegsOf k p Z A ≡ legsOf k p Z
+pub legs-are : (k : Inverse) (p Z : Float) {S0 C0 A : Float} → S0 ≡ s0Of k Z → C0 ≡ c0Of k p → A ≡ hypotOf S0 C0 → legsWith k p Z A ≡ legsOf k p Z
 unfolding legsOf
 legs-are k p Z sine cosine length = rw (length, cosine, sine)
 
-pub height-from : (k : Inverse) (p Z S1 CC : Float) {r inner outer : Float} → r ≡ k .ar ⊗ S1 → inner ≡ hypotOf CC r → outer ≡ hypotOf CC S1 → levelOf k p Z S1 CC inner outer ≡ eitherHeightOf k p Z (record { s1 = S1; cc = CC })
-unfolding levelOf heightOf
+pub height-from : (k : Inverse) (p Z S1 CC : Float) {r inner outer : Float} → r ≡ k .ar ⊗ S1 → inner ≡ hypotOf CC r → outer ≡ hypotOf CC S1 → levelOf k p Z (heightWith k p Z (record { s1 = S1; cc = CC }) inner outer) ≡ levelOf k p Z (heightOf k p Z (record { s1 = S1; cc = CC }))
+unfolding heightOf
 height-from k p Z S1 CC reduced inner outer = rw (outer, inner, reduced)
 
 -- whichever is taken, its count is known from the numbers taken
@@ -47,11 +48,11 @@ module _ (k : Inverse) (v : Tuple) where
   longitude-is = sym (either-way near _) ∙ sym (through (λ (r : Shifted). r .tuple .x) near _ _)
 
   pub latitude-is : {p s1 cc phi : Float} → p ≡ hypotOf (v .x) (v .y) → s1 ≡ legsOf k p (v .z) .s1 → cc ≡ legsOf k p (v .z) .cc → phi ≡ atan2Of s1 cc → latitudeOf (k .cutoff) p (v .z) phi ≡ cartInvOf k v .tuple .y
-  unfolding cartInvOf onAxisOf offAxisOf legsOf near
+  unfolding cartInvOf onAxisOf offAxisOf near
   latitude-is length above from angle = rw (angle, above, from, length) (sym (through (λ (r : Shifted). r .tuple .y) near _ _))
 
-  pub height-is : {p s1 cc : Float} → p ≡ hypotOf (v .x) (v .y) → s1 ≡ legsOf k p (v .z) .s1 → cc ≡ legsOf k p (v .z) .cc → eitherHeightOf k p (v .z) (record { s1 = s1; cc = cc }) ≡ cartInvOf k v .tuple .z
-  unfolding cartInvOf onAxisOf offAxisOf legsOf heightOf near
+  pub height-is : {p s1 cc : Float} → p ≡ hypotOf (v .x) (v .y) → s1 ≡ legsOf k p (v .z) .s1 → cc ≡ legsOf k p (v .z) .cc → levelOf k p (v .z) (heightOf k p (v .z) (record { s1 = s1; cc = cc })) ≡ cartInvOf k v .tuple .z
+  unfolding cartInvOf onAxisOf offAxisOf near
   height-is length above from = rw (above, from, length) (sym (through (λ (r : Shifted). r .tuple .z) near _ _))
 
   pub counted-inverse : {p lam phi h : Float} → p ≡ hypotOf (v .x) (v .y) → lam ≡ cartInvOf k v .tuple .x → phi ≡ cartInvOf k v .tuple .y → h ≡ cartInvOf k v .tuple .z → countsOf k p (record { x = lam; y = phi; z = h; t = v .t }) ≡ cartInvOf k v .counted

@@ -1,27 +1,25 @@
-// Geographic to cartesian coordinates and back, sixteen tuples at a time: the step of the crate cart by the block.
+// Geographic to cartesian coordinates and back, sixteen tuples at a time: the step of the crate
+// cart by the block.
 //
-// Method, letters and sequence of roundings are those of `cart`: each tuple and the count are proved to be what `cart_fwd` and `cart_inv` give, in every bit. The kernels
-// are called by their blocks, and between them are short loops of arithmetic alone, which a compiler turns into vector instructions. On the axis too the latitude and
-// height of a point off it are worked out, and not taken. Used by the loops over a list.
+// Method, letters and sequence of roundings are those of `cart`: each tuple and the count are
+// proved to be what `cart_fwd` and `cart_inv` give, in every bit. The kernels are called by their
+// blocks, and between them are short loops of arithmetic alone, which a compiler turns into vector
+// instructions. For every point both the on-axis and the off-axis result are computed and one is
+// selected, so the loops have no branch. Used by the loops over a list.
 ghost use mathlib.Core.Path.{_≡_};
-ghost use mathlib.Core.Bool.{not, cond};
+ghost use mathlib.Core.Bool.{not};
 ghost use Prim.Native.Nat.{ℕ};
-ghost use Rattle.floats.specs.Binary64.{_⊗_};
 ghost use Rattle.blocks.specs.Each.{at, Each, countTo};
 ghost use Rattle.tuple.specs.Columns.{rowOf};
 ghost use Rattle.tuple.specs.Sums.{anyNanOf};
-ghost use Rattle.cart.specs.Step.{cartFwdOf, cartInvOf};
-ghost use Rattle.cart_block.specs.Blocks.{reducedLegsOf, legsOf, levelOf, eitherHeightOf, countsOf};
+ghost use Rattle.cart.specs.Step.{cartFwdOf, s0Of, c0Of, legsWith, legsOf, heightWith, heightOf, cartInvOf};
+ghost use Rattle.cart_block.specs.Blocks.{levelOf, countsOf};
 use blocks::WIDTH;
+use blocks::one_if;
 use cart::Inverse;
+use cart::Legs;
 use ellipsoid::Ellipsoid;
 use tuple::Tuple;
-
-fn one_if(b: bool) -> usize
-    ensures { λ r. ⌜ r ≡ cond b 1 0 ⌝ }
-{
-    if b { 1 } else { 0 }
-}
 
 // How many tuples of a block have no NaN.
 fn count_block(x: &[f64; WIDTH], y: &[f64; WIDTH], z: &[f64; WIDTH], t: &[f64; WIDTH]) -> usize
@@ -67,7 +65,7 @@ fn reduced_block(
     s0: &mut [f64; WIDTH],
     c0: &mut [f64; WIDTH],
 )
-    ensures { λ _. ⌜ Each (now (s0 .exit)) (λ (j : ℕ). k .ra ⊗ (at (now (z .entry)) j)) × Each (now (c0 .exit)) (λ (j : ℕ). k .ar ⊗ (k .ra ⊗ (at (now (p .entry)) j))) ⌝ }
+    ensures { λ _. ⌜ Each (now (s0 .exit)) (λ (j : ℕ). s0Of k (at (now (z .entry)) j)) × Each (now (c0 .exit)) (λ (j : ℕ). c0Of k (at (now (p .entry)) j)) ⌝ }
 {
     *s0 = [0.0; WIDTH];
     *c0 = [0.0; WIDTH];
@@ -79,7 +77,8 @@ fn reduced_block(
     }
 }
 
-// S1 and CC of a block, a the hypotenuses. P, S0 and C0 are worked out again: three products cost less than three columns kept.
+// S1 and CC of a block, a the hypotenuses. P, S0 and C0 are worked out again: three products cost
+// less than three columns kept.
 fn meridian_block(
     k: Inverse,
     p: &[f64; WIDTH],
@@ -88,7 +87,7 @@ fn meridian_block(
     s1: &mut [f64; WIDTH],
     cc: &mut [f64; WIDTH],
 )
-    ensures { λ _. ⌜ Each (now (s1 .exit)) (λ (j : ℕ). reducedLegsOf k (at (now (p .entry)) j) (at (now (z .entry)) j) (at (now (a .entry)) j) .s1) × Each (now (cc .exit)) (λ (j : ℕ). reducedLegsOf k (at (now (p .entry)) j) (at (now (z .entry)) j) (at (now (a .entry)) j) .cc) ⌝ }
+    ensures { λ _. ⌜ Each (now (s1 .exit)) (λ (j : ℕ). legsWith k (at (now (p .entry)) j) (at (now (z .entry)) j) (at (now (a .entry)) j) .s1) × Each (now (cc .exit)) (λ (j : ℕ). legsWith k (at (now (p .entry)) j) (at (now (z .entry)) j) (at (now (a .entry)) j) .cc) ⌝ }
 {
     *s1 = [0.0; WIDTH];
     *cc = [0.0; WIDTH];
@@ -118,23 +117,11 @@ fn legs_block(
     meridian_block(k, p, z, a, s1, cc);
 }
 
-fn product_block(k: Inverse, s1: &[f64; WIDTH], r: &mut [f64; WIDTH])
-    ensures { λ _. ⌜ Each (now (r .exit)) (λ (j : ℕ). k .ar ⊗ (at (now (s1 .entry)) j)) ⌝ }
-{
-    *r = [0.0; WIDTH];
-    let mut i = 0;
-    while i < WIDTH {
-        r[i] = k.ar * s1[i];
-        i += 1;
-    }
-}
-
-fn level(k: Inverse, p: f64, z: f64, s1: f64, cc: f64, inner: f64, outer: f64) -> f64
-    ensures { λ r. ⌜ r ≡ levelOf k p z s1 cc inner outer ⌝ }
+// The height h, or a pole's where p is less than the cutoff.
+fn level(k: Inverse, p: f64, z: f64, h: f64) -> f64
+    ensures { λ r. ⌜ r ≡ levelOf k p z h ⌝ }
 {
     let axis = geocart::pole_height(k.ellps, z);
-    let along = p * floats::abs(cc) + floats::abs(z) * floats::abs(s1);
-    let h = (along - k.ellps.a * inner) / outer;
     if p < k.cutoff { axis } else { h }
 }
 
@@ -149,17 +136,23 @@ fn level_block(
     outer: &[f64; WIDTH],
     h: &mut [f64; WIDTH],
 )
-    ensures { λ _. ⌜ Each (now (h .exit)) (λ (j : ℕ). levelOf k (at (now (p .entry)) j) (at (now (z .entry)) j) (at (now (s1 .entry)) j) (at (now (cc .entry)) j) (at (now (inner .entry)) j) (at (now (outer .entry)) j)) ⌝ }
+    ensures { λ _. ⌜ Each (now (h .exit)) (λ (j : ℕ). levelOf k (at (now (p .entry)) j) (at (now (z .entry)) j) (heightWith k (at (now (p .entry)) j) (at (now (z .entry)) j) (record { s1 = at (now (s1 .entry)) j; cc = at (now (cc .entry)) j }) (at (now (inner .entry)) j) (at (now (outer .entry)) j))) ⌝ }
 {
     *h = [0.0; WIDTH];
     let mut i = 0;
     while i < WIDTH {
-        h[i] = level(k, p[i], z[i], s1[i], cc[i], inner[i], outer[i]);
+        let m = Legs {
+            s1: s1[i],
+            cc: cc[i],
+        };
+        let off = cart::height_with(k, p[i], z[i], m, inner[i], outer[i]);
+        h[i] = level(k, p[i], z[i], off);
         i += 1;
     }
 }
 
-// The heights of a block: as `height` gives them, or a pole's where p is less than the cutoff. The hypotenuses are laid down in inner and outer.
+// The heights of a block: as `height` gives them, or a pole's where p is less than the cutoff. The
+// hypotenuses are laid down in inner and outer.
 fn height_block(
     k: Inverse,
     p: &[f64; WIDTH],
@@ -170,9 +163,9 @@ fn height_block(
     outer: &mut [f64; WIDTH],
     h: &mut [f64; WIDTH],
 )
-    ensures { λ _. ⌜ Each (now (h .exit)) (λ (j : ℕ). eitherHeightOf k (at (now (p .entry)) j) (at (now (z .entry)) j) (record { s1 = at (now (s1 .entry)) j; cc = at (now (cc .entry)) j })) ⌝ }
+    ensures { λ _. ⌜ Each (now (h .exit)) (λ (j : ℕ). levelOf k (at (now (p .entry)) j) (at (now (z .entry)) j) (heightOf k (at (now (p .entry)) j) (at (now (z .entry)) j) (record { s1 = at (now (s1 .entry)) j; cc = at (now (cc .entry)) j }))) ⌝ }
 {
-    product_block(k, s1, h);
+    blocks::scaled(k.ar, s1, h);
     hypot_block::hypot_block(cc, h, inner);
     hypot_block::hypot_block(cc, s1, outer);
     level_block(k, p, z, s1, cc, inner, outer, h);

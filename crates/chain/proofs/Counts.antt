@@ -1,4 +1,5 @@
--- A step's count is at most the number of tuples, so no call's count is over 2,048. Assumes nothing.
+-- A step's count is at most the number of tuples, so no call's count is over 2,048. Assumes
+-- nothing.
 use Prim.Native.Nat.{ℕ, zero, suc, _+_, _*_, _-_, _%_, _≤_}
 use native.Mathlib.Omega.{arith}
 use mathlib.Core.Path.{_≡_, refl, ap, _∙_}
@@ -13,9 +14,9 @@ use Rattle.lists.specs.Run.{Turns, countOf}
 use Rattle.sheet.specs.declared.Entry.{Entry}
 use Rattle.sheet.specs.declared.Refusal.{Refusal}
 use Rattle.sheet.specs.Layout.{stepCountOf as steps, kindAt, entryAt}
-use Rattle.sheet.specs.Rules.{ofSheet, deformationBefore, refusalOf}
+use Rattle.sheet.specs.Rules.{ofCall, hasDeformation, refusalOf}
 use Rattle.sheet.proofs.Order.{neither}
-use Rattle.chain.specs.Chain.{turnsOf, stateOf, turnedOf, stepListOf, stepCountOf, forwardOf, inverseOf, chainOf, placesOf, entriesOf}
+use Rattle.chain.specs.Chain.{turnsOf, stateOf, reversedOf, stepListOf, tuplesCountedOf, chainForwardOf, chainInverseOf, chainOf, placesOf, entriesOf}
 use Rattle.chain.specs.Rules.{refusal9, refusal10, Outcome, outcome, refusedAnswer, outcomeOf, shiftOf}
 use Rattle.chain.proofs.Laws.{step-length}
 use Rattle.chain.proofs.Outcome.{refused-own, refused-9, refused-10, run-through}
@@ -37,30 +38,30 @@ few f k state [] = omega arith
 
 -- a step counts no more tuples than the list has
 pub step-counts-few : (inverse : Bool) (velocities : List Float) (marks : List ℕ) (e : Entry) (l : List Float)
-    → 4 * stepCountOf inverse velocities marks e l ≤ length l
-unfolding stepCountOf
-step-counts-few inverse velocities marks e l = few (turnsOf (turnedOf inverse e) velocities marks (e .step)) 0 (stateOf (e .step)) l
+    → 4 * tuplesCountedOf inverse velocities marks e l ≤ length l
+unfolding tuplesCountedOf
+step-counts-few inverse velocities marks e l = few (turnsOf (reversedOf inverse e) velocities marks (e .step)) 0 (stateOf (e .step)) l
 
 -- ---- steps one after another
 
 module _ (velocities : List Float) (marks : List ℕ) where
-  forward-few : (es : List Entry) (l : List Float) (i : ℕ) → 4 * getD (forwardOf velocities marks es l .counts) i 0 ≤ length l
-  unfolding forwardOf
+  forward-few : (es : List Entry) (l : List Float) (i : ℕ) → 4 * getD (chainForwardOf velocities marks es l .counts) i 0 ≤ length l
+  unfolding chainForwardOf
   forward-few [] l i = omega arith
   forward-few (e ∷ es) l zero = step-counts-few false velocities marks e l
   forward-few (e ∷ es) l (suc i) =
       omega (arith, step-length false velocities marks e l, forward-few es (stepListOf false velocities marks e l) i)
 
-  inverse-length : (es : List Entry) (l : List Float) → length (inverseOf velocities marks es l .list) ≡ length l
-  unfolding inverseOf
+  inverse-length : (es : List Entry) (l : List Float) → length (chainInverseOf velocities marks es l .list) ≡ length l
+  unfolding chainInverseOf
   inverse-length [] l = refl
-  inverse-length (e ∷ es) l = step-length true velocities marks e (inverseOf velocities marks es l .list) ∙ inverse-length es l
+  inverse-length (e ∷ es) l = step-length true velocities marks e (chainInverseOf velocities marks es l .list) ∙ inverse-length es l
 
-  inverse-few : (es : List Entry) (l : List Float) (i : ℕ) → 4 * getD (inverseOf velocities marks es l .counts) i 0 ≤ length l
-  unfolding inverseOf
+  inverse-few : (es : List Entry) (l : List Float) (i : ℕ) → 4 * getD (chainInverseOf velocities marks es l .counts) i 0 ≤ length l
+  unfolding chainInverseOf
   inverse-few [] l i = omega arith
   inverse-few (e ∷ es) l zero =
-      omega (arith, inverse-length es l, step-counts-few true velocities marks e (inverseOf velocities marks es l .list))
+      omega (arith, inverse-length es l, step-counts-few true velocities marks e (chainInverseOf velocities marks es l .list))
   inverse-few (e ∷ es) l (suc i) = inverse-few es l i
 
   chain-few : (inverse : Bool) (es : List Entry) (l : List Float) (i : ℕ) → 4 * getD (chainOf inverse velocities marks es l .counts) i 0 ≤ length l
@@ -95,8 +96,8 @@ module _ (own : Refusal) (deforms inverse : Bool) (es : List Entry) (l velocitie
   by-test : (none nine ten : Bool) → eqb (own .number) 0 ≡ none → refusal9 (length l) ≡ nine → refusal10 deforms (length l) velocities marks ≡ ten
       → (i : ℕ) → getD counted i 0 ≤ 2048
   by-test false nine ten a b c i = no-counts own (refused-own own deforms inverse es l velocities marks (eqb-false _ _ a)) i
-  by-test true true ten a b c i = no-counts (ofSheet 9) (refused-9 own deforms inverse es l velocities marks (eqb-true _ _ a) b) i
-  by-test true false true a b c i = no-counts (ofSheet 10) (refused-10 own deforms inverse es l velocities marks (eqb-true _ _ a) b c) i
+  by-test true true ten a b c i = no-counts (ofCall 9) (refused-9 own deforms inverse es l velocities marks (eqb-true _ _ a) b) i
+  by-test true false true a b c i = no-counts (ofCall 10) (refused-10 own deforms inverse es l velocities marks (eqb-true _ _ a) b c) i
   by-test true false false a b c i =
       let run = chainOf inverse velocities marks es l in
       let e = run-through own deforms inverse es l velocities marks (eqb-true _ _ a) b c in
@@ -115,4 +116,4 @@ pub shift-counts-few : (inverse : Bool) (s : List ℕ) (l velocities : List Floa
     → getD (shiftOf inverse s l velocities marks .answer .counts) i 0 ≤ 2048
 unfolding shiftOf
 shift-counts-few inverse s l velocities marks i =
-    counts-few (refusalOf s) (deformationBefore (kindAt s) (steps s)) inverse (entriesOf (entryAt s) (steps s) 0) l velocities marks i
+    counts-few (refusalOf s) (hasDeformation (kindAt s) (steps s)) inverse (entriesOf (entryAt s) (steps s) 0) l velocities marks i

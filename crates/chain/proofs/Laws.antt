@@ -1,4 +1,6 @@
--- The chain's laws: what a chain of one step and of steps A then B is; and the invariants by which the loops over the steps are proved. Assumes nothing.
+-- The chain's laws: what a chain of one step and of steps A then B is; and the invariants by which
+-- the loops over the steps are proved. Working definitions, which no promise cites: `leftFrom`,
+-- `Forward`, `Backward`. Assumes nothing.
 use Prim.Native.Nat.{ℕ, zero, suc, _+_, _-_, _≤_, _<_}
 use native.Mathlib.Omega.{arith}
 use mathlib.Core.Path.{_≡_, refl, sym, ap, _∙_}
@@ -9,42 +11,42 @@ use lib.Seq.{take-suc-set, drop-set-lt, drop-cons, drop-drop, getD-set-same}
 use lib.Ieee.{Float}
 use Rattle.sheet.specs.declared.Entry.{Entry}
 use Rattle.lists.proofs.Laws.{ran-length}
-use Rattle.chain.specs.Chain.{turnsOf, stateOf, turnedOf, stepListOf, stepCountOf, Run, forwardOf, inverseOf, placesOf, entriesOf}
+use Rattle.chain.specs.Chain.{turnsOf, stateOf, reversedOf, stepListOf, tuplesCountedOf, Run, chainForwardOf, chainInverseOf, placesOf, entriesOf}
 
 module _ (velocities : List Float) (marks : List ℕ) where
   -- ---- a chain of one step is that step over the list
 
   pub one-step-forward : (e : Entry) (l : List Float)
-      → forwardOf velocities marks (e ∷ []) l
-      ≡ record { list = stepListOf false velocities marks e l; counts = stepCountOf false velocities marks e l ∷ [] }
-  unfolding forwardOf
+      → chainForwardOf velocities marks (e ∷ []) l
+      ≡ record { list = stepListOf false velocities marks e l; counts = tuplesCountedOf false velocities marks e l ∷ [] }
+  unfolding chainForwardOf
   one-step-forward e l = refl
 
   pub one-step-inverse : (e : Entry) (l : List Float)
-      → inverseOf velocities marks (e ∷ []) l
-      ≡ record { list = stepListOf true velocities marks e l; counts = stepCountOf true velocities marks e l ∷ [] }
-  unfolding inverseOf
+      → chainInverseOf velocities marks (e ∷ []) l
+      ≡ record { list = stepListOf true velocities marks e l; counts = tuplesCountedOf true velocities marks e l ∷ [] }
+  unfolding chainInverseOf
   one-step-inverse e l = refl
 
   -- ---- running steps A then B is running A's and then B's; inverse, B's and then A's
 
   pub then-forward : (a b : List Entry) (l : List Float)
-      → forwardOf velocities marks (a ++ b) l
+      → chainForwardOf velocities marks (a ++ b) l
       ≡ record {
-        list = forwardOf velocities marks b (forwardOf velocities marks a l .list) .list;
-        counts = forwardOf velocities marks a l .counts ++ forwardOf velocities marks b (forwardOf velocities marks a l .list) .counts;
+        list = chainForwardOf velocities marks b (chainForwardOf velocities marks a l .list) .list;
+        counts = chainForwardOf velocities marks a l .counts ++ chainForwardOf velocities marks b (chainForwardOf velocities marks a l .list) .counts;
       }
-  unfolding forwardOf
+  unfolding chainForwardOf
   then-forward [] b l = refl
   then-forward (e ∷ a) b l = rw (then-forward a b (stepListOf false velocities marks e l))
 
   pub then-inverse : (a b : List Entry) (l : List Float)
-      → inverseOf velocities marks (a ++ b) l
+      → chainInverseOf velocities marks (a ++ b) l
       ≡ record {
-        list = inverseOf velocities marks a (inverseOf velocities marks b l .list) .list;
-        counts = inverseOf velocities marks a (inverseOf velocities marks b l .list) .counts ++ inverseOf velocities marks b l .counts;
+        list = chainInverseOf velocities marks a (chainInverseOf velocities marks b l .list) .list;
+        counts = chainInverseOf velocities marks a (chainInverseOf velocities marks b l .list) .counts ++ chainInverseOf velocities marks b l .counts;
       }
-  unfolding inverseOf
+  unfolding chainInverseOf
   then-inverse [] b l = refl
   then-inverse (e ∷ a) b l = rw (then-inverse a b l)
 
@@ -53,7 +55,7 @@ pub step-length : (inverse : Bool) (velocities : List Float) (marks : List ℕ) 
     → length (stepListOf inverse velocities marks e l) ≡ length l
 unfolding stepListOf
 step-length inverse velocities marks e l =
-    ran-length (turnsOf (turnedOf inverse e) velocities marks (e .step)) 0 (stateOf (e .step)) l
+    ran-length (turnsOf (reversedOf inverse e) velocities marks (e .step)) 0 (stateOf (e .step)) l
 
 -- ---- places for the counts
 
@@ -82,8 +84,8 @@ zeros zero (suc n) = let s : 0 - suc n ≡ 0 = omega arith in rw s
 zeros (suc m) (suc n) = let s : suc m - suc n ≡ m - n = omega arith in rw s (zeros m n)
 
 -- a count for each step
-counts-length : (velocities : List Float) (marks : List ℕ) (es : List Entry) (l : List Float) → length (inverseOf velocities marks es l .counts) ≡ length es
-unfolding inverseOf
+counts-length : (velocities : List Float) (marks : List ℕ) (es : List Entry) (l : List Float) → length (chainInverseOf velocities marks es l .counts) ≡ length es
+unfolding chainInverseOf
 counts-length velocities marks [] l = refl
 counts-length velocities marks (e ∷ es) l = ap suc (counts-length velocities marks es l)
 
@@ -109,22 +111,24 @@ left-none : (entry : ℕ → Entry) (n : ℕ) → leftFrom entry n n ≡ []
 unfolding entriesOf
 left-none entry n = let s : n - n ≡ 0 = omega arith in rw s
 
--- forward: what the steps left make of the list, and of the counts after those that stand, is what all make of the list at the start
+-- forward: what the steps left make of the list, and of the counts after those that stand, is what
+-- all make of the list at the start
 pub record Forward (velocities : List Float) (marks : List ℕ) (entry : ℕ → Entry) (n : ℕ) (l₀ : List Float) (i : ℕ) (l : List Float) (counts : List ℕ) : Type 0 where
   pub within : i ≤ n
   pub places : length counts ≡ 16
   pub long : length l ≡ length l₀
-  pub list : forwardOf velocities marks (leftFrom entry n i) l .list ≡ forwardOf velocities marks (entriesOf entry n 0) l₀ .list
-  pub counted : take i counts ++ forwardOf velocities marks (leftFrom entry n i) l .counts ≡ forwardOf velocities marks (entriesOf entry n 0) l₀ .counts
+  pub list : chainForwardOf velocities marks (leftFrom entry n i) l .list ≡ chainForwardOf velocities marks (entriesOf entry n 0) l₀ .list
+  pub counted : take i counts ++ chainForwardOf velocities marks (leftFrom entry n i) l .counts ≡ chainForwardOf velocities marks (entriesOf entry n 0) l₀ .counts
   pub rest : drop i counts ≡ replicate (16 - i) 0
 
--- inverse: the list is what the steps from index i on have made of it, last first, and the counts from there on are theirs
+-- inverse: the list is what the steps from index i on have made of it, last first, and the counts
+-- from there on are theirs
 pub record Backward (velocities : List Float) (marks : List ℕ) (entry : ℕ → Entry) (n : ℕ) (l₀ : List Float) (i : ℕ) (l : List Float) (counts : List ℕ) : Type 0 where
   pub within : i ≤ n
   pub places : length counts ≡ 16
   pub long : length l ≡ length l₀
-  pub list : l ≡ inverseOf velocities marks (leftFrom entry n i) l₀ .list
-  pub counted : drop i counts ≡ inverseOf velocities marks (leftFrom entry n i) l₀ .counts ++ replicate (16 - n) 0
+  pub list : l ≡ chainInverseOf velocities marks (leftFrom entry n i) l₀ .list
+  pub counted : drop i counts ≡ chainInverseOf velocities marks (leftFrom entry n i) l₀ .counts ++ replicate (16 - n) 0
 
 module _ (velocities : List Float) (marks : List ℕ) (entry : ℕ → Entry) (n : ℕ) (l₀ : List Float) (most : n ≤ 16) where
   pub forward-start : Forward velocities marks entry n l₀ 0 l₀ (replicate 16 0)
@@ -133,7 +137,7 @@ module _ (velocities : List Float) (marks : List ℕ) (entry : ℕ → Entry) (n
       record { within = omega arith; places = refl; long = refl; list = rw s; counted = rw s; rest = refl }
 
   pub backward-start : Backward velocities marks entry n l₀ n l₀ (replicate 16 0)
-  unfolding inverseOf
+  unfolding chainInverseOf
   backward-start =
       record {
         within = omega arith;
@@ -144,13 +148,13 @@ module _ (velocities : List Float) (marks : List ℕ) (entry : ℕ → Entry) (n
       }
 
 module _ {velocities : List Float} {marks : List ℕ} {entry : ℕ → Entry} {n : ℕ} {l₀ : List Float} {i : ℕ} {l : List Float} {counts : List ℕ} (most : n ≤ 16) where
-  pub forward-again : {e : Entry} {l′ : List Float} {count : ℕ} → i < n → e ≡ entry i → l′ ≡ stepListOf false velocities marks e l → count ≡ stepCountOf false velocities marks e l
+  pub forward-again : {e : Entry} {l′ : List Float} {count : ℕ} → i < n → e ≡ entry i → l′ ≡ stepListOf false velocities marks e l → count ≡ tuplesCountedOf false velocities marks e l
       → Forward velocities marks entry n l₀ i l counts → Forward velocities marks entry n l₀ (i + 1) l′ (set counts i count)
-  unfolding forwardOf
+  unfolding chainForwardOf
   forward-again {e} {l′} {count} h ee el ec now =
       let g : i < length counts = omega (arith, now .places) in
       let a : l′ ≡ stepListOf false velocities marks (entry i) l = el ∙ ap (λ (x : Entry). stepListOf false velocities marks x l) ee in
-      let b : count ≡ stepCountOf false velocities marks (entry i) l = ec ∙ ap (λ (x : Entry). stepCountOf false velocities marks x l) ee in
+      let b : count ≡ tuplesCountedOf false velocities marks (entry i) l = ec ∙ ap (λ (x : Entry). tuplesCountedOf false velocities marks x l) ee in
       record {
         within = omega arith;
         places = length-set counts i count ∙ now .places;
@@ -161,24 +165,24 @@ module _ {velocities : List Float} {marks : List ℕ} {entry : ℕ → Entry} {n
       }
 
   pub forward-end : n ≤ i → Forward velocities marks entry n l₀ i l counts
-      → (l ≡ forwardOf velocities marks (entriesOf entry n 0) l₀ .list) × (counts ≡ placesOf (forwardOf velocities marks (entriesOf entry n 0) l₀ .counts))
-  unfolding forwardOf
+      → (l ≡ chainForwardOf velocities marks (entriesOf entry n 0) l₀ .list) × (counts ≡ placesOf (chainForwardOf velocities marks (entriesOf entry n 0) l₀ .counts))
+  unfolding chainForwardOf
   forward-end h now =
       let s : i ≡ n = omega (arith, now .within) in
       let none : leftFrom entry n i ≡ [] = rw s (left-none entry n) in
-      let c : take i counts ≡ forwardOf velocities marks (entriesOf entry n 0) l₀ .counts = rw (none, append-nil) at (now .counted) in
+      let c : take i counts ≡ chainForwardOf velocities marks (entriesOf entry n 0) l₀ .counts = rw (none, append-nil) at (now .counted) in
       let t : length (take i counts) ≡ i = simp length-take (omega (arith, now .places)) in
-      let k : length (forwardOf velocities marks (entriesOf entry n 0) l₀ .counts) ≡ i = ap length (sym c) ∙ t in
+      let k : length (chainForwardOf velocities marks (entriesOf entry n 0) l₀ .counts) ≡ i = ap length (sym c) ∙ t in
       (rw none at (now .list), sym (take-append-drop i counts) ∙ rw (now .rest, c, k))
 
-  pub backward-again : {e : Entry} {l′ : List Float} {count : ℕ} (j : ℕ) → j + 1 ≡ i → e ≡ entry j → l′ ≡ stepListOf true velocities marks e l → count ≡ stepCountOf true velocities marks e l
+  pub backward-again : {e : Entry} {l′ : List Float} {count : ℕ} (j : ℕ) → j + 1 ≡ i → e ≡ entry j → l′ ≡ stepListOf true velocities marks e l → count ≡ tuplesCountedOf true velocities marks e l
       → Backward velocities marks entry n l₀ i l counts → Backward velocities marks entry n l₀ j l′ (set counts j count)
-  unfolding inverseOf
+  unfolding chainInverseOf
   backward-again {e} {l′} {count} j s ee el ec now =
       let g : j < length counts = omega (arith, now .places, now .within) in
       let h : j < n = omega (arith, now .within) in
       let a : l′ ≡ stepListOf true velocities marks (entry j) l = el ∙ ap (λ (x : Entry). stepListOf true velocities marks x l) ee in
-      let b : count ≡ stepCountOf true velocities marks (entry j) l = ec ∙ ap (λ (x : Entry). stepCountOf true velocities marks x l) ee in
+      let b : count ≡ tuplesCountedOf true velocities marks (entry j) l = ec ∙ ap (λ (x : Entry). tuplesCountedOf true velocities marks x l) ee in
       record {
         within = omega (arith, now .within);
         places = length-set counts j count ∙ now .places;
@@ -188,11 +192,11 @@ module _ {velocities : List Float} {marks : List ℕ} {entry : ℕ → Entry} {n
       }
 
   pub backward-end : i ≡ 0 → Backward velocities marks entry n l₀ i l counts
-      → (l ≡ inverseOf velocities marks (entriesOf entry n 0) l₀ .list) × (counts ≡ placesOf (inverseOf velocities marks (entriesOf entry n 0) l₀ .counts))
+      → (l ≡ chainInverseOf velocities marks (entriesOf entry n 0) l₀ .list) × (counts ≡ placesOf (chainInverseOf velocities marks (entriesOf entry n 0) l₀ .counts))
   backward-end s now =
       let z : n - 0 ≡ n = omega arith in
-      let c : counts ≡ inverseOf velocities marks (entriesOf entry n 0) l₀ .counts ++ replicate (16 - n) 0 = rw (s, z) at (now .counted) in
-      let k : length (inverseOf velocities marks (entriesOf entry n 0) l₀ .counts) ≡ n =
+      let c : counts ≡ chainInverseOf velocities marks (entriesOf entry n 0) l₀ .counts ++ replicate (16 - n) 0 = rw (s, z) at (now .counted) in
+      let k : length (chainInverseOf velocities marks (entriesOf entry n 0) l₀ .counts) ≡ n =
       counts-length velocities marks (entriesOf entry n 0) l₀ ∙ entries-length entry n 0
       in
       (rw (s, z) at (now .list), c ∙ rw k)

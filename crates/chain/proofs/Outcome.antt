@@ -8,7 +8,7 @@ use lib.ListN.{length}
 use lib.Ieee.{Float}
 use Rattle.sheet.specs.declared.Entry.{Entry}
 use Rattle.sheet.specs.declared.Refusal.{Refusal}
-use Rattle.sheet.specs.Rules.{ofSheet, firstBroken}
+use Rattle.sheet.specs.Rules.{ofCall, firstBroken}
 use Rattle.chain.specs.Chain.{chainOf}
 use Rattle.chain.specs.Rules.{refusal9, refusal10, shiftRefusalOf, outcome, refusedAnswer, ranOutcome, outcomeOf}
 
@@ -17,12 +17,12 @@ module _ (own : Refusal) (deforms inverse : Bool) (es : List Entry) (l velocitie
   unfolding outcomeOf shiftRefusalOf firstBroken
   refused-own h = rw (ne-eqb (own .number) 0 h, ne-eqb (own .number) 0 h)
 
-  pub refused-9 : own .number ≡ 0 → refusal9 (length l) ≡ true → outcomeOf own deforms inverse es l velocities marks ≡ outcome (refusedAnswer (ofSheet 9)) l
+  pub refused-9 : own .number ≡ 0 → refusal9 (length l) ≡ true → outcomeOf own deforms inverse es l velocities marks ≡ outcome (refusedAnswer (ofCall 9)) l
   unfolding outcomeOf shiftRefusalOf firstBroken
   refused-9 h nine = rw (eq-eqb (own .number) 0 h, nine)
 
   pub refused-10 : own .number ≡ 0 → refusal9 (length l) ≡ false → refusal10 deforms (length l) velocities marks ≡ true
-      → outcomeOf own deforms inverse es l velocities marks ≡ outcome (refusedAnswer (ofSheet 10)) l
+      → outcomeOf own deforms inverse es l velocities marks ≡ outcome (refusedAnswer (ofCall 10)) l
   unfolding outcomeOf shiftRefusalOf firstBroken
   refused-10 h nine ten = rw (eq-eqb (own .number) 0 h, nine, ten)
 

@@ -1,4 +1,5 @@
--- A chain: the steps of a sheet over a list, in order, inverse in reverse with each turned round. Velocities and marks are those that the caller lends.
+-- A chain: the steps of a sheet over a list, in order, inverse in reverse with each turned round.
+-- Velocities and marks are those that the caller lends.
 use Prim.Native.Nat.{ℕ, zero, suc, _-_}
 use mathlib.Core.Bool.{Bool, true, false, not, cond}
 use mathlib.Core.List.{List, [], _∷_, _++_}
@@ -13,7 +14,7 @@ use Rattle.bodies.specs.Read.{stepOf}
 use Rattle.bodies.specs.declared.Step.the-variants.{Cart, Permtide, Deformation, Molodensky, Helmert}
 use Rattle.sheet.specs.declared.Entry.{Entry}
 use Rattle.lists.specs.Run.{Turns, ranOf, countOf}
-use Rattle.helmert_turns.specs.Turns.{noState, helmertTurns}
+use Rattle.helmert.specs.Turns.{noState, helmertTurns}
 use Rattle.runs.specs.Turns.{cartTurns, permtideTurns, molodenskyTurns}
 use Rattle.deformation_runs.specs.Turns.{deformationTurns}
 
@@ -35,13 +36,14 @@ stateOf (Deformation r) = noState
 stateOf (Molodensky r) = noState
 stateOf (Helmert h) = startOf (prepareOf h)
 
--- the kind that a body is read by: 0, which is none, where the body is not as long as its kind's are
+-- the kind that a body is read by: 0, which is none, where the body is not as long as its kind's
+-- are
 abbrev pub heldKindOf : ℕ → ℕ → ℕ
 heldKindOf kind n = cond (eqb n (lengthOf kind)) kind 0
 
 -- a step runs in the chain's direction, turned round where its inverted word is 1
-abbrev pub turnedOf : Bool → Entry → Bool
-turnedOf inverse e = cond (eqb (e .inverted) 1) (not inverse) inverse
+abbrev pub reversedOf : Bool → Entry → Bool
+reversedOf inverse e = cond (eqb (e .inverted) 1) (not inverse) inverse
 
 -- the list after a step whose body of a kind has these bytes, and how many tuples the step counted
 unfoldable pub bodyListOf : Bool → List Float → List ℕ → ℕ → List ℕ → List Float → List Float
@@ -53,11 +55,11 @@ bodyCountOf inverse velocities marks kind b l = countOf (turnsOf inverse velocit
 -- the list after a step, and how many tuples the step counted
 unfoldable pub stepListOf : Bool → List Float → List ℕ → Entry → List Float → List Float
 stepListOf inverse velocities marks e l =
-    ranOf (turnsOf (turnedOf inverse e) velocities marks (e .step)) 0 (stateOf (e .step)) l
+    ranOf (turnsOf (reversedOf inverse e) velocities marks (e .step)) 0 (stateOf (e .step)) l
 
-unfoldable pub stepCountOf : Bool → List Float → List ℕ → Entry → List Float → ℕ
-stepCountOf inverse velocities marks e l =
-    countOf (turnsOf (turnedOf inverse e) velocities marks (e .step)) 0 (stateOf (e .step)) l
+unfoldable pub tuplesCountedOf : Bool → List Float → List ℕ → Entry → List Float → ℕ
+tuplesCountedOf inverse velocities marks e l =
+    countOf (turnsOf (reversedOf inverse e) velocities marks (e .step)) 0 (stateOf (e .step)) l
 
 -- ---- steps one after another
 
@@ -67,21 +69,21 @@ pub record Run : Type 0 where
   pub counts : List ℕ
 
 -- forward: the first step first
-unfoldable pub forwardOf : List Float → List ℕ → List Entry → List Float → Run
-forwardOf velocities marks [] l = record { list = l; counts = [] }
-forwardOf velocities marks (e ∷ es) l =
-    let later = forwardOf velocities marks es (stepListOf false velocities marks e l) in
-    record { list = later .list; counts = stepCountOf false velocities marks e l ∷ later .counts }
+unfoldable pub chainForwardOf : List Float → List ℕ → List Entry → List Float → Run
+chainForwardOf velocities marks [] l = record { list = l; counts = [] }
+chainForwardOf velocities marks (e ∷ es) l =
+    let later = chainForwardOf velocities marks es (stepListOf false velocities marks e l) in
+    record { list = later .list; counts = tuplesCountedOf false velocities marks e l ∷ later .counts }
 
 -- inverse: the last step first
-unfoldable pub inverseOf : List Float → List ℕ → List Entry → List Float → Run
-inverseOf velocities marks [] l = record { list = l; counts = [] }
-inverseOf velocities marks (e ∷ es) l =
-    let later = inverseOf velocities marks es l in
-    record { list = stepListOf true velocities marks e (later .list); counts = stepCountOf true velocities marks e (later .list) ∷ later .counts }
+unfoldable pub chainInverseOf : List Float → List ℕ → List Entry → List Float → Run
+chainInverseOf velocities marks [] l = record { list = l; counts = [] }
+chainInverseOf velocities marks (e ∷ es) l =
+    let later = chainInverseOf velocities marks es l in
+    record { list = stepListOf true velocities marks e (later .list); counts = tuplesCountedOf true velocities marks e (later .list) ∷ later .counts }
 
 abbrev pub chainOf : Bool → List Float → List ℕ → List Entry → List Float → Run
-chainOf inverse velocities marks es l = cond inverse (inverseOf velocities marks es l) (forwardOf velocities marks es l)
+chainOf inverse velocities marks es l = cond inverse (chainInverseOf velocities marks es l) (chainForwardOf velocities marks es l)
 
 -- sixteen places: each step's count, and 0 in the others
 abbrev pub placesOf : List ℕ → List ℕ

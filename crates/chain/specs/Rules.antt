@@ -1,4 +1,5 @@
--- When a call is refused, by document 01's numbers, and what it answers. `refusalN` says when refusal N is given: its rule is broken.
+-- When a call is refused, by document 01's numbers, and what it answers. `refusal9` and
+-- `refusal10` say when the rule of that number is broken.
 use Prim.Native.Nat.{ℕ, _*_, _/_, _%_}
 use mathlib.Core.Bool.{Bool, false, not, cond, _||_}
 use mathlib.Core.List.{List, [], _∷_}
@@ -8,7 +9,7 @@ use lib.Ieee.{Float}
 use Rattle.sheet.specs.declared.Entry.{Entry}
 use Rattle.sheet.specs.declared.Refusal.{Refusal}
 use Rattle.sheet.specs.Layout.{stepCountOf, kindAt, entryAt}
-use Rattle.sheet.specs.Rules.{accepted, ofSheet, rule, firstBroken, deformationBefore, refusalOf}
+use Rattle.sheet.specs.Rules.{accepted, ofCall, rule, firstBroken, hasDeformation, refusalOf}
 use Rattle.chain.specs.declared.Answer.{Answer}
 use Rattle.chain.specs.Chain.{Run, chainOf, placesOf, entriesOf}
 
@@ -37,8 +38,8 @@ unfoldable pub shiftRefusalOf : Refusal → Bool → List Float → List Float �
 shiftRefusalOf own deforms l velocities marks =
     firstBroken
     (rule own (not (eqb (own .number) 0))
-    ∷ rule (ofSheet 9) (refusal9 (length l))
-    ∷ rule (ofSheet 10) (refusal10 deforms (length l) velocities marks)
+    ∷ rule (ofCall 9) (refusal9 (length l))
+    ∷ rule (ofCall 10) (refusal10 deforms (length l) velocities marks)
     ∷ [])
 
 -- ---- the answer
@@ -71,4 +72,4 @@ outcomeOf own deforms inverse es l velocities marks =
 -- over a sheet's bytes
 unfoldable pub shiftOf : Bool → List ℕ → List Float → List Float → List ℕ → Outcome
 shiftOf inverse s l velocities marks =
-    outcomeOf (refusalOf s) (deformationBefore (kindAt s) (stepCountOf s)) inverse (entriesOf (entryAt s) (stepCountOf s) 0) l velocities marks
+    outcomeOf (refusalOf s) (hasDeformation (kindAt s) (stepCountOf s)) inverse (entriesOf (entryAt s) (stepCountOf s) 0) l velocities marks

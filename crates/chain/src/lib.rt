@@ -1,25 +1,29 @@
 // The chain: a sheet's steps over a lent flat list, where the list stands.
 //
-// Document 01, "The sheet" (a chain runs steps in order, inverse in reverse with each turned round) and "Numbers of refusal". `shift` checks the sheet where
-// it lies and decodes one body at a time, steps outermost and list innermost; chain_record does the same over a record that is already read, and the two
-// agree (proved there). The answer, the counts and the list are fixed for every input by specs/Rules.antt over specs/Chain.antt, which is made of the steps' own
-// definitions; nothing is written before the last test has passed. No rounding but the steps' own. Used by the program and by callers that keep lists.
+// Document 01, "The sheet" (a chain runs steps in order, inverse in reverse with each turned round)
+// and "Numbers of refusal". `shift` checks the sheet where it lies and decodes one body at a time,
+// steps outermost and list innermost; chain_record does the same over a record that is already
+// read, and the two agree (proved there). The answer, the counts and the list are fixed for every
+// input by specs/Rules.antt over specs/Chain.antt, which is made of the steps' own definitions;
+// nothing is written before the last test has passed. No rounding but the steps' own. Used by the
+// program and by callers that keep lists.
 ghost use mathlib.Core.Path.{_≡_};
 ghost use mathlib.Core.Bool.{cond, not, true, false};
 ghost use Prim.Native.Nat.{_*_, _≤_, _<_};
 ghost use lib.Dec.{eqb};
 ghost use lib.ListN.{length};
-ghost use Rattle.sheet.specs.Layout.{stepCountOf as headerCountOf, kindAt, entryAt};
+ghost use Rattle.sheet.specs.Layout.{stepCountOf, kindAt, entryAt};
 ghost use Rattle.cart.specs.Record.{blankOf};
 ghost use Rattle.bodies.specs.Read.{cartIn};
-ghost use Rattle.sheet.specs.Rules.{ofSheet, deformationBefore};
-ghost use Rattle.chain.specs.Chain.{heldKindOf, bodyListOf, bodyCountOf, turnedOf, stepListOf, stepCountOf, forwardOf, inverseOf, placesOf, entriesOf};
+ghost use Rattle.sheet.specs.Rules.{hasDeformation};
+ghost use Rattle.chain.specs.Chain.{heldKindOf, bodyListOf, bodyCountOf, reversedOf, stepListOf, tuplesCountedOf, chainForwardOf, chainInverseOf, placesOf, entriesOf};
 ghost use Rattle.chain.specs.Rules.{refusal9, overOne, lentFor, refusal10, refusedAnswer, ranAnswer, outcome, shiftOf};
 use cart::Cart;
 use sheet::Entry;
 use sheet::Refusal;
 
-// What a call answers: no refusal and each step's count in the sheet's order, 0 in the other places; or a refusal and zeros.
+// What a call answers: no refusal and each step's count in the sheet's order, 0 in the other
+// places; or a refusal and zeros.
 pub struct Answer {
     pub refusal: Refusal,
     pub counts: [usize; 16],
@@ -28,29 +32,23 @@ pub struct Answer {
 // ----- one step over the list ----------------------------------------------------------------
 
 // A step's direction: turned round where its inverted word is 1.
-fn turned_by(inverse: bool, inverted: u32) -> bool
+fn reversed_by(inverse: bool, inverted: u32) -> bool
     ensures { λ r. ⌜ r ≡ cond (eqb inverted 1) (not inverse) inverse ⌝ }
 {
     if inverted == 1 { !inverse } else { inverse }
 }
 
-pub fn turned(inverse: bool, entry: Entry) -> bool
-    ensures { λ r. ⌜ r ≡ turnedOf inverse entry ⌝ }
+pub fn reversed(inverse: bool, entry: Entry) -> bool
+    ensures { λ r. ⌜ r ≡ reversedOf inverse entry ⌝ }
 {
-    turned_by(inverse, entry.inverted)
-}
-
-fn wide(x: u32) -> usize
-    ensures { λ r. ⌜ r ≡ x ⌝ }
-{
-    x as usize
+    reversed_by(inverse, entry.inverted)
 }
 
 // A body's kind where the body is as long as its kind's are, else 0.
 fn held_kind(kind: u32, length: usize) -> u32
     ensures { λ r. ⌜ r ≡ heldKindOf kind length ⌝ }
 {
-    if length == wide(bodies::length_of(kind)) {
+    if length == words::wide(bodies::length_of(kind)) {
         return kind;
     }
     0
@@ -66,8 +64,9 @@ fn cart_of(kind: u32, b: &[u8]) -> Cart
     Cart::blank()
 }
 
-// A body over the list, read where it lies: the kind is decided here, once a list, and no step of any kind is made to be taken apart again. Helmert's stands apart from the others', so
-// that neither has the other's columns on the stack.
+// Runs one step over the list, reading its record from the sheet's bytes. No `Step` is built: the
+// enum is as large as a Helmert record and would be copied at each call. Helmert stands apart from
+// the other kinds, so that the columns of one are not on the stack of the other.
 fn run_helmert(
     inv: bool,
     kind: u32,
@@ -114,18 +113,17 @@ fn run_other(
     runs::run_cart(list, inv, cart_of(held, b))
 }
 
-// The step at an index over the list, in the chain's direction. One function a direction: what both call is then not laid into their own frame.
+// The step at index i over the list, in the chain's direction. Two copies on purpose. The compiler
+// inlines a function that has one caller; with a single `step_at` the frames of `run_helmert` and
+// `run_other` would add up (examples/c/stack.c holds the limit).
 fn forward_at(s: &[u8], i: usize, list: &mut [f64], velocities: &[f64], marks: &[u8]) -> usize
-    requires { ⌜ (i < 16) × (i < headerCountOf (now s)) ⌝ }
+    requires { ⌜ i < stepCountOf (now s) ⌝ }
     ensures { λ r. ⌜ (now (list .exit) ≡ stepListOf false (now (velocities .entry)) (now (marks .entry)) (entryAt (now (s .entry)) i) (now (list .entry)))
-        × (r ≡ stepCountOf false (now (velocities .entry)) (now (marks .entry)) (entryAt (now (s .entry)) i) (now (list .entry))) ⌝ }
+        × (r ≡ tuplesCountedOf false (now (velocities .entry)) (now (marks .entry)) (entryAt (now (s .entry)) i) (now (list .entry))) ⌝ }
 {
-    let place = 16 + 16 * i;
-    let inv = turned_by(false, words::read32(s, place + 4));
-    let kind = words::read32(s, place);
-    let offset = wide(words::read32(s, place + 8));
-    let length = wide(words::read32(s, place + 12));
-    let b = sheet::part(s, offset, length);
+    let inv = reversed_by(false, sheet::inverted_at(s, i));
+    let kind = sheet::kind_at(s, i);
+    let b = sheet::body_at(s, i);
     if held_kind(kind, b.len()) == 1 {
         return run_helmert(inv, kind, b, list, velocities, marks);
     }
@@ -133,16 +131,13 @@ fn forward_at(s: &[u8], i: usize, list: &mut [f64], velocities: &[f64], marks: &
 }
 
 fn backward_at(s: &[u8], i: usize, list: &mut [f64], velocities: &[f64], marks: &[u8]) -> usize
-    requires { ⌜ (i < 16) × (i < headerCountOf (now s)) ⌝ }
+    requires { ⌜ i < stepCountOf (now s) ⌝ }
     ensures { λ r. ⌜ (now (list .exit) ≡ stepListOf true (now (velocities .entry)) (now (marks .entry)) (entryAt (now (s .entry)) i) (now (list .entry)))
-        × (r ≡ stepCountOf true (now (velocities .entry)) (now (marks .entry)) (entryAt (now (s .entry)) i) (now (list .entry))) ⌝ }
+        × (r ≡ tuplesCountedOf true (now (velocities .entry)) (now (marks .entry)) (entryAt (now (s .entry)) i) (now (list .entry))) ⌝ }
 {
-    let place = 16 + 16 * i;
-    let inv = turned_by(true, words::read32(s, place + 4));
-    let kind = words::read32(s, place);
-    let offset = wide(words::read32(s, place + 8));
-    let length = wide(words::read32(s, place + 12));
-    let b = sheet::part(s, offset, length);
+    let inv = reversed_by(true, sheet::inverted_at(s, i));
+    let kind = sheet::kind_at(s, i);
+    let b = sheet::body_at(s, i);
     if held_kind(kind, b.len()) == 1 {
         return run_helmert(inv, kind, b, list, velocities, marks);
     }
@@ -152,9 +147,9 @@ fn backward_at(s: &[u8], i: usize, list: &mut [f64], velocities: &[f64], marks: 
 // ----- a sheet's steps, one after another ------------------------------------------------------
 
 fn forward(s: &[u8], n: usize, list: &mut [f64], velocities: &[f64], marks: &[u8]) -> [usize; 16]
-    requires { ⌜ (n ≤ 16) × (n ≡ headerCountOf (now s)) ⌝ }
-    ensures { λ r. ⌜ (now (list .exit) ≡ forwardOf (now (velocities .entry)) (now (marks .entry)) (entriesOf (entryAt (now (s .entry))) n 0) (now (list .entry)) .list)
-        × (r ≡ placesOf (forwardOf (now (velocities .entry)) (now (marks .entry)) (entriesOf (entryAt (now (s .entry))) n 0) (now (list .entry)) .counts)) ⌝ }
+    requires { ⌜ (n ≤ 16) × (n ≡ stepCountOf (now s)) ⌝ }
+    ensures { λ r. ⌜ (now (list .exit) ≡ chainForwardOf (now (velocities .entry)) (now (marks .entry)) (entriesOf (entryAt (now (s .entry))) n 0) (now (list .entry)) .list)
+        × (r ≡ placesOf (chainForwardOf (now (velocities .entry)) (now (marks .entry)) (entriesOf (entryAt (now (s .entry))) n 0) (now (list .entry)) .counts)) ⌝ }
 {
     let mut counts = [0usize; 16];
     let mut i = 0;
@@ -167,9 +162,9 @@ fn forward(s: &[u8], n: usize, list: &mut [f64], velocities: &[f64], marks: &[u8
 }
 
 fn backward(s: &[u8], n: usize, list: &mut [f64], velocities: &[f64], marks: &[u8]) -> [usize; 16]
-    requires { ⌜ (n ≤ 16) × (n ≡ headerCountOf (now s)) ⌝ }
-    ensures { λ r. ⌜ (now (list .exit) ≡ inverseOf (now (velocities .entry)) (now (marks .entry)) (entriesOf (entryAt (now (s .entry))) n 0) (now (list .entry)) .list)
-        × (r ≡ placesOf (inverseOf (now (velocities .entry)) (now (marks .entry)) (entriesOf (entryAt (now (s .entry))) n 0) (now (list .entry)) .counts)) ⌝ }
+    requires { ⌜ (n ≤ 16) × (n ≡ stepCountOf (now s)) ⌝ }
+    ensures { λ r. ⌜ (now (list .exit) ≡ chainInverseOf (now (velocities .entry)) (now (marks .entry)) (entriesOf (entryAt (now (s .entry))) n 0) (now (list .entry)) .list)
+        × (r ≡ placesOf (chainInverseOf (now (velocities .entry)) (now (marks .entry)) (entriesOf (entryAt (now (s .entry))) n 0) (now (list .entry)) .counts)) ⌝ }
 {
     let mut counts = [0usize; 16];
     let mut i = n;
@@ -230,13 +225,12 @@ pub fn lent_broken(deforms: bool, numbers: usize, velocities: &[f64], marks: &[u
 
 // Whether one of the first n steps is a deformation step.
 fn deforms(s: &[u8], n: usize) -> bool
-    requires { ⌜ n < 4294967296 ⌝ }
-    ensures { λ r. ⌜ r ≡ deformationBefore (kindAt (now (s .entry))) n ⌝ }
+    ensures { λ r. ⌜ r ≡ hasDeformation (kindAt (now (s .entry))) n ⌝ }
 {
     let mut found = false;
     let mut i = 0;
     while i < n {
-        found = found | (words::read32(s, 16 + 16 * i) == 5);
+        found = found | (sheet::kind_at(s, i) == 5);
         i += 1;
     }
     found
@@ -244,22 +238,12 @@ fn deforms(s: &[u8], n: usize) -> bool
 
 // Whether a sheet has a deformation step.
 pub fn has_deformation(s: &[u8]) -> bool
-    ensures { λ r. ⌜ r ≡ deformationBefore (kindAt (now (s .entry))) (headerCountOf (now (s .entry))) ⌝ }
+    ensures { λ r. ⌜ r ≡ hasDeformation (kindAt (now (s .entry))) (stepCountOf (now (s .entry))) ⌝ }
 {
     deforms(s, sheet::step_count(s))
 }
 
 // ----- the entries ------------------------------------------------------------------------------
-
-// A refusal of the lent lists carries no step.
-pub fn of_lists(number: u32) -> Refusal
-    ensures { λ r. ⌜ r ≡ ofSheet number ⌝ }
-{
-    Refusal {
-        number: number,
-        step: 0,
-    }
-}
 
 pub fn refused(refusal: Refusal) -> Answer
     ensures { λ r. ⌜ r ≡ refusedAnswer refusal ⌝ }
@@ -288,11 +272,11 @@ pub fn shift(inverse: bool, s: &[u8], list: &mut [f64], velocities: &[f64], mark
         return refused(own);
     }
     if list_broken(list.len()) {
-        return refused(of_lists(9));
+        return refused(Refusal::of_call(9));
     }
     let n = sheet::step_count(s);
     if lent_broken(deforms(s, n), list.len(), velocities, marks) {
-        return refused(of_lists(10));
+        return refused(Refusal::of_call(10));
     }
     if inverse {
         let counts = backward(s, n, list, velocities, marks);

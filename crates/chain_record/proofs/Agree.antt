@@ -9,7 +9,7 @@ use Rattle.words.specs.Words.{Bytes}
 use Rattle.sheet.specs.declared.Entry.{Entry}
 use Rattle.sheet.specs.declared.Refusal.{Refusal}
 use Rattle.sheet.specs.Layout.{stepCountOf, kindAt, entryAt, recordOf, entryOf, kindIn}
-use Rattle.sheet.specs.Rules.{accepted, deformationBefore, refusalOf}
+use Rattle.sheet.specs.Rules.{accepted, hasDeformation, refusalOf}
 use Rattle.sheet_writer.specs.Rules.{writerRefusalOf}
 use Rattle.sheet.proofs.Accepted.{Accepted, accepted-keeps}
 use Rattle.sheet.proofs.Back.{entry-same, kind-same, record-count}
@@ -25,8 +25,8 @@ entries-same a b m same zero i h = refl
 entries-same a b m same (suc k) i h = rw (same i (omega arith), entries-same a b m same k (suc i) (omega arith))
 
 -- kinds that agree below n have the same deformation steps there
-deforms-same : (a b : ℕ → ℕ) (n : ℕ) → ((i : ℕ) → i < n → a i ≡ b i) → (i : ℕ) → i ≤ n → deformationBefore a i ≡ deformationBefore b i
-unfolding deformationBefore
+deforms-same : (a b : ℕ → ℕ) (n : ℕ) → ((i : ℕ) → i < n → a i ≡ b i) → (i : ℕ) → i ≤ n → hasDeformation a i ≡ hasDeformation b i
+unfolding hasDeformation
 deforms-same a b n same zero h = refl
 deforms-same a b n same (suc i) h = rw (deforms-same a b n same i (omega arith), same i (omega arith))
 
@@ -37,8 +37,8 @@ unfolding shiftRecordOf shiftOf
 bytes-and-record-agree inverse s l velocities marks bytes e =
     let ok : Accepted s = accepted-keeps s (ap (λ (r : Refusal). r .number) e) in
     let own : writerRefusalOf (recordOf s) 4240 ≡ refusalOf s = writer-takes-what-was-read s bytes e 4240 (ok .at-most) ∙ sym e in
-    let d : deformationBefore (kindIn (recordOf s)) (recordOf s .count) ≡ deformationBefore (kindAt s) (stepCountOf s) =
-    ap (deformationBefore (kindIn (recordOf s))) (record-count s)
+    let d : hasDeformation (kindIn (recordOf s)) (recordOf s .count) ≡ hasDeformation (kindAt s) (stepCountOf s) =
+    ap (hasDeformation (kindIn (recordOf s))) (record-count s)
     ∙ deforms-same (kindIn (recordOf s)) (kindAt s) (stepCountOf s) (kind-same s bytes ok) (stepCountOf s) (omega arith)
     in
     let es : entriesOf (entryOf (recordOf s)) (recordOf s .count) 0 ≡ entriesOf (entryAt s) (stepCountOf s) 0 =

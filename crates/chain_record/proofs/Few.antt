@@ -4,11 +4,11 @@ use mathlib.Core.Path.{_≡_, refl}
 use mathlib.Core.Bool.{Bool, true, false, cond}
 use Rattle.sheet.specs.declared.Refusal.{Refusal}
 use Rattle.sheet.specs.declared.Sheet.{Sheet}
-use Rattle.sheet.specs.Rules.{ofSheet, firstBroken, refusal3}
+use Rattle.sheet.specs.Rules.{ofCall, firstBroken, refusal3}
 use Rattle.sheet_writer.specs.Rules.{writerRefusalOf, writerOrder}
 use Rattle.sheet.proofs.Order.{not-zero, count-kept}
 
-first-kept : (three : Bool) (r : Refusal) → cond three (ofSheet 3) r .number ≡ 0 → three ≡ false
+first-kept : (three : Bool) (r : Refusal) → cond three (ofCall 3) r .number ≡ 0 → three ≡ false
 first-kept true r h = absurd (not-zero 2 h)
 first-kept false r h = refl
 

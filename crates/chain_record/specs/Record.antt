@@ -5,12 +5,13 @@ use mathlib.Core.List.{List}
 use lib.Ieee.{Float}
 use Rattle.sheet.specs.declared.Sheet.{Sheet}
 use Rattle.sheet.specs.Layout.{entryOf, kindIn}
-use Rattle.sheet.specs.Rules.{deformationBefore}
+use Rattle.sheet.specs.Rules.{hasDeformation}
 use Rattle.sheet_writer.specs.Rules.{writerRefusalOf}
 use Rattle.chain.specs.Chain.{entriesOf}
 use Rattle.chain.specs.Rules.{Outcome, outcomeOf}
 
--- Over a record: its own rules are the writer's, in a room that any sheet fits, so that 15 is never given.
+-- Over a record: its own rules are the writer's, in a room that any sheet fits, so that 15 is never
+-- given.
 unfoldable pub shiftRecordOf : Bool → Sheet → List Float → List Float → List ℕ → Outcome
 shiftRecordOf inverse sheet l velocities marks =
-    outcomeOf (writerRefusalOf sheet 4240) (deformationBefore (kindIn sheet) (sheet .count)) inverse (entriesOf (entryOf sheet) (sheet .count) 0) l velocities marks
+    outcomeOf (writerRefusalOf sheet 4240) (hasDeformation (kindIn sheet) (sheet .count)) inverse (entriesOf (entryOf sheet) (sheet .count) 0) l velocities marks

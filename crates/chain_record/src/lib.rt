@@ -1,18 +1,21 @@
-// The chain over a record that is already read: a sheet's steps over a lent flat list, where the list stands.
+// The chain over a record that is already read: a sheet's steps over a lent flat list, where the
+// list stands.
 //
-// As `chain::shift` does over a sheet's bytes; the two agree on every sheet that is accepted (proofs/Agree.antt). A record's own rules are the writer's, in a room that
-// any sheet fits. The answer, the counts and the list are fixed for every input by specs/Record.antt over chain's definitions. No rounding but the steps' own. For
-// callers that hold a sheet as a record.
+// As `chain::shift` does over a sheet's bytes; the two agree on every sheet that is accepted
+// (proofs/Agree.antt). A record's own rules are the writer's, in a room that any sheet fits. The
+// answer, the counts and the list are fixed for every input by specs/Record.antt over chain's
+// definitions. No rounding but the steps' own. For callers that hold a sheet as a record.
 ghost use mathlib.Core.Path.{_≡_};
 ghost use Prim.Native.Nat.{_≤_};
 ghost use Rattle.sheet.specs.Layout.{entryOf, kindIn};
-ghost use Rattle.sheet.specs.Rules.{deformationBefore};
-ghost use Rattle.chain.specs.Chain.{stepListOf, stepCountOf, forwardOf, inverseOf, placesOf, entriesOf};
+ghost use Rattle.sheet.specs.Rules.{hasDeformation};
+ghost use Rattle.chain.specs.Chain.{stepListOf, tuplesCountedOf, chainForwardOf, chainInverseOf, placesOf, entriesOf};
 ghost use Rattle.chain.specs.Rules.{outcome};
 ghost use Rattle.chain_record.specs.Record.{shiftRecordOf};
 use bodies::Step;
 use chain::Answer;
 use sheet::Entry;
+use sheet::Refusal;
 use sheet::Sheet;
 
 // The kind is decided here, once a list.
@@ -24,9 +27,9 @@ fn run_step(
     marks: &[u8],
 ) -> usize
     ensures { λ r. ⌜ (now (list .exit) ≡ stepListOf inverse (now (velocities .entry)) (now (marks .entry)) entry (now (list .entry)))
-        × (r ≡ stepCountOf inverse (now (velocities .entry)) (now (marks .entry)) entry (now (list .entry))) ⌝ }
+        × (r ≡ tuplesCountedOf inverse (now (velocities .entry)) (now (marks .entry)) entry (now (list .entry))) ⌝ }
 {
-    let inv = chain::turned(inverse, entry);
+    let inv = chain::reversed(inverse, entry);
     let step = entry.step;
     match step {
         Step::Cart(r) => {
@@ -47,12 +50,6 @@ fn run_step(
     }
 }
 
-fn wide(x: u32) -> usize
-    ensures { λ r. ⌜ r ≡ x ⌝ }
-{
-    x as usize
-}
-
 fn forward_record(
     kept: Sheet,
     n: usize,
@@ -61,8 +58,8 @@ fn forward_record(
     marks: &[u8],
 ) -> [usize; 16]
     requires { ⌜ n ≤ 16 ⌝ }
-    ensures { λ r. ⌜ (now (list .exit) ≡ forwardOf (now (velocities .entry)) (now (marks .entry)) (entriesOf (entryOf kept) n 0) (now (list .entry)) .list)
-        × (r ≡ placesOf (forwardOf (now (velocities .entry)) (now (marks .entry)) (entriesOf (entryOf kept) n 0) (now (list .entry)) .counts)) ⌝ }
+    ensures { λ r. ⌜ (now (list .exit) ≡ chainForwardOf (now (velocities .entry)) (now (marks .entry)) (entriesOf (entryOf kept) n 0) (now (list .entry)) .list)
+        × (r ≡ placesOf (chainForwardOf (now (velocities .entry)) (now (marks .entry)) (entriesOf (entryOf kept) n 0) (now (list .entry)) .counts)) ⌝ }
 {
     let mut counts = [0usize; 16];
     let mut i = 0;
@@ -83,8 +80,8 @@ fn backward_record(
     marks: &[u8],
 ) -> [usize; 16]
     requires { ⌜ n ≤ 16 ⌝ }
-    ensures { λ r. ⌜ (now (list .exit) ≡ inverseOf (now (velocities .entry)) (now (marks .entry)) (entriesOf (entryOf kept) n 0) (now (list .entry)) .list)
-        × (r ≡ placesOf (inverseOf (now (velocities .entry)) (now (marks .entry)) (entriesOf (entryOf kept) n 0) (now (list .entry)) .counts)) ⌝ }
+    ensures { λ r. ⌜ (now (list .exit) ≡ chainInverseOf (now (velocities .entry)) (now (marks .entry)) (entriesOf (entryOf kept) n 0) (now (list .entry)) .list)
+        × (r ≡ placesOf (chainInverseOf (now (velocities .entry)) (now (marks .entry)) (entriesOf (entryOf kept) n 0) (now (list .entry)) .counts)) ⌝ }
 {
     let mut counts = [0usize; 16];
     let mut i = n;
@@ -100,7 +97,7 @@ fn backward_record(
 // Whether one of the first n steps is a deformation step.
 fn deforms_record(kept: Sheet, n: usize) -> bool
     requires { ⌜ n ≤ 16 ⌝ }
-    ensures { λ r. ⌜ r ≡ deformationBefore (kindIn kept) n ⌝ }
+    ensures { λ r. ⌜ r ≡ hasDeformation (kindIn kept) n ⌝ }
 {
     let mut found = false;
     let mut i = 0;
@@ -128,11 +125,11 @@ pub fn shift_record(
         return chain::refused(own);
     }
     if chain::list_broken(list.len()) {
-        return chain::refused(chain::of_lists(9));
+        return chain::refused(Refusal::of_call(9));
     }
-    let n = wide(kept.count);
+    let n = words::wide(kept.count);
     if chain::lent_broken(deforms_record(kept, n), list.len(), velocities, marks) {
-        return chain::refused(chain::of_lists(10));
+        return chain::refused(Refusal::of_call(10));
     }
     if inverse {
         let counts = backward_record(kept, n, list, velocities, marks);

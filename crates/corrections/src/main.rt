@@ -1,9 +1,13 @@
-// Corrections replayed: kept runs in every mode, corrected at random, beside fresh runs of the corrected list.
+// Corrections replayed: kept runs in every mode, corrected at random, beside fresh runs of the
+// corrected list.
 //
-// Document 01, "Kept run", and demand 3, by running. Each case is a random sheet of one Helmert step, a random list (0 to 2,048 fixes; times NaN, equal, -0, of
-// any bits) and six corrections one after another (index 0, last, past the end, any). After each, list, results and track are compared in every bit with those
-// of a fresh run of the list that this program itself corrected, and the count with the stretch that the document's words define on the two tracks: from the
-// index up to the first fix after which the new track equals the old one, else to the end. Prints a line a mode, and how many comparisons parted.
+// Document 01, "Kept run", and demand 3, by running. Each case is a random sheet of one Helmert
+// step, a random list (0 to 2,048 fixes; times NaN, equal, -0, of any bits) and six corrections one
+// after another (index 0, last, past the end, any). After each, list, results and track are
+// compared in every bit with those of a fresh run of the list that this program itself corrected,
+// and the count with the stretch that the document's words define on the two tracks: from the index
+// up to the first fix after which the new track equals the old one, else to the end. Prints a line
+// a mode, and how many comparisons parted.
 ghost use Prim.Native.Nat.{_<_, _≤_};
 ghost use Rattle.corrections.specs.Room.{Roomy};
 use kept::Corrected;
@@ -144,7 +148,8 @@ fn rate(mode: usize, seed: usize, j: usize) -> f64 {
     parameter(seed)
 }
 
-// The number at a body's place: translation, xyz, their rates, rotation, rxyz, their rates, the scales, t_epoch, t_obs.
+// The number at a body's place: translation, xyz, their rates, rotation, rxyz, their rates, the
+// scales, t_epoch, t_obs.
 fn number(mode: usize, seed: usize, j: usize) -> f64 {
     match j {
         6 | 7 | 8 | 9 | 10 | 11 | 18 | 19 | 20 | 21 | 22 | 23 | 26 | 27 => rate(mode, seed, j),
@@ -224,7 +229,8 @@ fn differing(a: &[f64], b: &[f64]) -> usize {
     n
 }
 
-// The stretch by the words: from the index up to the first fix after which the new track equals the old one, else to the end.
+// The stretch by the words: from the index up to the first fix after which the new track equals the
+// old one, else to the end.
 fn stretch(new: &[f64], old: &[f64], index: usize) -> usize {
     let mut i = index;
     while i < new.len() / 4 {
@@ -238,7 +244,8 @@ fn stretch(new: &[f64], old: &[f64], index: usize) -> usize {
 
 // ----- a correction --------------------------------------------------------------------------------
 
-// The chance to go on with, and what was seen: corrections taken, refused, fixes redone, stretches longer than one fix, comparisons that parted.
+// The chance to go on with, and what was seen: corrections taken, refused, fixes redone, stretches
+// longer than one fix, comparisons that parted.
 struct Tally {
     seed: usize,
     taken: usize,

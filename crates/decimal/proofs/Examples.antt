@@ -7,7 +7,8 @@ use Rattle.floats.specs.Number.{signOf, sameOf}
 use Rattle.decimal.specs.declared.Decimal.the-variants.{Found, Nothing}
 use Rattle.decimal.specs.Places.{tenTo, wholeOf, digitsOf, readOf, passesOf, firstFrom, decimalOf}
 
--- numbers of the published shifts and of the ellipsoids: 0.554, -0.198, 6377397.155, 298.257223563, 0.219, 2010, 1e-9
+-- numbers of the published shifts and of the ellipsoids: 0.554, -0.198, 6377397.155, 298.257223563,
+-- 0.219, 2010, 1e-9
 published :
     (decimalOf (bits 0x3fe1_ba5e_353f_7cee) ≡ Found false 554 3)
     × (decimalOf (bits 0xbfc9_5810_624d_d2f2) ≡ Found true 198 3)

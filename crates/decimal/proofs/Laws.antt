@@ -1,22 +1,20 @@
 -- What is true of the decimal that is found, for callers to cite. Assumes nothing.
 use mathlib.Core.Path.{_≡_, refl, sym, ap, _∙_, subst}
-use Prim.Native.Nat.{ℕ, zero, suc, _+_, _*_, _%_, _^_, _<_, _≤_}
+use Prim.Native.Nat.{ℕ, zero, suc, _+_, _*_, _^_, _<_, _≤_}
 use native.Mathlib.Omega.{arith}
 use native.Mathlib.Nat.{mul-one, mul-assoc, mul-comm, mul-pos, zero-mul, one-le-pow}
 use mathlib.Core.Bool.{Bool, true, false, cond, false≢true}
 use lib.Dec.{T, eqb}
 use borrow.Author.Tests.{eqb-true, eqb-false, ne-eqb}
 use lib.IntN.{ℤ, pos}
-use lib.Pow.{pow-pos}
-use lib.Ieee.{Float, nan, inf, fin, binary64, fits, toBits, ofInt, neg, div, lt, round, up, down}
+use lib.Ieee.{Float, nan, inf, fin, binary64, fits, ofInt, neg, div, lt, round, up, down}
 use lib.Ieee.Fits.{neg-fits, cond-fits, div-fits, down-pos}
 use lib.Ieee.Exact.{HasValue}
 use lib.Ieee.Back.{round-whole}
 use lib.Ieee.Scale.{round-same}
-use Rattle.floats.specs.Binary64.{_⊗_, _⊘_, bits}
-use Rattle.floats.specs.Number.{signOf, absOf, sameOf}
+use Rattle.floats.specs.Binary64.{_⊗_, _⊘_}
+use Rattle.floats.specs.Number.{signOf, absOf}
 use Rattle.floats.proofs.Laws.{same-are-equal}
-use Rattle.decimal.specs.declared.Decimal.{Decimal}
 use Rattle.decimal.specs.declared.Decimal.the-variants.{Found, Nothing}
 use Rattle.decimal.specs.Places.{tenTo, twoTo52, wholeOf, digitsOf, readOf, passesOf, firstFrom, decimalOf}
 use Rattle.decimal.proofs.Tens.{ten-is-exact}
@@ -61,6 +59,19 @@ of-x : (x : Float) (s : Bool) (d k : ℕ) → decimalOf x ≡ Found s d k → Fr
 unfolding decimalOf
 of-x x s d k e = found-from 23 (passesOf (absOf x) 0) (signOf x) (absOf x) 0 s d k refl e
 
+-- ---- where nothing was found no number of places passes
+
+none-from : (n : ℕ) (b sign : Bool) (a : Float) (k : ℕ) → b ≡ passesOf a k → firstFrom n b sign a k ≡ Nothing → (i : ℕ) → k ≤ i → i < k + n → passesOf a i ≡ false
+unfolding firstFrom
+none-from zero b sign a k p e i h l = absurd (omega arith)
+none-from (suc n) true sign a k p e i h l = let z : _≡_ {A = ℕ} 0 1 = cc in absurd (omega arith)
+none-from (suc n) false sign a k p e i h l =
+    here-or-after a k (k + suc n) (sym p) (λ m g f. none-from n (passesOf a (k + 1)) sign a (k + 1) refl e m g (omega arith)) i h l
+
+pub none-passes : (x : Float) → decimalOf x ≡ Nothing → (k : ℕ) → k < 23 → passesOf (absOf x) k ≡ false
+unfolding decimalOf
+none-passes x e k h = none-from 23 (passesOf (absOf x) 0) (signOf x) (absOf x) 0 refl e k (omega arith) (omega arith)
+
 -- ---- it reads back
 
 abs-fits : (x : Float) → T (fits binary64 x) → T (fits binary64 (absOf x))
@@ -75,11 +86,16 @@ unfolding passesOf readOf
 passed-reads a k h p =
     same-are-equal (readOf (digitsOf a k) k) a (div-fits binary64 (ofInt binary64 (pos (digitsOf a k))) (tenTo k)) h (second (lt (a ⊗ tenTo k) twoTo52) _ p)
 
--- the decimal that is found has the number's sign, and its digits over the power of ten are the number's magnitude
+-- the decimal that is found has the number's sign, and its digits over the power of ten are the
+-- number's magnitude
 pub reads-back : (x : Float) (s : Bool) (d k : ℕ) → T (fits binary64 x) → decimalOf x ≡ Found s d k → (s ≡ signOf x) × (readOf d k ≡ absOf x)
 reads-back x s d k h e =
     let r = of-x x s d k e in
     (r .its-sign, ap (λ (n : ℕ). readOf n k) (r .its-digits) ∙ passed-reads (absOf x) k (abs-fits x h) (r .passed))
+
+-- its places pass the test
+pub its-places-pass : (x : Float) (s : Bool) (d k : ℕ) → decimalOf x ≡ Found s d k → passesOf (absOf x) k ≡ true
+its-places-pass x s d k e = of-x x s d k e .passed
 
 -- no smaller number of places passes the test, and there are no more than 22
 pub fewest-that-pass : (x : Float) (s : Bool) (d k : ℕ) → decimalOf x ≡ Found s d k → (k < 23) × ((j : ℕ) → j < k → passesOf (absOf x) j ≡ false)
@@ -117,7 +133,8 @@ quotient (fin false m e) (fin false l f) d n h p q = over (sym (mul-one (m * up 
     over : m * up e ≡ d * down e → l * up f ≡ n * down f → fin false m e ⊘ fin false l f ≡ round binary64 false d n
     over a b = by-parts m e l f d n h a b
 
--- a decimal's digits over its power of ten is their quotient as whole numbers, rounded once: what a correct reader of the decimal answers
+-- a decimal's digits over its power of ten is their quotient as whole numbers, rounded once: what a
+-- correct reader of the decimal answers
 pub read-is-rounded-once : (d k : ℕ) → d ≤ 2 ^ 53 → k < 23 → readOf d k ≡ round binary64 false d (10 ^ k)
 unfolding readOf ofInt
 read-is-rounded-once d k h l = quotient (ofInt binary64 (pos d)) (tenTo k) d (10 ^ k) (one-le-pow k 10 (omega arith)) (round-whole binary64 false d h) (ten-is-exact k l)

@@ -2,4 +2,7 @@
 pub mod Tens
 pub mod Search
 pub mod Laws
+pub mod Near
+pub mod ClosestWhole
+pub mod Fewest
 pub mod Examples

@@ -1,4 +1,5 @@
--- The powers of ten that the search goes through: each is the one before it times ten, rounded once, and up to 22 each is exact. Assumes nothing.
+-- The powers of ten that the search goes through: each is the one before it times ten, rounded
+-- once, and up to 22 each is exact. Assumes nothing.
 use mathlib.Core.Path.{_≡_, refl, sym, subst}
 use Prim.Native.Nat.{ℕ, zero, suc, _+_, _*_, _^_, _<_}
 use native.Mathlib.Omega.{arith}
@@ -17,11 +18,11 @@ use Rattle.floats.proofs.Laws.{same-are-equal}
 use Rattle.decimal.specs.Places.{tenTo}
 
 -- a test at each number below n
-each : (ℕ → Bool) → ℕ → Bool
+unfoldable pub each : (ℕ → Bool) → ℕ → Bool
 each f zero = true
 each f (suc n) = f n && each f n
 
-there : (f : ℕ → Bool) (n : ℕ) → T (each f n) → (k : ℕ) → k < n → T (f k)
+pub there : (f : ℕ → Bool) (n : ℕ) → T (each f n) → (k : ℕ) → k < n → T (f k)
 unfolding each
 there f zero t k h = absurd (omega arith)
 there f (suc n) t k h = by (eqb k n) refl (there f n (and-r (f n) (each f n) t) k)

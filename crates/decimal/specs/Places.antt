@@ -16,7 +16,8 @@ tenTo k = ofInt binary64 (pos (10 ^ k))
 abbrev pub twoTo52 : Float
 twoTo52 = bits 0x4330_0000_0000_0000
 
--- the whole number nearest to p, where p is from 0 to below 2^52: the sum with 2^52 rounds to one, and its lower 52 bits are that number
+-- the whole number nearest to p, where p is from 0 to below 2^52: the sum with 2^52 rounds to one,
+-- and its lower 52 bits are that number
 unfoldable pub wholeOf : Float → ℕ
 wholeOf p = toBits binary64 (p ⊕ twoTo52) % 2 ^ 52
 
@@ -32,7 +33,8 @@ readOf digits k = ofInt binary64 (pos digits) ⊘ tenTo k
 unfoldable pub passesOf : Float → ℕ → Bool
 passesOf a k = cond (lt (a ⊗ tenTo k) twoTo52) (sameOf (readOf (digitsOf a k) k) a) false
 
--- The first of n numbers of places, from k on, at which a's digits pass. The test at k is an argument, so that nothing is worked out past the first.
+-- The first of n numbers of places, from k on, at which a's digits pass. The test at k is an
+-- argument, so that nothing is worked out past the first.
 unfoldable pub firstFrom : ℕ → Bool → Bool → Float → ℕ → Decimal
 firstFrom zero b sign a k = Nothing
 firstFrom (suc n) true sign a k = Found sign (digitsOf a k) k

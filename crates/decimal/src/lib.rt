@@ -1,9 +1,12 @@
 // A binary64 number as the decimal with the fewest places that reads back as the same number.
 //
-// A decimal is D / 10^k, D whole. For k = 0, 1, .. 22 the whole number nearest to |x|·10^k is tried, and the first that reads back is taken: D and 10^k are
-// binary64 numbers exactly, so D / 10^k, rounded once, is what a correct reader makes of the decimal. No error analysis is needed for what is found: it has
-// passed the test (`reads-back`), and no smaller k has (`fewest-places`). What is looked for lies below 2^52, so every decimal of up to 15 digits with no more
-// than 22 places is found; NaN, infinities and numbers that need more are answered `Nothing`. Used by whoever prints a number for people.
+// A decimal is D / 10^k, D whole. For k = 0, 1, .. 22 the whole number nearest to |x|·10^k is
+// tried, and the first that reads back is taken. D and 10^k are binary64 numbers exactly, so D /
+// 10^k, rounded once, is what a correct reader makes of the decimal (`read-is-rounded-once`). What
+// is found reads back (`reads-back`), and no decimal of fewer places does, whatever its digits
+// (`fewest-places`). Every decimal of up to 15 digits with no more than 22 places is found
+// (`short-decimals-are-found`); NaN, infinities and numbers that need more are answered `Nothing`.
+// Used by whoever prints a number for people.
 ghost use mathlib.Core.Path.{_≡_};
 ghost use Prim.Native.Nat.{_^_, _<_};
 ghost use Rattle.decimal.specs.Places.{tenTo, wholeOf, passesOf, decimalOf};

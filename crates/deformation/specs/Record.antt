@@ -1,4 +1,5 @@
--- The deformation step's record, as a sheet carries it (kind 5): flags, an ellipsoid, and a duration dt or an epoch, each NaN where it is not given.
+-- The deformation step's record, as a sheet carries it (kind 5): flags, an ellipsoid, and a
+-- duration dt or an epoch, each NaN where it is not given.
 use Prim.Native.Nat.{ℕ, _%_}
 use mathlib.Core.Bool.{Bool, _&&_, _||_}
 use lib.Dec.{eqb, ltb}
@@ -7,7 +8,8 @@ use lib.Ieee.Scale.{finite}
 use Rattle.ellipsoid.specs.Figure.{existsOf}
 use Rattle.deformation.specs.declared.Deformation.{Deformation}
 
--- the crate's defaults: GRS80, the correction added and not raw, neither dt nor an epoch given, which rule 8 refuses
+-- the crate's defaults: GRS80, the correction added and not raw, neither dt nor an epoch given,
+-- which rule 8 refuses
 abbrev pub blankOf : Deformation
 blankOf = record { flags = 0; ellipsoid = 1; dt = nan; epoch = nan }
 

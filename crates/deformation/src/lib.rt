@@ -1,12 +1,15 @@
-// Kinematic datum shift by velocities of the ground: deformation.rs of the crate geodesy 0.15.0, after Häkli et al. (2023).
+// Kinematic datum shift by velocities of the ground: deformation.rs of the crate geodesy 0.15.0,
+// after Häkli et al. (2023).
 //
-// The Rust looks a velocity up in grid files; here the caller lends it, east, north and up in mm a year, with a mark that says whether there is one.
-// Letters and sequence of roundings are the Rust's, over our kernels. Forward adds (t - t_epoch) times the velocity, while comment (3) of the Rust's file
-// subtracts it: the code decides, and the difference is listed. The sum works on all four coordinates, the fourth addend 0.0, so a time of -0 becomes +0.
-// Sixteen tuples at a time: `deformation_block`.
+// The Rust looks a velocity up in grid files; here the caller lends it, east, north and up in mm a
+// year, with a mark that says whether there is one. Letters and sequence of roundings are the
+// Rust's, over our kernels. Forward adds (t - t_epoch) times the velocity, while comment (3) of the
+// Rust's file subtracts it: the code decides, and the difference is listed. The sum works on all
+// four coordinates, the fourth addend 0.0, so a time of -0 becomes +0. Sixteen tuples at a time:
+// `deformation_block`.
 ghost use mathlib.Core.Path.{_≡_};
 ghost use Rattle.deformation.specs.Record.{blankOf, rawOf, finiteOrNot, inRuleOf, neitherOf};
-ghost use Rattle.deformation.specs.Step.{motionOf, durationOf, scaleOf, metresOf, turnedOf, integratedOf, withLengthOf, deformedOf, commonOf};
+ghost use Rattle.deformation.specs.Step.{motionOf, lastingOf, durationOf, scaleOf, metreOf, metresOf, eastNorthUpOf, integratedOf, withLengthOf, deformedOf, commonOf};
 use ellipsoid::Ellipsoid;
 use trig::SinCos;
 use tuple::Shifted;
@@ -88,6 +91,20 @@ impl Deformation {
     }
 }
 
+// How long: a fixed duration, or the difference between the frame epoch and the observation epoch.
+pub fn lasting(op: Motion, given: bool, t: f64) -> f64
+    ensures { λ r. ⌜ r ≡ lastingOf op given t ⌝ }
+{
+    if given { -op.dt } else { op.epoch - t }
+}
+
+// Grid values are in mm a year. We need metres a year.
+pub fn metre(inverse: bool) -> f64
+    ensures { λ r. ⌜ r ≡ metreOf inverse ⌝ }
+{
+    if inverse { 0.001 } else { -0.001 }
+}
+
 impl Motion {
     pub fn new(step: Deformation) -> Self
         ensures { λ r. ⌜ r ≡ motionOf step ⌝ }
@@ -100,14 +117,10 @@ impl Motion {
         }
     }
 
-    // The duration is a fixed one, or the difference between the frame epoch and the observation epoch.
     fn duration(self, t: f64) -> f64
         ensures { λ r. ⌜ r ≡ durationOf self t ⌝ }
     {
-        if floats::is_finite(self.dt) {
-            return -self.dt;
-        }
-        self.epoch - t
+        lasting(self, floats::is_finite(self.dt), t)
     }
 }
 
@@ -122,20 +135,17 @@ impl Velocity {
         }
     }
 
-    // Grid values are in mm a year. We need metres a year.
     fn metres(self, inverse: bool) -> Self
         ensures { λ r. ⌜ r ≡ metresOf inverse self ⌝ }
     {
-        if inverse {
-            return self.scale(0.001);
-        }
-        self.scale(-0.001)
+        self.scale(metre(inverse))
     }
 }
 
 // ----- A N C I L L A R Y   F U N C T I O N S -----------------------------------------
 
-// The deformation velocity, rotated from the ENU system to the geocentric cartesian system, times the duration.
+// The deformation velocity, rotated from the ENU system to the geocentric cartesian system, times
+// the duration.
 pub fn rotate_and_integrate_velocity(
     v: Velocity,
     longitude: f64,
@@ -154,7 +164,7 @@ pub fn rotate_and_integrate_velocity(
 
 // The same with the sines and cosines of longitude and latitude at hand.
 pub fn turned(v: Velocity, lon: SinCos, lat: SinCos, duration: f64) -> Tuple
-    ensures { λ r. ⌜ r ≡ turnedOf v lon lat duration ⌝ }
+    ensures { λ r. ⌜ r ≡ eastNorthUpOf v lon lat duration ⌝ }
 {
     Tuple {
         x: duration * (-lat.s * lon.c * v.north - lon.s * v.east + lat.c * lon.c * v.up),

@@ -1,3 +1,2 @@
 -- What a block of tuples is proved by.
 pub mod Laws
-mod Over

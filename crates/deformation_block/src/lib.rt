@@ -1,40 +1,30 @@
-// Kinematic datum shift by velocities of the ground, sixteen tuples at a time: the step of `deformation` over columns, with the tuples' longitudes and latitudes at hand.
+// Kinematic datum shift by velocities of the ground, sixteen tuples at a time: the step of
+// `deformation` over columns, with the tuples' longitudes and latitudes at hand.
 //
-// Each loop is straight arithmetic over the places, so that a compiler makes vectors of it; what depends on the step and not on the tuple is decided before.
-// An absent velocity is worked on like the others, and NaN is written in the end. The columns that the results go to serve for the parts before.
-// Every number is `deformation::common`'s in every bit: proved place by place against the same definition. Used by `deformation_runs`.
+// Each loop is straight arithmetic over the places, so that a compiler makes vectors of it; what
+// depends on the step and not on the tuple is decided before. An absent velocity is worked on like
+// the others, and NaN is written in the end. The columns that the results go to serve for the parts
+// before. Every number is `deformation::common`'s in every bit: proved place by place against the
+// same definition. Used by `deformation_runs`.
 ghost use mathlib.Core.Path.{_≡_};
-ghost use Prim.Native.Nat.{ℕ, _+_, _<_};
-ghost use mathlib.Core.Bool.{cond};
+ghost use Prim.Native.Nat.{ℕ};
 ghost use lib.Dec.{eqb};
 ghost use lib.ListN.{length};
 ghost use Rattle.floats.specs.Binary64.{_⊕_, bits};
 ghost use Rattle.blocks.specs.Each.{at, wholeAt, Each, countTo};
 ghost use Rattle.root.specs.Sqrt.{sqrtOf};
 ghost use Rattle.tuple.specs.Sums.{dotOf};
-ghost use Rattle.deformation_block.specs.Places.{velocityOf, correctionOf, movedAt, lastingOf, metreOf, turnedAt, correctionAt, keptOf};
+ghost use Rattle.deformation.specs.Step.{correctionOf};
+ghost use Rattle.deformation_block.specs.Places.{velocityOf, geoAt, movedAt, turnedAt, correctionAt, keptOf};
 use blocks::WIDTH;
+use blocks::one_if;
 use deformation::Motion;
 use deformation::Velocity;
 use trig::SinCos;
 use tuple::Tuple;
 
-// How long: a fixed duration, or the difference between the frame epoch and the observation epoch.
-fn lasting(op: Motion, fixed: bool, t: f64) -> f64
-    ensures { λ r. ⌜ r ≡ lastingOf op fixed t ⌝ }
-{
-    if fixed { -op.dt } else { op.epoch - t }
-}
-
-// mm to metres, and the direction.
-fn metre(inverse: bool) -> f64
-    ensures { λ r. ⌜ r ≡ metreOf inverse ⌝ }
-{
-    if inverse { 0.001 } else { -0.001 }
-}
-
-// The velocities, turned and times their durations. k brings them to metres. dx comes with the sines of the latitudes, dy with their cosines, dz with the cosines
-// of the longitudes.
+// The velocities, turned and times their durations. k brings them to metres. dx comes with the
+// sines of the latitudes, dy with their cosines, dz with the cosines of the longitudes.
 fn turned_block(
     op: Motion,
     fixed: bool,
@@ -65,7 +55,8 @@ fn turned_block(
             c: dz[i],
         };
         let lat = SinCos { s: dx[i], c: dy[i] };
-        let r = deformation::turned(v.scale(k), lon, lat, lasting(op, fixed, t[i]));
+        let d = deformation::lasting(op, fixed, t[i]);
+        let r = deformation::turned(v.scale(k), lon, lat, d);
         dx[i] = r.x;
         dy[i] = r.y;
         dz[i] = r.z;
@@ -88,9 +79,9 @@ fn correction_block(
     dz: &mut [f64; WIDTH],
     slon: &mut [f64; WIDTH],
 )
-    ensures { λ _. ⌜ Each (now (dx .exit)) (λ (j : ℕ). correctionOf op inverse (velocityOf (now (east .entry)) (now (north .entry)) (now (up .entry)) j) (at (now (lam .entry)) j) (at (now (phi .entry)) j) (at (now (t .entry)) j) .x)
-        × Each (now (dy .exit)) (λ (j : ℕ). correctionOf op inverse (velocityOf (now (east .entry)) (now (north .entry)) (now (up .entry)) j) (at (now (lam .entry)) j) (at (now (phi .entry)) j) (at (now (t .entry)) j) .y)
-        × Each (now (dz .exit)) (λ (j : ℕ). correctionOf op inverse (velocityOf (now (east .entry)) (now (north .entry)) (now (up .entry)) j) (at (now (lam .entry)) j) (at (now (phi .entry)) j) (at (now (t .entry)) j) .z) ⌝ }
+    ensures { λ _. ⌜ Each (now (dx .exit)) (λ (j : ℕ). correctionOf op inverse (velocityOf (now (east .entry)) (now (north .entry)) (now (up .entry)) j) (geoAt (now (lam .entry)) (now (phi .entry)) (now (t .entry)) j) .x)
+        × Each (now (dy .exit)) (λ (j : ℕ). correctionOf op inverse (velocityOf (now (east .entry)) (now (north .entry)) (now (up .entry)) j) (geoAt (now (lam .entry)) (now (phi .entry)) (now (t .entry)) j) .y)
+        × Each (now (dz .exit)) (λ (j : ℕ). correctionOf op inverse (velocityOf (now (east .entry)) (now (north .entry)) (now (up .entry)) j) (geoAt (now (lam .entry)) (now (phi .entry)) (now (t .entry)) j) .z) ⌝ }
 {
     trig_block::sin_cos_block(lam, slon, dz);
     trig_block::sin_cos_block(phi, dx, dy);
@@ -98,7 +89,7 @@ fn correction_block(
     turned_block(
         op,
         fixed,
-        metre(inverse),
+        deformation::metre(inverse),
         east,
         north,
         up,
@@ -180,27 +171,20 @@ fn time_block(marks: &[u8; WIDTH], t: &[f64; WIDTH], r: &mut [f64; WIDTH])
     }
 }
 
-fn tally(n: usize, counted: bool) -> usize
-    requires { ⌜ n < 18446744073709551615 ⌝ }
-    ensures { λ r. ⌜ r ≡ n + cond counted 1 0 ⌝ }
-{
-    if counted { n + 1 } else { n }
-}
-
 fn count_block(marks: &[u8; WIDTH]) -> usize
     ensures { λ r. ⌜ r ≡ countTo 16 (λ (j : ℕ). eqb (wholeAt (now (marks .entry)) j) 1) ⌝ }
 {
     let mut n = 0;
     let mut i = 0;
     while i < WIDTH {
-        n = tally(n, marks[i] == 1);
+        n += one_if(marks[i] == 1);
         i += 1;
     }
     n
 }
 
-// Sixteen tuples as columns whose longitudes and latitudes are lam and phi, each shifted as `common` shifts it, and how many of them count. For those who have the
-// places at hand.
+// Sixteen tuples as columns whose longitudes and latitudes are lam and phi, each shifted as
+// `common` shifts it, and how many of them count. For those who have the places at hand.
 pub fn moved_block(
     op: Motion,
     inverse: bool,

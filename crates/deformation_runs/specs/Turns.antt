@@ -1,5 +1,5 @@
--- What deformation makes of one tuple of a list, forward or inverse, by the velocity and the mark lent for it. It is made of the step's own definition; nothing is
--- computed here.
+-- What deformation makes of one tuple of a list, forward or inverse, by the velocity and the mark
+-- lent for it. It is made of the step's own definition; nothing is computed here.
 use Prim.Native.Nat.{ℕ, _+_, _*_, _/_}
 use mathlib.Core.Bool.{Bool, cond}
 use mathlib.Core.List.{List}

@@ -1,21 +1,23 @@
-// Deformation over a lent flat list, written where the list stands: sixteen tuples a turn by the step's block form, and a loop for the fewer than sixteen that
-// are left. The other kinds' loops: `runs`, `helmert_runs`.
+// Deformation over a lent flat list, written where the list stands: sixteen tuples a turn by the
+// step's block form, and a loop for the fewer than sixteen that are left. The other kinds' loops:
+// `runs`, `helmert_runs`.
 //
-// A fix's velocity and mark stand at its index in what is lent beside the list. Sixteen places are worked out before sixteen velocities are read, so that these may
-// come by place from elsewhere, and no column is laid out before it is needed. What depends on the record alone is worked out once a list. Every function is proved
-// equal, list and count, to the step's own definition from tuple to tuple (specs/Turns.antt over `lists`).
-// Exact: no rounding but the step's own. Used by the chain.
+// Fix k uses velocity k and mark k of the caller's arrays. Sixteen places are worked out before
+// sixteen velocities are read, so that these may come by place from elsewhere, and no column is
+// laid out before it is needed. What depends on the record alone is worked out once a list. Every
+// function is proved equal, list and count, to the step's own definition from tuple to tuple
+// (specs/Turns.antt over `lists`). Exact: no rounding but the step's own. Used by the chain.
 ghost use mathlib.Core.Path.{_≡_};
-ghost use mathlib.Core.Bool.{cond};
 ghost use Prim.Native.Nat.{ℕ, _+_, _^_, _<_};
 ghost use Rattle.blocks.specs.Each.{Each, EachWhole};
 ghost use Rattle.tuple.specs.Columns.{rowOf};
 ghost use Rattle.geocart.specs.Geocart.{placeOf};
 ghost use Rattle.lists.specs.Run.{ranOf, countOf};
 ghost use Rattle.lists.specs.Sixteen.{rowAt, turnedOf, takenOf};
-ghost use Rattle.helmert_turns.specs.Turns.{noState};
+ghost use Rattle.helmert.specs.Turns.{noState};
 ghost use Rattle.deformation_runs.specs.Turns.{velocityAt, markAt, movedTurns, deformationTurns};
 use blocks::WIDTH;
+use blocks::one_if;
 use deformation::Deformation;
 use deformation::Motion;
 use deformation::Velocity;
@@ -93,15 +95,8 @@ fn mark_block(marks: &[u8], k: usize, m: &mut [u8; WIDTH])
 
 // ----- the list --------------------------------------------------------------------------
 
-// One more where a tuple counts.
-fn tally(n: usize, counted: bool) -> usize
-    requires { ⌜ n < 18446744073709551615 ⌝ }
-    ensures { λ r. ⌜ r ≡ n + cond counted 1 0 ⌝ }
-{
-    if counted { n + 1 } else { n }
-}
-
-// Sixteen tuples that stand from a place on, as columns with their longitudes and latitudes: moved, and put there.
+// Sixteen tuples that stand from a place on, as columns with their longitudes and latitudes: moved,
+// and put there.
 fn moved_sixteen(
     list: &mut [f64],
     i: usize,
@@ -216,13 +211,13 @@ fn deformation_common(
             lists::read4(list, i),
         );
         lists::write4(list, i, r.tuple);
-        n = tally(n, r.counted);
+        n += one_if(r.counted);
         i += 4;
     }
     n
 }
 
-// A fix's velocity and mark stand at its index.
+// Fix k uses velocity k and mark k of the caller's arrays.
 pub fn run_deformation(
     list: &mut [f64],
     inverse: bool,

@@ -1,5 +1,6 @@
--- Document 01, "Kernels and ellipsoids": the ellipsoid's record, the table of five, the radii of curvature and the geocentric latitude.
--- Each formula is a sequence of single roundings, in the order that it is written here.
+-- Document 01, "Kernels and ellipsoids": the ellipsoid's record, the table of five, the radii of
+-- curvature and the geocentric latitude. Each formula is a sequence of single roundings, in the
+-- order that it is written here.
 use Prim.Native.Nat.{ℕ, zero, suc}
 use mathlib.Core.List.{List, [], _∷_}
 use mathlib.Core.Bool.{Bool, false, cond}
@@ -20,7 +21,8 @@ one = bits 0x3ff0_0000_0000_0000
 abbrev pub two : Float
 two = bits 0x4000_0000_0000_0000
 
--- The record of a semimajor axis a and a flattening f = 1/rf: es = f(2 - f), b = a(1 - f), es' = es/(1 - es). The field of es' is named eps, as in the Rust.
+-- The record of a semimajor axis a and a flattening f = 1/rf: es = f(2 - f), b = a(1 - f), es' =
+-- es/(1 - es). The field of es' is named eps, as in the Rust.
 unfoldable pub ellipsoidOf : Float → Float → Ellipsoid
 ellipsoidOf a rf =
     let f = one ⊘ rf in
@@ -47,7 +49,8 @@ table =
     ∷ record { a = bits 0x4158_54c1_4000_0000; rf = bits 0x4072_a4cc_cccc_cccd }
     ∷ []
 
--- Any other number names no ellipsoid: its row is NaN, and so is every field of the record made of it.
+-- Any other number names no ellipsoid: its row is NaN, and so is every field of the record made of
+-- it.
 abbrev pub noAxes : Axes
 noAxes = record { a = nan; rf = nan }
 
@@ -62,22 +65,33 @@ existsOf n = cond (leb 1 n) (leb n (length table)) false
 unfoldable pub namedOf : ℕ → Ellipsoid
 namedOf n = ellipsoidOf (axesOf n .a) (axesOf n .rf)
 
--- w = 1 - es·sin²φ, from s = sin φ: the square first, then its product with es, then the difference.
+-- w = 1 - es·sin²φ, from s = sin φ: the square first, then its product with es, then the
+-- difference.
 unfoldable pub wOf : Ellipsoid → Float → Float
 wOf e s = one ⊖ squareOf s ⊗ e .es
 
--- N = a/√w, the radius of curvature in the prime vertical, from s = sin φ
-unfoldable pub primeVerticalOf : Ellipsoid → Float → Float
-primeVerticalOf e s = e .a ⊘ sqrtOf (wOf e s)
+-- N = a/√w, the radius of curvature in the prime vertical, from the root of w
+abbrev pub primeVerticalWith : Ellipsoid → Float → Float
+primeVerticalWith e root = e .a ⊘ root
 
--- M = a(1 - es)/(w·√w), the radius of curvature in the meridian, from s = sin φ
+-- M = a(1 - es)/(w·√w), the radius of curvature in the meridian, from w and its root
+abbrev pub meridianWith : Ellipsoid → Float → Float → Float
+meridianWith e w root = e .a ⊗ (one ⊖ e .es) ⊘ (w ⊗ root)
+
+-- N and M from s = sin φ
+unfoldable pub primeVerticalOf : Ellipsoid → Float → Float
+primeVerticalOf e s = primeVerticalWith e (sqrtOf (wOf e s))
+
 unfoldable pub meridianOf : Ellipsoid → Float → Float
-meridianOf e s = e .a ⊗ (one ⊖ e .es) ⊘ (wOf e s ⊗ sqrtOf (wOf e s))
+meridianOf e s = meridianWith e (wOf e s) (sqrtOf (wOf e s))
 
 -- the geocentric latitude atan2((1 - es)·sin φ, cos φ), from s = sin φ and c = cos φ
 unfoldable pub geocentricOf : Ellipsoid → Float → Float → Float
 geocentricOf e s c = atan2Of ((one ⊖ e .es) ⊗ s) c
 
--- both radii
+-- both radii, from w and its root, and from s = sin φ
+abbrev pub radiiWith : Ellipsoid → Float → Float → Radii
+radiiWith e w root = record { n = primeVerticalWith e root; m = meridianWith e w root }
+
 abbrev pub radiiOf : Ellipsoid → Float → Radii
 radiiOf e s = record { n = primeVerticalOf e s; m = meridianOf e s }

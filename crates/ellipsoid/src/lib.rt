@@ -1,10 +1,16 @@
-// The ellipsoid: its record of five numbers, the five of document 01's table, the radii of curvature and the geocentric latitude.
+// The ellipsoid: its record of five numbers, the five of document 01's table, the radii of
+// curvature and the geocentric latitude.
 //
-// By document 01's formulas, since the Rust files lean on these and do not contain them; the order in which each is rounded stands in specs/Figure.antt.
-// The radii and the geocentric latitude take the sine (and cosine) of the latitude, not the latitude: a step that has the pair already does not work it
-// out again, and the numbers are those that the latitude itself would give. Used by geocart, cart, Molodensky, permtide and deformation.
+// By document 01's formulas, since the Rust files lean on these and do not contain them; the order
+// in which each is rounded stands in specs/Figure.antt. The radii and the geocentric latitude take
+// the sine (and cosine) of the latitude, not the latitude: a step that has the pair already does
+// not work it out again, and the numbers are those that the latitude itself would give. Used by
+// geocart, cart, Molodensky, permtide and deformation.
 ghost use mathlib.Core.Path.{_≡_};
-ghost use Rattle.ellipsoid.specs.Figure.{ellipsoidOf, namedOf, existsOf, wOf, primeVerticalOf, meridianOf, radiiOf, geocentricOf};
+ghost use Prim.Native.Nat.{ℕ};
+ghost use Rattle.blocks.specs.Each.{at, Each};
+ghost use Rattle.ellipsoid.specs.Figure.{ellipsoidOf, namedOf, existsOf, wOf, primeVerticalOf, radiiWith, radiiOf, geocentricOf};
+use blocks::WIDTH;
 
 pub struct Ellipsoid {
     pub a: f64,
@@ -57,7 +63,8 @@ impl Ellipsoid {
         if 1 <= number { number <= 5 } else { false }
     }
 
-    fn w(self, sinphi: f64) -> f64
+    // w, from the sine of the latitude.
+    pub fn w(self, sinphi: f64) -> f64
         ensures { λ r. ⌜ r ≡ wOf self sinphi ⌝ }
     {
         1.0 - floats::square(sinphi) * self.es
@@ -70,16 +77,22 @@ impl Ellipsoid {
         self.a / root::sqrt(self.w(sinphi))
     }
 
+    // N and M, from w and its root, for those who have both at hand.
+    pub fn radii_with(self, w: f64, q: f64) -> Radii
+        ensures { λ r. ⌜ r ≡ radiiWith self w q ⌝ }
+    {
+        Radii {
+            n: self.a / q,
+            m: self.a * (1.0 - self.es) / (w * q),
+        }
+    }
+
     // N and M, from the sine of the latitude, with one square root for both.
     pub fn radii_of_curvature(self, sinphi: f64) -> Radii
         ensures { λ r. ⌜ r ≡ radiiOf self sinphi ⌝ }
     {
         let w = self.w(sinphi);
-        let q = root::sqrt(w);
-        Radii {
-            n: self.a / q,
-            m: self.a * (1.0 - self.es) / (w * q),
-        }
+        self.radii_with(w, root::sqrt(w))
     }
 
     // The geocentric latitude, from the sine and cosine of the geographic one.
@@ -87,5 +100,17 @@ impl Ellipsoid {
         ensures { λ r. ⌜ r ≡ geocentricOf self sinphi cosphi ⌝ }
     {
         arctan::atan2((1.0 - self.es) * sinphi, cosphi)
+    }
+}
+
+// w of a block of sines.
+pub fn w_block(ellps: Ellipsoid, sinphi: &[f64; WIDTH], w: &mut [f64; WIDTH])
+    ensures { λ _. ⌜ Each (now (w .exit)) (λ (j : ℕ). wOf ellps (at (now (sinphi .entry)) j)) ⌝ }
+{
+    *w = [0.0; WIDTH];
+    let mut i = 0;
+    while i < WIDTH {
+        w[i] = ellps.w(sinphi[i]);
+        i += 1;
     }
 }

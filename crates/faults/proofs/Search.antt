@@ -8,10 +8,6 @@ use Rattle.sheet.specs.Layout.{offsetAt, lengthAt}
 use Rattle.sheet.specs.Rules.{endBefore}
 use Rattle.faults.specs.Faults.{entryFault, firstFault}
 
-pub end-next : (s : List ℕ) (i : ℕ) → endBefore s (i + 1) ≡ offsetAt s i + lengthAt s i
-unfolding endBefore
-end-next s i = rw (add-one i)
-
 pub fault-here : (s : List ℕ) (left n i : ℕ) → left ≡ suc n → (entryFault s i ≡ 16 → ⊥) → firstFault s left i ≡ 16 + 16 * i + entryFault s i
 unfolding firstFault
 fault-here s left n i l h = rw (l, ne-eqb (entryFault s i) 16 h)

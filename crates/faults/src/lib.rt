@@ -1,63 +1,51 @@
 // Where a sheet breaks rule 4: the byte at which the first word stands that is outside its rule.
 //
-// Rule 4 is of the sheet as a whole and answered with step 0; a fitter wants the place. In the order of rule 4's own words: the directory offset, the step count
-// of a directory outside the sheet, then entry by entry its kind, inverted word, body length and body offset, and last the total length at which the bodies do
-// not end. The laws tie the place to the rule: `fault-in-the-directory` and `no-fault-in-an-entry`. Used by `show`.
+// Rule 4 is of the sheet as a whole and answered with step 0; a fitter wants the place. The words
+// are asked in the order of rule 4's own text: the directory offset, the step count of a directory
+// outside the sheet, then entry by entry its kind, inverted word, body length and body offset, and
+// last the total length at which the bodies do not end. Proved of every sheet that breaks rule 4
+// and keeps those before it: the byte named is that of the first word outside its rule, and the
+// sheet has that word (`fault-in-the-directory`). Used by `show`.
 ghost use mathlib.Core.Path.{_≡_};
 ghost use Prim.Native.Nat.{_+_, _<_, _≤_};
 ghost use Rattle.sheet.specs.Layout.{stepCountOf};
 ghost use Rattle.sheet.specs.Rules.{endBefore};
 ghost use Rattle.faults.specs.Faults.{entryFault, firstFault, faultOf};
-
-fn wide(x: u32) -> usize
-    ensures { λ r. ⌜ (r ≡ x) × (r < 4294967296) ⌝ }
-{
-    x as usize
-}
+use sheet::HEADER;
 
 // The body before entry i ends at `end`.
 fn entry_fault(s: &[u8], i: usize, end: usize) -> usize
-    requires { ⌜ (i < 16) × (end ≡ endBefore (now s) i) ⌝ }
+    requires { ⌜ end ≡ endBefore (now s) i ⌝ }
     ensures { λ r. ⌜ (r ≡ entryFault (now (s .entry)) i) × (r ≤ 16) ⌝ }
 {
-    let place = 16 + 16 * i;
-    let length = bodies::length_of(words::read32(s, place));
+    let length = bodies::length_of(sheet::kind_at(s, i));
     if length == 0 {
         return 0;
     }
-    if 1 < words::read32(s, place + 4) {
+    if 1 < sheet::inverted_at(s, i) {
         return 4;
     }
-    if words::read32(s, place + 12) != length {
+    if sheet::length_at(s, i) != length {
         return 12;
     }
-    if wide(words::read32(s, place + 8)) != end {
+    if words::wide(sheet::offset_at(s, i)) != end {
         return 8;
     }
     16
-}
-
-// Where the body of entry i ends.
-fn end_at(s: &[u8], i: usize) -> usize
-    requires { ⌜ i < 16 ⌝ }
-    ensures { λ r. ⌜ r ≡ endBefore (now (s .entry)) (i + 1) ⌝ }
-{
-    let place = 16 + 16 * i;
-    wide(words::read32(s, place + 8)) + wide(words::read32(s, place + 12))
 }
 
 fn first_fault(s: &[u8], n: usize) -> usize
     requires { ⌜ (n ≤ 16) × (n ≡ stepCountOf (now s)) ⌝ }
     ensures { λ r. ⌜ (r ≡ firstFault (now (s .entry)) n 0) × (r < 4294967296) ⌝ }
 {
-    let mut end = 16 + 16 * n;
+    let mut end = sheet::directory_end(words::read32(s, 8));
     let mut i = 0;
     while i < n {
         let fault = entry_fault(s, i, end);
         if fault != 16 {
-            return 16 + 16 * i + fault;
+            return sheet::entry_offset(i as u32) + fault;
         }
-        end = end_at(s, i);
+        end = sheet::end_at(s, i);
         i += 1;
     }
     4
@@ -67,14 +55,14 @@ fn first_fault(s: &[u8], n: usize) -> usize
 pub fn fault(s: &[u8]) -> usize
     ensures { λ r. ⌜ (r ≡ faultOf (now (s .entry))) × (r < 4294967296) ⌝ }
 {
-    if words::read32(s, 12) != 16 {
+    if words::wide(words::read32(s, 12)) != HEADER {
         return 12;
     }
     let n = sheet::step_count(s);
     if 16 < n {
         return 8;
     }
-    if s.len() < 16 + 16 * n {
+    if s.len() < sheet::directory_end(words::read32(s, 8)) {
         return 8;
     }
     first_fault(s, n)

@@ -1,4 +1,5 @@
--- The fields of a body, by kind: document 01's names in the body's order, each with its place and its unit.
+-- The fields of a body, by kind: document 01's names in the body's order, each with its place and
+-- its unit.
 use Prim.Native.Nat.{ℕ, _+_}
 use mathlib.Core.Bool.{Bool, true, false, cond}
 use mathlib.Core.List.{List, _++_}

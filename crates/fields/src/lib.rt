@@ -1,8 +1,11 @@
-// A body's fields shown: document 01's names in the body's order, each with what stands at its place and its unit.
+// A body's fields shown: document 01's names in the body's order, each with what stands at its
+// place and its unit.
 //
-// The table of names, places and units stands in specs/Fields.antt, one definition a kind, and the words for flags and codes in specs/Words.antt. A body is
-// given by its offset in the sheet; nothing is tested here, so that a field outside its rule is shown as it is: a word with `outside its rule`, a number that is
-// no number by its bits. Every byte is fixed for every input and a room of any length. Used by `show`.
+// The table of names, places and units stands in specs/Fields.antt, one definition a kind, and the
+// words for flags and codes in specs/Words.antt. A body is given by its offset in the sheet;
+// nothing is tested here, so that a field outside its rule is shown as it is: a word with `outside
+// its rule`, a number that is no number by its bits. Every byte is fixed for every input and a room
+// of any length. Used by `show`.
 ghost use mathlib.Core.Path.{_≡_};
 ghost use Rattle.text.specs.Text.{text, appended};
 ghost use Rattle.text.specs.Digits.{decimalOf};
@@ -12,16 +15,10 @@ use lines::Unit;
 
 // ----- words ------------------------------------------------------------------------------
 
-fn wide(x: u32) -> u64
-    ensures { λ r. ⌜ r ≡ x ⌝ }
-{
-    x as u64
-}
-
 fn put_u32(room: &mut [u8], at: usize, n: u32) -> usize
     ensures { λ r. ⌜ text (now (room .exit)) r ≡ appended (text (now (room .entry)) at) (decimalOf n) ⌝ }
 {
-    text::put_decimal(room, at, wide(n))
+    text::put_decimal(room, at, words::wide64(n))
 }
 
 fn put_helmert_flags(room: &mut [u8], at: usize, flags: u32) -> usize

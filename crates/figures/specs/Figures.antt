@@ -1,4 +1,5 @@
--- A binary64 number as text: the decimal with the fewest places that reads back, or, where there is none, its 64 bits.
+-- A binary64 number as text: the decimal with the fewest places that reads back, or, where there is
+-- none, its 64 bits.
 use Prim.Native.Nat.{ℕ, _/_, _^_}
 use mathlib.Core.Bool.{Bool, cond}
 use mathlib.Core.List.{List, [], _++_}

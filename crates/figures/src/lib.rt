@@ -1,8 +1,11 @@
-// A binary64 number written for people into a lent room, and the words, numbers and times of a sheet where they lie.
+// A binary64 number written for people into a lent room, and the words, numbers and times of a
+// sheet where they lie.
 //
-// A number is written as the decimal with the fewest places that reads back as the same number (crate decimal): a sign, the whole part, a point and exactly
-// those places. Where there is none, its 16 hexadecimal digits stand, after `bits 0x`. So a number that came from a data sheet is written as the data sheet has
-// it, and no two numbers are written alike. A time that is "not given" says so. Used by the lines of a sheet that is shown.
+// A number is written as the decimal with the fewest places that reads back as the same number
+// (crate decimal): a sign, the whole part, a point and exactly those places. Where there is none,
+// its 16 hexadecimal digits stand, after `bits 0x`. So a number that came from a data sheet is
+// written as the data sheet has it, and no two numbers are written alike. A time that is "not
+// given" says so. Used by the lines of a sheet that is shown.
 ghost use mathlib.Core.Path.{_≡_};
 ghost use Prim.Native.Nat.{_/_, _^_, _<_};
 ghost use Rattle.text.specs.Text.{text, appended};
@@ -99,12 +102,6 @@ pub fn put_time(room: &mut [u8], at: usize, pattern: u64) -> usize
 
 // ----- where they lie in a sheet --------------------------------------------------------------
 
-fn wide(x: u32) -> u64
-    ensures { λ r. ⌜ r ≡ x ⌝ }
-{
-    x as u64
-}
-
 pub fn put_number_at(room: &mut [u8], at: usize, s: &[u8], place: usize) -> usize
     ensures { λ r. ⌜ text (now (room .exit)) r ≡ appended (text (now (room .entry)) at) (numberAtText (now (s .entry)) place) ⌝ }
 {
@@ -120,5 +117,5 @@ pub fn put_time_at(room: &mut [u8], at: usize, s: &[u8], place: usize) -> usize
 pub fn put_word_at(room: &mut [u8], at: usize, s: &[u8], place: usize) -> usize
     ensures { λ r. ⌜ text (now (room .exit)) r ≡ appended (text (now (room .entry)) at) (wordAtText (now (s .entry)) place) ⌝ }
 {
-    text::put_decimal(room, at, wide(words::read32(s, place)))
+    text::put_decimal(room, at, words::wide64(words::read32(s, place)))
 }

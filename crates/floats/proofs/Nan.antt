@@ -1,4 +1,5 @@
--- What tells a NaN: it differs from itself, and its bits, the sign aside, lie above an infinity's. Assumes nothing.
+-- What tells a NaN: it differs from itself, and its bits, the sign aside, lie above an infinity's.
+-- Assumes nothing.
 use mathlib.Core.Path.{_≡_, refl, sym, ap, _∙_, subst}
 use Prim.Native.Nat.{ℕ, _*_, _%_, _≤_, _<_}
 use mathlib.Core.Bool.{Bool, true, false, not, _||_, _&&_}

@@ -1,4 +1,5 @@
--- Two numbers that binary64 holds and that have one sign and one value are one number; so rounding a number that binary64 holds gives that number. Assumes nothing.
+-- Two numbers that binary64 holds and that have one sign and one value are one number; so rounding
+-- a number that binary64 holds gives that number. Assumes nothing.
 use mathlib.Core.Path.{_≡_, refl, sym, ap, _∙_, subst}
 use Prim.Native.Nat.{ℕ, zero, suc, _+_, _*_, _-_, _/_, _%_, _^_, _≤_, _<_}
 use native.Mathlib.Nat.{mul-assoc, mul-comm, mul-right-comm, mul-one, one-mul, zero-mul, zero-add, mul-le-mul-right, mul-lt-mul-of-pos-right, lt-of-lt-of-le, lt-of-le-of-lt, le-trans, le-of-eq, zero-lt-suc, mul-pos, lt-irrefl, lt-of-not-le, le-of-suc-le-suc, pow-succ'}

@@ -1,5 +1,7 @@
--- binary64 arithmetic as the definitions of every crate write it: each sign is one operation, rounded once, to the nearest, a tie to the even one.
--- A number of the source, as 298.257222101, is the binary64 number nearest to it, and stands here by its 64 bits.
+-- binary64 arithmetic as the definitions of every crate write it: each sign is one operation,
+-- rounded once, to the nearest, a tie to the even one.
+-- A number of the source, as 298.257222101, is the binary64 number nearest to it, and stands here
+-- by its 64 bits.
 use Prim.Native.Nat.{ℕ}
 use mathlib.Core.Bool.{Bool, not}
 use lib.Ieee.{Float, binary64, ofBits, add, sub, mul, div}

@@ -19,7 +19,8 @@ absOf x = cond (signOf x) (neg x) x
 abbrev pub copysignOf : Float → Float → Float
 copysignOf x y = cond (signOf y) (neg (absOf x)) (absOf x)
 
--- Whether two numbers are the same as data: the same 64 bits, where every NaN is written as the one 7ff8000000000000. So NaN is the same as NaN, and -0 is not +0.
+-- Whether two numbers are the same as data: the same 64 bits, where every NaN is written as the one
+-- 7ff8000000000000. So NaN is the same as NaN, and -0 is not +0.
 unfoldable pub sameOf : Float → Float → Bool
 sameOf x y = eqb (toBits binary64 x) (toBits binary64 y)
 

@@ -1,7 +1,9 @@
-// Signs, magnitudes, sameness, bit patterns and small powers of binary64 numbers: what every kernel and step above takes for granted.
+// Signs, magnitudes, sameness, bit patterns and small powers of binary64 numbers: what every kernel
+// and step above takes for granted.
 //
-// Every function takes every number, NaN, infinities and both zeros among them. In the logic there is one NaN, with no sign: it counts as positive,
-// its magnitude is itself, and its bits are written 7ff8000000000000. Nothing here rounds but `square` and `cube`.
+// Every function takes every number, NaN, infinities and both zeros among them. In the logic there
+// is one NaN, with no sign: it counts as positive, its magnitude is itself, and its bits are
+// written 7ff8000000000000. Nothing here rounds but `square` and `cube`.
 ghost use mathlib.Core.Path.{_≡_};
 ghost use lib.Ieee.{binary64, ofBits, toBits, isNan};
 ghost use lib.Ieee.Scale.{finite};
@@ -31,7 +33,8 @@ pub fn is_finite(x: f64) -> bool
     x - x == 0.0
 }
 
-// The magnitude. Zero less a zero of either sign is +0, and in this form the compiler makes one instruction of it.
+// The magnitude. Zero less a zero of either sign is +0, and in this form the compiler makes one
+// instruction of it.
 pub fn abs(x: f64) -> f64
     ensures { λ r. ⌜ r ≡ absOf x ⌝ }
 {

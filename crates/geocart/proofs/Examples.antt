@@ -1,4 +1,5 @@
--- Known values of `cartesian` and `geographic`: exact ones on the axes, a published one, and the listed difference. Assumes nothing.
+-- Known values of `cartesian` and `geographic`: exact ones on the axes, a published one, and the
+-- listed difference. Assumes nothing.
 use mathlib.Core.Path.{_≡_, refl}
 use mathlib.Core.Bool.{Bool, true, _&&_}
 use lib.Ieee.{Float, nan, ofBits, toBits, neg, add, sub, mul, div, lt, le, eq, isNan, sum, round, size}
@@ -22,7 +23,8 @@ origin-of-the-chart : cartesianOf (namedOf 1) (at (bits 0) (bits 0) (bits 0) (bi
 unfolding at cartesianOf geographicOf poleOf poleHeightOf bowringOf bowringHeightOf namedOf ellipsoidOf primeVerticalOf wOf sqrtOf sinOf cosOf signedOf sineOf cosineOf reducedOf rowOf bendOf sumOf clampOf atMostOne atan2Of angleOf insideOf octantIndexOf withinOf extremeAngleOf moderate scaleOf quotientAngleOf small smallAngleOf headOf cellIndexOf cellAt cells octantAt octants cutAngleOf tailOf alongOf diagonalOf hypotOf lengthOf boundedOf infinite larger smaller squaresOf ordinary guessOf reciprocalRootOf rootOf scaledRootOf rescaledOf signOf isNan ofBits toBits neg add sub mul div lt le eq sum round size
 origin-of-the-chart = refl
 
--- WGS84, 53°48'33.820"N 2°07'46.380"E, 73 m: the example of IOGP 373-7-2, to half a millimetre either way
+-- WGS84, 53°48'33.820"N 2°07'46.380"E, 73 m: the example of IOGP 373-7-2, to half a millimetre
+-- either way
 between : Float → Float → Float → Bool
 between low x high = le low x && le x high
 
@@ -38,7 +40,8 @@ published :
 unfolding asPublished between at cartesianOf geographicOf poleOf poleHeightOf bowringOf bowringHeightOf namedOf ellipsoidOf primeVerticalOf wOf sqrtOf sinOf cosOf signedOf sineOf cosineOf reducedOf rowOf bendOf sumOf clampOf atMostOne atan2Of angleOf insideOf octantIndexOf withinOf extremeAngleOf moderate scaleOf quotientAngleOf small smallAngleOf headOf cellIndexOf cellAt cells octantAt octants cutAngleOf tailOf alongOf diagonalOf hypotOf lengthOf boundedOf infinite larger smaller squaresOf ordinary guessOf reciprocalRootOf rootOf scaledRootOf rescaledOf signOf isNan ofBits toBits neg add sub mul div lt le eq sum round size
 published = refl
 
--- on the axis: a pole's latitude with the sign of Z, |Z| - b above the ellipsoid; at (0, 0, -0) it is the south pole's
+-- on the axis: a pole's latitude with the sign of Z, |Z| - b above the ellipsoid; at (0, 0, -0) it
+-- is the south pole's
 north-of-the-pole : geographicOf (namedOf 1) (at (bits 0) (bits 0) (bits 0x415a_b3f0_0000_0000) (bits 0)) ≡ at (bits 0) halfPi (bits 0x415a_b3f0_0000_0000 ⊖ namedOf 1 .b) (bits 0)
 unfolding at cartesianOf geographicOf poleOf poleHeightOf bowringOf bowringHeightOf namedOf ellipsoidOf primeVerticalOf wOf sqrtOf sinOf cosOf signedOf sineOf cosineOf reducedOf rowOf bendOf sumOf clampOf atMostOne atan2Of angleOf insideOf octantIndexOf withinOf extremeAngleOf moderate scaleOf quotientAngleOf small smallAngleOf headOf cellIndexOf cellAt cells octantAt octants cutAngleOf tailOf alongOf diagonalOf hypotOf lengthOf boundedOf infinite larger smaller squaresOf ordinary guessOf reciprocalRootOf rootOf scaledRootOf rescaledOf signOf isNan ofBits toBits neg add sub mul div lt le eq sum round size
 north-of-the-pole = refl

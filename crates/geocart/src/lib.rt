@@ -1,11 +1,14 @@
-// Geographic to cartesian coordinates and back, on any ellipsoid: geocart.rs of the crate geodesy 0.15.0.
+// Geographic to cartesian coordinates and back, on any ellipsoid: geocart.rs of the crate geodesy
+// 0.15.0.
 //
-// The method is Bowring's (1976, 1985) with Fukushima's (1999) square root for a hypotenuse, in the Rust's own sequence of roundings and with its letters.
-// One difference, listed: a point on the axis whose Z is NaN has a NaN latitude, where the Rust takes the pole that the NaN's sign bit happens to name.
-// `cartesian` is cart's forward step; `place`, `geographic` without the height, is what deformation asks for a place by. cart's own inverse is another
-// method, in the crate cart. `geocart_block` is the same for sixteen tuples at once.
+// The method is Bowring's (1976, 1985) with Fukushima's (1999) square root for a hypotenuse, in the
+// Rust's own sequence of roundings and with its letters. One difference, listed: a point on the
+// axis whose Z is NaN has a NaN latitude, where the Rust takes the pole that the NaN's sign bit
+// happens to name. `cartesian` is cart's forward step; `place`, `geographic` without the height, is
+// what deformation asks for a place by. cart's own inverse is another method, in the crate cart.
+// `geocart_block` is the same for sixteen tuples at once.
 ghost use mathlib.Core.Path.{_≡_};
-ghost use Rattle.geocart.specs.Geocart.{cartesianOf, poleOf, poleHeightOf, bowringOf, bowringHeightOf, geographicOf, placeOf};
+ghost use Rattle.geocart.specs.Geocart.{pointOf, cartesianOf, poleOf, poleHeightOf, tangentOf, legsOf, bowringOf, bowringHeightOf, geographicOf, placeOf};
 use ellipsoid::Ellipsoid;
 use tuple::Tuple;
 
@@ -13,6 +16,13 @@ const FRAC_PI_2: f64 = 1.5707963267948966;
 
 // For p < 1 picometre, we simplify things to avoid numerical havoc.
 pub const CUTOFF: f64 = 1.0e-12;
+
+// A point in cartesian coordinates, without its time.
+pub struct Point {
+    pub x: f64,
+    pub y: f64,
+    pub z: f64,
+}
 
 // The legs of the latitude's angle: phi_num and phi_denom of the Rust.
 pub struct Legs {
@@ -26,17 +36,36 @@ pub struct Position {
     pub phi: f64,
 }
 
+// The point at a height h, from N and the sines and cosines of latitude and longitude.
+pub fn point_at(
+    ellps: Ellipsoid,
+    n: f64,
+    h: f64,
+    sinphi: f64,
+    cosphi: f64,
+    sinlam: f64,
+    coslam: f64,
+) -> Point
+    ensures { λ r. ⌜ r ≡ pointOf ellps n h sinphi cosphi sinlam coslam ⌝ }
+{
+    Point {
+        x: (n + h) * cosphi * coslam,
+        y: (n + h) * cosphi * sinlam,
+        z: (n * (1.0 - ellps.es) + h) * sinphi,
+    }
+}
+
 pub fn cartesian(ellps: Ellipsoid, geographic: Tuple) -> Tuple
     ensures { λ r. ⌜ r ≡ cartesianOf ellps geographic ⌝ }
 {
-    let h = geographic.z;
     let phi = trig::sin_cos(geographic.y);
     let lam = trig::sin_cos(geographic.x);
     let n = ellps.prime_vertical_radius_of_curvature(phi.s);
+    let v = point_at(ellps, n, geographic.z, phi.s, phi.c, lam.s, lam.c);
     Tuple {
-        x: (n + h) * phi.c * lam.c,
-        y: (n + h) * phi.c * lam.s,
-        z: (n * (1.0 - ellps.es) + h) * phi.s,
+        x: v.x,
+        y: v.y,
+        z: v.z,
         t: geographic.t,
     }
 }
@@ -59,16 +88,30 @@ pub fn pole_height(ellps: Ellipsoid, z: f64) -> f64
     floats::abs(z) - ellps.b
 }
 
-fn bowring(ellps: Ellipsoid, p: f64, z: f64) -> Legs
-    ensures { λ r. ⌜ r ≡ bowringOf ellps p z ⌝ }
+// T, which Bowring's method starts from.
+pub fn tangent(ellps: Ellipsoid, p: f64, z: f64) -> f64
+    ensures { λ r. ⌜ r ≡ tangentOf ellps p z ⌝ }
 {
-    let t = z * ellps.a / (p * ellps.b);
-    let c = 1.0 / root::sqrt(1.0 + t * t);
+    z * ellps.a / (p * ellps.b)
+}
+
+// The legs, from T and the root of 1 + T².
+pub fn legs_at(ellps: Ellipsoid, p: f64, z: f64, t: f64, root: f64) -> Legs
+    ensures { λ r. ⌜ r ≡ legsOf ellps p z t root ⌝ }
+{
+    let c = 1.0 / root;
     let s = c * t;
     Legs {
         num: z + ellps.eps * ellps.b * floats::cube(s),
         denom: p - ellps.es * ellps.a * floats::cube(c),
     }
+}
+
+fn bowring(ellps: Ellipsoid, p: f64, z: f64) -> Legs
+    ensures { λ r. ⌜ r ≡ bowringOf ellps p z ⌝ }
+{
+    let t = tangent(ellps, p, z);
+    legs_at(ellps, p, z, t, root::sqrt(1.0 + t * t))
 }
 
 // Bowring (1985), as quoted by Burtch (2006): more accurate than h = p / cosphi - N.
@@ -107,7 +150,8 @@ pub fn geographic(ellps: Ellipsoid, cartesian: Tuple) -> Tuple
     }
 }
 
-// Longitude and latitude as `geographic` gives them, for those who leave the height unread: it costs a third of the work.
+// Longitude and latitude as `geographic` gives them, for those who leave the height unread: it
+// costs a third of the work.
 pub fn place(ellps: Ellipsoid, cartesian: Tuple) -> Position
     ensures { λ r. ⌜ r ≡ placeOf ellps cartesian ⌝ }
 {

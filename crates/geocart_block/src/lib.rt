@@ -1,57 +1,21 @@
-// Geographic to cartesian coordinates and back, a block at a time: sixteen tuples, each as `geocart` gives it.
+// Geographic to cartesian coordinates and back, a block at a time: sixteen tuples, each as
+// `geocart` gives it.
 //
-// The method is geocart's, for loops that a compiler turns into vector instructions: the kernels by their blocks, and between them short loops of arithmetic alone.
-// Both latitudes of a point near the axis, the pole's and the other, are worked out, and one is taken. Proved: each number is geocart's.
-// `cartesian_block` is cart's forward step, `latitude_block` ends its inverse, and `place_block` is what deformation asks for places by.
+// The method is geocart's, for loops that a compiler turns into vector instructions: the kernels by
+// their blocks, and between them short loops of arithmetic alone. For every point both latitudes,
+// the pole's and the other, are computed and one is selected, so the loops have no branch. Proved:
+// each number is geocart's. `cartesian_block` is cart's forward step, `latitude_block` ends its
+// inverse, and `place_block` is what deformation asks for places by.
 ghost use mathlib.Core.Path.{_≡_};
 ghost use Prim.Native.Nat.{ℕ};
-ghost use Rattle.floats.specs.Binary64.{_⊕_, _⊗_};
 ghost use Rattle.blocks.specs.Each.{at, Each};
 ghost use Rattle.tuple.specs.Columns.{rowOf};
-ghost use Rattle.ellipsoid.specs.Figure.{one, wOf};
-ghost use Rattle.geocart.specs.Geocart.{cartesianOf, bowringOf, placeOf};
-ghost use Rattle.geocart_block.specs.Blocks.{pointOf, tangentOf, legsOf, latitudeOf};
+ghost use Rattle.ellipsoid.specs.Figure.{primeVerticalWith};
+ghost use Rattle.geocart.specs.Geocart.{pointOf, cartesianOf, tangentOf, radicandOf, legsOf, bowringOf, placeOf};
+ghost use Rattle.geocart_block.specs.Blocks.{latitudeOf};
 use blocks::WIDTH;
 use ellipsoid::Ellipsoid;
 use geocart::CUTOFF;
-use geocart::Legs;
-
-pub struct Point {
-    pub x: f64,
-    pub y: f64,
-    pub z: f64,
-}
-
-fn point_at(
-    ellps: Ellipsoid,
-    rootw: f64,
-    h: f64,
-    sinphi: f64,
-    cosphi: f64,
-    sinlam: f64,
-    coslam: f64,
-) -> Point
-    ensures { λ r. ⌜ r ≡ pointOf ellps rootw h sinphi cosphi sinlam coslam ⌝ }
-{
-    let n = ellps.a / rootw;
-    Point {
-        x: (n + h) * cosphi * coslam,
-        y: (n + h) * cosphi * sinlam,
-        z: (n * (1.0 - ellps.es) + h) * sinphi,
-    }
-}
-
-// w of a block of sines.
-fn w_block(ellps: Ellipsoid, sinphi: &[f64; WIDTH], w: &mut [f64; WIDTH])
-    ensures { λ _. ⌜ Each (now (w .exit)) (λ (j : ℕ). wOf ellps (at (now (sinphi .entry)) j)) ⌝ }
-{
-    *w = [0.0; WIDTH];
-    let mut i = 0;
-    while i < WIDTH {
-        w[i] = 1.0 - sinphi[i] * sinphi[i] * ellps.es;
-        i += 1;
-    }
-}
 
 // The points of a block.
 fn point_block(
@@ -66,16 +30,16 @@ fn point_block(
     y: &mut [f64; WIDTH],
     z: &mut [f64; WIDTH],
 )
-    ensures { λ _. ⌜ Each (now (x .exit)) (λ (j : ℕ). pointOf ellps (at (now (rootw .entry)) j) (at (now (h .entry)) j) (at (now (sinphi .entry)) j) (at (now (cosphi .entry)) j) (at (now (sinlam .entry)) j) (at (now (coslam .entry)) j) .x) × Each (now (y .exit)) (λ (j : ℕ). pointOf ellps (at (now (rootw .entry)) j) (at (now (h .entry)) j) (at (now (sinphi .entry)) j) (at (now (cosphi .entry)) j) (at (now (sinlam .entry)) j) (at (now (coslam .entry)) j) .y) × Each (now (z .exit)) (λ (j : ℕ). pointOf ellps (at (now (rootw .entry)) j) (at (now (h .entry)) j) (at (now (sinphi .entry)) j) (at (now (cosphi .entry)) j) (at (now (sinlam .entry)) j) (at (now (coslam .entry)) j) .z) ⌝ }
+    ensures { λ _. ⌜ Each (now (x .exit)) (λ (j : ℕ). pointOf ellps (primeVerticalWith ellps (at (now (rootw .entry)) j)) (at (now (h .entry)) j) (at (now (sinphi .entry)) j) (at (now (cosphi .entry)) j) (at (now (sinlam .entry)) j) (at (now (coslam .entry)) j) .x) × Each (now (y .exit)) (λ (j : ℕ). pointOf ellps (primeVerticalWith ellps (at (now (rootw .entry)) j)) (at (now (h .entry)) j) (at (now (sinphi .entry)) j) (at (now (cosphi .entry)) j) (at (now (sinlam .entry)) j) (at (now (coslam .entry)) j) .y) × Each (now (z .exit)) (λ (j : ℕ). pointOf ellps (primeVerticalWith ellps (at (now (rootw .entry)) j)) (at (now (h .entry)) j) (at (now (sinphi .entry)) j) (at (now (cosphi .entry)) j) (at (now (sinlam .entry)) j) (at (now (coslam .entry)) j) .z) ⌝ }
 {
     *x = [0.0; WIDTH];
     *y = [0.0; WIDTH];
     *z = [0.0; WIDTH];
     let mut i = 0;
     while i < WIDTH {
-        let v = point_at(
+        let v = geocart::point_at(
             ellps,
-            rootw[i],
+            ellps.a / rootw[i],
             h[i],
             sinphi[i],
             cosphi[i],
@@ -110,7 +74,7 @@ pub fn cartesian_block(
     let mut rootw: [f64; WIDTH] = [0.0; WIDTH];
     trig_block::sin_cos_block(y, &mut sinphi, &mut cosphi);
     trig_block::sin_cos_block(x, &mut sinlam, &mut coslam);
-    w_block(ellps, &sinphi, &mut w);
+    ellipsoid::w_block(ellps, &sinphi, &mut w);
     root::sqrt_block(&w, &mut rootw);
     point_block(
         ellps,
@@ -126,12 +90,6 @@ pub fn cartesian_block(
     );
 }
 
-fn tangent(ellps: Ellipsoid, p: f64, z: f64) -> f64
-    ensures { λ r. ⌜ r ≡ tangentOf ellps p z ⌝ }
-{
-    z * ellps.a / (p * ellps.b)
-}
-
 // T of a block, and 1 + T².
 fn tangent_block(
     ellps: Ellipsoid,
@@ -140,27 +98,16 @@ fn tangent_block(
     t: &mut [f64; WIDTH],
     u: &mut [f64; WIDTH],
 )
-    ensures { λ _. ⌜ Each (now (t .exit)) (λ (j : ℕ). tangentOf ellps (at (now (p .entry)) j) (at (now (z .entry)) j)) × Each (now (u .exit)) (λ (j : ℕ). one ⊕ tangentOf ellps (at (now (p .entry)) j) (at (now (z .entry)) j) ⊗ tangentOf ellps (at (now (p .entry)) j) (at (now (z .entry)) j)) ⌝ }
+    ensures { λ _. ⌜ Each (now (t .exit)) (λ (j : ℕ). tangentOf ellps (at (now (p .entry)) j) (at (now (z .entry)) j)) × Each (now (u .exit)) (λ (j : ℕ). radicandOf (tangentOf ellps (at (now (p .entry)) j) (at (now (z .entry)) j))) ⌝ }
 {
     *t = [0.0; WIDTH];
     *u = [0.0; WIDTH];
     let mut i = 0;
     while i < WIDTH {
-        let v = tangent(ellps, p[i], z[i]);
+        let v = geocart::tangent(ellps, p[i], z[i]);
         t[i] = v;
         u[i] = 1.0 + v * v;
         i += 1;
-    }
-}
-
-fn legs_at(ellps: Ellipsoid, p: f64, z: f64, t: f64, root: f64) -> Legs
-    ensures { λ r. ⌜ r ≡ legsOf ellps p z t root ⌝ }
-{
-    let c = 1.0 / root;
-    let s = c * t;
-    Legs {
-        num: z + ellps.eps * ellps.b * floats::cube(s),
-        denom: p - ellps.es * ellps.a * floats::cube(c),
     }
 }
 
@@ -180,7 +127,7 @@ fn legs_block(
     *denom = [0.0; WIDTH];
     let mut i = 0;
     while i < WIDTH {
-        let m = legs_at(ellps, p[i], z[i], t[i], root[i]);
+        let m = geocart::legs_at(ellps, p[i], z[i], t[i], root[i]);
         num[i] = m.num;
         denom[i] = m.denom;
         i += 1;

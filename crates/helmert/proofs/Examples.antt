@@ -1,4 +1,5 @@
--- Known values: document 01's marked points P2 to P5, P11 and P12 on one step after another, the blank record, and the listed differences. Assumes nothing.
+-- Known values: document 01's marked points P2 to P5, P11 and P12 on one step after another, the
+-- blank record, and the listed differences. Assumes nothing.
 use mathlib.Core.Path.{_≡_, refl}
 use mathlib.Core.Bool.{true, false}
 use mathlib.Core.List.{List, [], _∷_}
@@ -110,7 +111,8 @@ rules = (refl, refl, refl, refl, refl, refl, refl)
 
 -- ---- the listed difference of t_obs
 
--- ds = 1,000,000 ppm a year and a year from t_epoch to t_obs: T moves once, and S three times, from 1 to 4, where IOGP has 2
+-- ds = 1,000,000 ppm a year and a year from t_epoch to t_obs: T moves once, and S three times, from
+-- 1 to 4, where IOGP has 2
 observed : let p = prepareOf (sheet 0 one (bits 0) (bits 0x412e_8480_0000_0000) y2000 y2001) .parameters in
     (p .t ≡ along-x one) × (p .s ≡ bits 0x4010_0000_0000_0000)
 unfolding one y2000 y2001 along-x sheet prepareOf parametersOf winnerOf lengthsOf anglesOf rotatedOf dynamicOf someOf observedOf ofBits add sub mul div eq ne isNan
@@ -150,11 +152,13 @@ back h v = let shift = prepareOf h in stepOf shift true (startOf shift) v .tuple
 old-place : Tuple
 old-place = record { x = bits 0x414b_e7de_547a_e148; y = bits 0x410f_38c4_6666_6666; z = bits 0x4153_d779_870a_3d71; t = nan }
 
--- X 3657660.774, Y 255778.430, Z 5201387.749, where the published figures are 3657660.78, 255778.43, 5201387.75
+-- X 3657660.774, Y 255778.430, Z 5201387.749, where the published figures are 3657660.78,
+-- 255778.43, 5201387.75
 new-place : Tuple
 new-place = record { x = bits 0x414b_e7de_6314_a0d2; y = bits 0x410f_3913_70a8_4270; z = bits 0x4153_d77a_eff1_4c60; t = nan }
 
--- X 3657660.660026, Y 255768.550002, Z 5201382.11: the transpose of a small-angle matrix is its inverse to first order
+-- X 3657660.660026, Y 255768.550002, Z 5201382.11: the transpose of a small-angle matrix is its
+-- inverse to first order
 place-again : Tuple
 place-again = record { x = bits 0x414b_e7de_547b_bea0; y = bits 0x410f_38c4_6667_5e0b; z = bits 0x4153_d779_870a_3d71; t = nan }
 

@@ -9,7 +9,7 @@ use Rattle.helmert.specs.declared.Shift.{Shift}
 use Rattle.helmert.specs.declared.State.{State}
 use Rattle.helmert.specs.Apply.{forwardOf, inverseOf, applyOf}
 use Rattle.rotation.specs.Matrix.{Matrix}
-use Rattle.helmert.specs.Modes.{fixedStepOf, grownOf, nextOf, runningOf, ownEpochStepOf, timeVaryingOf, isOwnEpochOf, isRunningOf, stepOf}
+use Rattle.helmert.specs.Modes.{nothing3, fixedStepOf, grownOf, nextOf, runningOf, ownEpochStepOf, timeVaryingOf, isOwnEpochOf, isRunningOf, stepOf}
 
 -- ---- the step by its mode: what a loop that decides the mode beforehand leans on
 
@@ -91,21 +91,18 @@ time-stays shift inv state v = go (isRunningOf shift) (isOwnEpochOf shift) refl 
 
 -- ---- one NaN time spoils T for the rest
 
-pub nothing3 : Vec3
-nothing3 = record { x = nan; y = nan; z = nan }
-
-plus-nan : (x : Float) → x ⊕ nan ≡ nan
+pub plus-nan : (x : Float) → x ⊕ nan ≡ nan
 unfolding add
 plus-nan nan = refl
 plus-nan (inf s) = refl
 plus-nan (fin s m e) = refl
 
 pub nan-time-spoils : (shift : Shift) (state : State) → nextOf shift state nan .t ≡ nothing3
-unfolding nextOf grownOf ne eq sub add mul nothing3
+unfolding nextOf grownOf ne eq sub add mul
 nan-time-spoils shift state = rw (plus-nan (state .t .x), plus-nan (state .t .y), plus-nan (state .t .z))
 
 pub spoilt-stays-spoilt : (shift : Shift) (state : State) (time : Float) → state .t ≡ nothing3 → nextOf shift state time .t ≡ nothing3
-unfolding nextOf grownOf add nothing3
+unfolding nextOf grownOf add
 spoilt-stays-spoilt shift state time h = go (ne time (state .last)) refl
   where
     go : (b : Bool) → ne time (state .last) ≡ b → nextOf shift state time .t ≡ nothing3

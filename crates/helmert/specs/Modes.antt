@@ -1,4 +1,5 @@
--- The prepared shift and its four modes on one tuple: static, fixed, running, own-epoch. A state goes in and comes out: the last time, and T.
+-- The prepared shift and its four modes on one tuple: static, fixed, running, own-epoch. A state
+-- goes in and comes out: the last time, and T.
 use mathlib.Core.Bool.{Bool, not, cond, _&&_}
 use lib.Dec.{eqb}
 use lib.Ieee.{Float, nan, isNan, ne}
@@ -19,15 +20,16 @@ use Rattle.helmert.specs.Apply.{applyOf}
 -- ---- the prepared shift
 
 -- moved once by rate·d
-abbrev pub movedOf : Vec3 → Vec3 → Float → Vec3
-movedOf v rate d = record { x = v .x ⊕ rate .x ⊗ d; y = v .y ⊕ rate .y ⊗ d; z = v .z ⊕ rate .z ⊗ d }
+abbrev pub advancedOf : Vec3 → Vec3 → Float → Vec3
+advancedOf v rate d = record { x = v .x ⊕ rate .x ⊗ d; y = v .y ⊕ rate .y ⊗ d; z = v .z ⊕ rate .z ⊗ d }
 
--- Fixed, d being t_obs - t_epoch: T and R move once by rate·d, S moves by it three times, one rounding after another. The rates stay.
+-- Fixed, d being t_obs - t_epoch: T and R move once by rate·d, S moves by it three times, one
+-- rounding after another. The rates stay.
 unfoldable pub observedOf : Parameters → Float → Parameters
 observedOf p d =
     record {
-      t = movedOf (p .t) (p .dt) d;
-      r = movedOf (p .r) (p .dr) d;
+      t = advancedOf (p .t) (p .dt) d;
+      r = advancedOf (p .r) (p .dr) d;
       s = p .s ⊕ p .ds ⊗ d ⊕ p .ds ⊗ d ⊕ p .ds ⊗ d;
       dt = p .dt;
       dr = p .dr;
@@ -38,7 +40,8 @@ observedOf p d =
 abbrev pub fixedOf : Helmert → Bool
 fixedOf h = dynamicOf (parametersOf h) && not (isNan (h .«t_obs»))
 
--- The convention counts only where the shift is rotated; 2 is the coordinate frame, and the Rust takes any other for the position vector.
+-- The convention counts only where the shift is rotated; 2 is the coordinate frame, and the Rust
+-- takes any other for the position vector.
 unfoldable pub prepareOf : Helmert → Shift
 prepareOf h =
     let p = parametersOf h in
@@ -83,10 +86,15 @@ fixedStepOf shift inv v =
 unfoldable pub startOf : Shift → State
 startOf shift = record { last = nan; t = shift .parameters .t }
 
--- When a tuple's time is not equal to the last time, it becomes the last time and T grows by dt·DT, dt being it less t_epoch.
+-- When a tuple's time is not equal to the last time, it becomes the last time and T grows by dt·DT,
+-- dt being it less t_epoch.
 unfoldable pub nextOf : Shift → State → Float → State
 nextOf shift state time =
     cond (ne time (state .last)) (record { last = time; t = grownOf (state .t) (time ⊖ shift .epoch) (shift .parameters .dt) }) state
+
+-- T spoilt: NaN on all three axes
+abbrev pub nothing3 : Vec3
+nothing3 = record { x = nan; y = nan; z = nan }
 
 -- T is the state's; R and S are the sheet's at the last time's dt.
 unfoldable pub runningOf : Shift → Bool → State → Tuple → Stepped

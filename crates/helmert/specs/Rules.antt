@@ -1,4 +1,5 @@
--- The rules of refusal that a Helmert record can break, by document 01's numbers. Rotated and dynamic are judged on the scaled numbers.
+-- The rules of refusal that a Helmert record can break, by document 01's numbers. Rotated and
+-- dynamic are judged on the scaled numbers.
 use mathlib.Core.Bool.{Bool, _&&_, _||_}
 use lib.Dec.{ltb, eqb}
 use lib.Ieee.{Float, isNan, ne}
@@ -45,7 +46,8 @@ vectorsFiniteOf h =
 unfoldable pub scalesFiniteOf : Helmert → Bool
 scalesFiniteOf h = finite (h .scale) && finite (h .s) && finite (h .«scale_rate») && finite (h .ds)
 
--- no flag but the four, a convention of the three, finite numbers, and both times finite or not given
+-- no flag but the four, a convention of the three, finite numbers, and both times finite or not
+-- given
 unfoldable pub fieldsInRuleOf : Helmert → Bool
 fieldsInRuleOf h =
     ltb (h .flags) 16

@@ -1,4 +1,5 @@
--- A record's numbers in metres and radians: the Rust's `new` up to its tests, in its letters and order.
+-- A record's numbers in metres and radians: the Rust's `new` up to its tests, in its letters and
+-- order.
 use mathlib.Core.Bool.{Bool, cond}
 use lib.Ieee.{Float, ne}
 use Rattle.floats.specs.Binary64.{_⊕_, _⊗_, _⊘_, bits}

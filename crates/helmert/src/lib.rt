@@ -1,17 +1,25 @@
-// The Helmert step: helmert.rs of the crate geodesy 0.15.0, with the record, the rules and the modes of document 01.
+// The Helmert step: helmert.rs of the crate geodesy 0.15.0, with document 01's rules and modes.
 //
-// The method is IOGP 373-7-2's coordinate frame and position vector shifts, in the Rust's own sequence of roundings and with its letters: `scaled` and
-// `prepare` are its `new`, and the steps on one tuple are one turn of the loop of its `helmert_common`; its `rotation_matrix` is in the crate rotation.
-// Every function is proved equal to its definition in specs/, rounding by rounding, for every number. Two differences from IOGP are the Rust's and are kept:
-// in running mode T grows from one time to the next, and t_obs moves S three times. The own-epoch mode is ours. A step sees one tuple and never the list:
-// a state goes in and comes out. A loop over a list decides the mode once, by `is_running` and `is_own_epoch`, and builds the matrix anew only when the
-// time changes, from the pieces that are public for it.
+// The method is IOGP 373-7-2's coordinate frame and position vector shifts, in the Rust's own
+// sequence of roundings and with its letters: `scaled` and `prepare` are its `new`, and the steps
+// on one tuple are one turn of the loop of its `helmert_common`; its `rotation_matrix` is in the
+// crate rotation. Every function is proved equal to its definition in specs/, rounding by rounding,
+// for every number.
+//
+// Four differences from IOGP are the Rust's and are kept (docs/DIFFERENCES.md). In running mode T
+// grows from tuple to tuple. t_obs moves S three times. The inverse undoes the forward step, where
+// IOGP runs the same formula with negated parameters. The exact rotation takes sines and cosines of
+// the angles. The own-epoch mode is ours.
+//
+// A step sees one tuple and never the list: a state goes in and comes out. A loop over a list
+// decides the mode once, by `is_running` and `is_own_epoch`, and builds the matrix anew only when
+// the time changes, from the pieces that are public for it.
 ghost use mathlib.Core.Path.{_≡_};
 ghost use Rattle.helmert.specs.Record.{exactOf, uasOf, mmOf, ownEpochOf, blankHelmert};
 ghost use Rattle.helmert.specs.Units.{linearScaleOf, angularScaleOf, winnerOf, lengthsOf, anglesOf, parametersOf};
 ghost use Rattle.helmert.specs.Rules.{someOf, rotatedOf, dynamicOf, finite3Of, timeOf, vectorsFiniteOf, scalesFiniteOf, fieldsInRuleOf, lacksConventionOf, lacksEpochOf};
 ghost use Rattle.helmert.specs.Apply.{offsetOf, deoffsetOf, forwardOf, inverseOf, applyOf};
-ghost use Rattle.helmert.specs.Modes.{movedOf, observedOf, prepareOf, grownOf, rotationAtOf, scaleAtOf, shiftedOf, fixedStepOf, startOf, nextOf, runningOf, ownTimeOf, ownEpochStepOf, isOwnEpochOf, isRunningOf, stepOf};
+ghost use Rattle.helmert.specs.Modes.{advancedOf, observedOf, prepareOf, grownOf, rotationAtOf, scaleAtOf, shiftedOf, fixedStepOf, startOf, nextOf, runningOf, ownTimeOf, ownEpochStepOf, isOwnEpochOf, isRunningOf, stepOf};
 use rotation::Vec3;
 use tuple::Tuple;
 
@@ -19,8 +27,10 @@ const PI: f64 = 3.141592653589793;
 
 // ----- the record ----------------------------------------------------------------------
 
-// The record as the sheet carries it. The singles x, y, z are xyz, and so on; t_epoch and t_obs are NaN where they are not given.
-// flags: 1 exact, 2 uas, 4 mm, 8 own-epoch. convention: 0 none, 1 position vector, 2 coordinate frame.
+// The record as the sheet carries it. The singles x, y, z are xyz, and so on; t_epoch and t_obs are
+// NaN where they are not given.
+// flags: 1 exact, 2 uas, 4 mm, 8 own-epoch. convention: 0 none, 1 position vector, 2 coordinate
+// frame.
 pub struct Helmert {
     pub flags: u32,
     pub convention: u32,
@@ -270,7 +280,7 @@ pub struct Shift {
 
 // A parameter moved once by rate·d.
 fn moved(v: Vec3, rate: Vec3, d: f64) -> Vec3
-    ensures { λ r. ⌜ r ≡ movedOf v rate d ⌝ }
+    ensures { λ r. ⌜ r ≡ advancedOf v rate d ⌝ }
 {
     Vec3 {
         x: v.x + rate.x * d,
@@ -279,7 +289,8 @@ fn moved(v: Vec3, rate: Vec3, d: f64) -> Vec3
     }
 }
 
-// The parameters at a fixed observation time, d years after t_epoch. S moves three times, because the Rust adds to it inside its loop over the axes.
+// The parameters at a fixed observation time, d years after t_epoch. S moves three times, because
+// the Rust adds to it inside its loop over the axes.
 fn observed(p: Parameters, d: f64) -> Parameters
     ensures { λ r. ⌜ r ≡ observedOf p d ⌝ }
 {
@@ -504,7 +515,7 @@ pub fn running(shift: Shift, inv: bool, state: State, v: Tuple) -> Stepped
 }
 
 // A NaN time is read as t_epoch.
-fn own_time(shift: Shift, time: f64) -> f64
+pub fn own_time(shift: Shift, time: f64) -> f64
     ensures { λ r. ⌜ r ≡ ownTimeOf shift time ⌝ }
 {
     if floats::is_nan(time) {

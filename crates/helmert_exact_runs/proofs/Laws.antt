@@ -1,4 +1,5 @@
--- Sines taken ahead: sixteen at first, one fewer with each fix that is written; the first of them makes the fix's matrix. Assumes nothing.
+-- Sines taken ahead: sixteen at first, one fewer with each fix that is written; the first of them
+-- makes the fix's matrix. Assumes nothing.
 use Prim.Native.Nat.{ℕ, _+_, _-_, _*_, _≤_, _<_}
 use native.Mathlib.Omega.{arith}
 use native.Mathlib.Nat.{not-suc-le-zero}

@@ -26,7 +26,8 @@ anglesOf own shift t = rotationAtOf (shift .parameters) (lapseOf own shift t)
 abbrev pub sinesAt : List Float → List Float → List Float → List Float → List Float → List Float → ℕ → Sines
 sinesAt sx cx sy cy sz cz j = record { sx = at sx j; cx = at cx j; sy = at sy j; cy = at cy j; sz = at sz j; cz = at cz j }
 
--- The last `left` places of the columns hold the sines and cosines of as many fixes, from place i of the list on. Only an exact shift has any.
+-- The last `left` places of the columns hold the sines and cosines of as many fixes, from place i
+-- of the list on. Only an exact shift has any.
 pub record Ahead (own : Bool) (shift : Shift) (l : List Float) (i left : ℕ) (sx cx sy cy sz cz : List Float) : Type 0 where
   pub few : left ≤ 16
   pub whole : i + 4 * left ≤ length l

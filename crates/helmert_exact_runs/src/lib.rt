@@ -1,10 +1,13 @@
-// Helmert over a lent flat list where the rotation is exact: running and own-epoch, a loop for each direction, written where the list stands.
+// Helmert over a lent flat list where the rotation is exact: running and own-epoch, a loop for each
+// direction, written where the list stands.
 //
-// Three sines and cosines a fix are what such a shift costs. R goes by a fix's own time, so where one time follows another they are taken ahead, for
-// sixteen fixes at a time (`trig_block::sin_cos_block`); T is carried on from fix to fix as it must be. Where times stay for a while, or fewer than sixteen fixes are
-// left, a fix's sines are taken when its turn comes.
-// Every function is proved equal to the step's own definition from tuple to tuple (helmert_turns/specs/Turns.antt over `lists`), for any shift; what
-// `helmert_runs` sends here are the exact ones, and of own-epoch those that are not rotated. Exact: no rounding but the step's own.
+// Three sines and cosines a fix are what such a shift costs. R goes by a fix's own time, so where
+// one time follows another they are taken ahead, for sixteen fixes at a time
+// (`trig_block::sin_cos_block`); T is carried on from fix to fix as it must be. Where times stay
+// for a while, or fewer than sixteen fixes are left, a fix's sines are taken when its turn comes.
+// Every function is proved equal to the step's own definition from tuple to tuple
+// (helmert/specs/Turns.antt over `lists`), for any shift; what `helmert_runs` sends here are the
+// exact ones, and of own-epoch those that are not rotated. Exact: no rounding but the step's own.
 ghost use mathlib.Core.Path.{_≡_};
 ghost use mathlib.Core.Bool.{true, false};
 ghost use Prim.Native.Nat.{ℕ, _+_, _-_, _*_, _≤_};
@@ -15,7 +18,7 @@ ghost use Rattle.rotation.specs.Matrix.{rotationMatrixOf};
 ghost use Rattle.helmert.specs.Modes.{startOf, rotationAtOf, runningOf, ownEpochStepOf};
 ghost use Rattle.lists.specs.Flat.{tupleAt};
 ghost use Rattle.lists.specs.Run.{ranOf};
-ghost use Rattle.helmert_turns.specs.Turns.{noState, allTurns, steppedTurns};
+ghost use Rattle.helmert.specs.Turns.{noState, allTurns, steppedTurns};
 ghost use Rattle.helmert_exact_runs.specs.Ahead.{lapseOf, Ahead, Here};
 use blocks::WIDTH;
 use helmert::Shift;
@@ -28,7 +31,7 @@ fn lapse(own: bool, shift: Shift, t: f64) -> f64
     ensures { λ r. ⌜ r ≡ lapseOf own shift t ⌝ }
 {
     if own {
-        return helmert_turns::own_time(shift, t) - shift.epoch;
+        return helmert::own_time(shift, t) - shift.epoch;
     }
     t - shift.epoch
 }
@@ -88,7 +91,8 @@ fn fill(
     trig_block::sin_cos_block(&a, sz, cz);
 }
 
-// Whether sixteen are worth taking: sixteen fixes are left, and in running mode the next has another time.
+// Whether sixteen are worth taking: sixteen fixes are left, and in running mode the next has
+// another time.
 fn worth(list: &[f64], i: usize, own: bool, shift: Shift) -> bool
     requires { ⌜ i ≤ length (now list) ⌝ }
     ensures { λ r. ⌜ (r ≡ true → (shift .exact ≡ true) × (i + 64 ≤ length (now (list .entry)))) ⌝ }
@@ -107,7 +111,8 @@ fn worth(list: &[f64], i: usize, own: bool, shift: Shift) -> bool
     false
 }
 
-// The sines and cosines of the fixes from here on, where they are worth taking: how many there are then.
+// The sines and cosines of the fixes from here on, where they are worth taking: how many there are
+// then.
 fn ahead(
     list: &[f64],
     i: usize,

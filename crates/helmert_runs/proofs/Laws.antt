@@ -1,4 +1,5 @@
--- Which loop stands for which of Helmert's modes: a state that is left alone does not matter, and each mode's loop makes what the step's definition makes.
+-- Which loop stands for which of Helmert's modes: a state that is left alone does not matter, and
+-- each mode's loop makes what the step's definition makes.
 -- Assumes nothing.
 use Prim.Native.Nat.{ℕ, suc}
 use mathlib.Core.Path.{_≡_, refl, sym, ap, _∙_}
@@ -13,7 +14,7 @@ use Rattle.helmert.specs.Modes.{stepOf, startOf, runningOf, ownEpochStepOf, fix
 use Rattle.lists.specs.Flat.{fourOf, numbersOf}
 use Rattle.lists.specs.Run.{Turn, ranOf}
 use Rattle.lists.proofs.Laws.{ran-alike}
-use Rattle.helmert_turns.specs.Turns.{noState, allTurns, steppedTurns, helmertTurns}
+use Rattle.helmert.specs.Turns.{noState, allTurns, steppedTurns, helmertTurns}
 
 -- ---- a step that leaves the state alone makes the same of a list from any
 

@@ -1,14 +1,17 @@
-// Helmert over a lent flat list, a loop for each mode, convention and direction, written where the list stands. The exact loops: `helmert_exact_runs`.
+// Helmert over a lent flat list, a loop for each mode, convention and direction, written where the
+// list stands. The exact loops: `helmert_exact_runs`.
 //
-// The prepared shift and the matrix of a static or fixed one are worked out once a list. Mode, convention, exactness, rotation and direction are decided before
-// a loop starts. Every function is proved equal, list and count, to the step's own definition from tuple to tuple (helmert_turns over `lists`).
+// The prepared shift and the matrix of a static or fixed one are worked out once a list. Mode,
+// convention, exactness, rotation and direction are decided before a loop starts. Every function is
+// proved equal, list and count, to the step's own definition from tuple to tuple
+// (helmert/specs/Turns.antt over `lists`).
 // Exact: no rounding but the step's own. Used by the chain.
 ghost use mathlib.Core.Path.{_≡_};
 ghost use mathlib.Core.Bool.{true, false};
 ghost use Rattle.helmert.specs.Apply.{forwardOf, inverseOf};
 ghost use Rattle.helmert.specs.Modes.{prepareOf, startOf, fixedStepOf, runningOf, ownEpochStepOf};
 ghost use Rattle.lists.specs.Run.{ranOf, countOf};
-ghost use Rattle.helmert_turns.specs.Turns.{noState, allTurns, steppedTurns, helmertTurns};
+ghost use Rattle.helmert.specs.Turns.{noState, allTurns, steppedTurns, helmertTurns};
 use helmert::Helmert;
 use helmert::Shift;
 use rotation::Vec3;
@@ -47,7 +50,7 @@ fn own_epoch_position_vector_forward(list: &mut [f64], shift: Shift)
     let mut i = 0;
     while 4 <= list.len() - i {
         let v = lists::read4(list, i);
-        let dt = helmert_turns::own_time(shift, v.t) - shift.epoch;
+        let dt = helmert::own_time(shift, v.t) - shift.epoch;
         let t = helmert::grown(p.t, dt, p.dt);
         let s = helmert::scale_at(p, dt);
         let m = rotation::rotation_matrix(helmert::rotation_at(p, dt), false, true);
@@ -65,7 +68,7 @@ fn own_epoch_position_vector_inverse(list: &mut [f64], shift: Shift)
     let mut i = 0;
     while 4 <= list.len() - i {
         let v = lists::read4(list, i);
-        let dt = helmert_turns::own_time(shift, v.t) - shift.epoch;
+        let dt = helmert::own_time(shift, v.t) - shift.epoch;
         let t = helmert::grown(p.t, dt, p.dt);
         let s = helmert::scale_at(p, dt);
         let m = rotation::rotation_matrix(helmert::rotation_at(p, dt), false, true);
@@ -83,7 +86,7 @@ fn own_epoch_coordinate_frame_forward(list: &mut [f64], shift: Shift)
     let mut i = 0;
     while 4 <= list.len() - i {
         let v = lists::read4(list, i);
-        let dt = helmert_turns::own_time(shift, v.t) - shift.epoch;
+        let dt = helmert::own_time(shift, v.t) - shift.epoch;
         let t = helmert::grown(p.t, dt, p.dt);
         let s = helmert::scale_at(p, dt);
         let m = rotation::rotation_matrix(helmert::rotation_at(p, dt), false, false);
@@ -101,7 +104,7 @@ fn own_epoch_coordinate_frame_inverse(list: &mut [f64], shift: Shift)
     let mut i = 0;
     while 4 <= list.len() - i {
         let v = lists::read4(list, i);
-        let dt = helmert_turns::own_time(shift, v.t) - shift.epoch;
+        let dt = helmert::own_time(shift, v.t) - shift.epoch;
         let t = helmert::grown(p.t, dt, p.dt);
         let s = helmert::scale_at(p, dt);
         let m = rotation::rotation_matrix(helmert::rotation_at(p, dt), false, false);
@@ -111,8 +114,9 @@ fn own_epoch_coordinate_frame_inverse(list: &mut [f64], shift: Shift)
     }
 }
 
-// Running: T grows, and R, S and the matrix are worked out anew, only where the time changes. Small angles have a loop for each convention: the matrix is
-// then nine numbers in registers, and no test of the shift is left in the loop.
+// Running: T grows, and R, S and the matrix are worked out anew, only where the time changes. Small
+// angles have a loop for each convention: the matrix is then nine numbers in registers, and no test
+// of the shift is left in the loop.
 fn running_position_vector_forward(list: &mut [f64], shift: Shift)
     requires { ⌜ (shift .rotated ≡ true) × (shift .exact ≡ false) × (shift .«position_vector» ≡ true) ⌝ }
     ensures { λ _. ⌜ now (list .exit) ≡ ranOf (steppedTurns (runningOf shift false)) 0 (startOf shift) (now (list .entry)) ⌝ }

@@ -1,5 +1,5 @@
--- What is true of `hypotOf` for every two numbers, for callers to cite. `T (fits binary64 x)` says that x is a number that binary64 holds, as every number of a
--- program is. Assumes nothing.
+-- What is true of `hypotOf` for every two numbers, for callers to cite. `T (fits binary64 x)` says
+-- that x is a number that binary64 holds, as every number of a program is. Assumes nothing.
 use mathlib.Core.Path.{_≡_, refl, sym, ap, _∙_, subst}
 use Prim.Native.Nat.{ℕ, zero, _+_, _*_}
 use native.Mathlib.Nat.{add-zero, mul-one, zero-mul, mul-assoc, mul-comm, mul-le-mul-right, le-add-right, le-trans, le-of-eq, le-antisymm, mul-pos}
@@ -233,7 +233,8 @@ is-the-nan nan h = refl
 is-the-nan (inf s) h = absurd (true≢false (sym h))
 is-the-nan (fin s m e) h = absurd (true≢false (sym h))
 
--- the order of the parts matters neither where one is below the other, nor where one is NaN, nor where both are one number
+-- the order of the parts matters neither where one is below the other, nor where one is NaN, nor
+-- where both are one number
 pair-symmetric : (p q : Float) → T (fits binary64 p) → T (fits binary64 q) → signOf p ≡ false → signOf q ≡ false → infinite p ≡ false → infinite q ≡ false
     → pairOf (larger p q) (smaller p q) ≡ pairOf (larger q p) (smaller q p)
 unfolding larger smaller
@@ -375,7 +376,8 @@ pair-bounds m n e d f g = go (lt p q)
     go true = (bounded-from-below n m d e g (lengthOf q p), rw (sum-in-either-order p q refl refl) (bounded-from-above n m d e g (lengthOf q p)))
     go false = (bounded-from-below m n e d f (lengthOf p q), bounded-from-above m n e d f (lengthOf p q))
 
--- Of finite parts the length is never below the larger magnitude, nor above the rounded sum of both: nothing overflows or underflows on the way to lose that.
+-- Of finite parts the length is never below the larger magnitude, nor above the rounded sum of
+-- both: nothing overflows or underflows on the way to lose that.
 pub at-least-the-larger-part : (x y : Float) → T (fits binary64 x) → T (fits binary64 y) → T (finite x) → T (finite y)
     → le (larger (absOf x) (absOf y)) (hypotOf x y) ≡ true
 unfolding hypotOf infinite signOf neg

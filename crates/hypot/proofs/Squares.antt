@@ -33,7 +33,8 @@ square-of-magnitude (inf false) = refl
 square-of-magnitude (fin true m e) = refl
 square-of-magnitude (fin false m e) = refl
 
--- what holds of the infinity and of every finite number of a sign holds of what is rounded with that sign
+-- what holds of the infinity and of every finite number of a sign holds of what is rounded with
+-- that sign
 module _ (P : Float → Type 0) (s : Bool) (infinity : P (inf s)) (finite : (m : ℕ) (e : ℤ) → P (fin s m e)) where
   of-odd : (q j : ℕ) → P (odd 54 s q j 1074)
   unfolding odd

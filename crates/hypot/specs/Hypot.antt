@@ -50,7 +50,8 @@ reciprocalRootOf e =
     one ⊕ half ⊗ e ⊕ (bits 0x3fd7_fff7_02d5_97e2 ⊕ bits 0x3fd3_fff5_fad2_7a6d ⊗ e) ⊗ e²
     ⊕ (bits 0x3fd1_9826_255b_aa3a ⊕ bits 0x3fcf_b010_e328_363f ⊗ e) ⊗ (e² ⊗ e²)
 
--- √s for s = a² + b²: the guess, bettered by the polynomial, and then by what a² + b² exceeds its square by, which is b² - (root - a)·(root + a)
+-- √s for s = a² + b²: the guess, bettered by the polynomial, and then by what a² + b² exceeds its
+-- square by, which is b² - (root - a)·(root + a)
 unfoldable pub rootOf : Float → Float → Float → Float
 rootOf s a b =
     let guess = guessOf s in
@@ -67,11 +68,13 @@ scaledRootOf scale back a b = rootOf (squaresOf (a ⊗ scale) (b ⊗ scale)) (a 
 unfoldable pub rescaledOf : Float → Float → Float
 rescaledOf a b = cond (lt one a) (scaledRootOf down600 up600 a b) (scaledRootOf up600 down600 a b)
 
--- Neither the squares nor their sum overflow or underflow: parts whose squares would are scaled first.
+-- Neither the squares nor their sum overflow or underflow: parts whose squares would are scaled
+-- first.
 unfoldable pub lengthOf : Float → Float → Float
 lengthOf a b = cond (ordinary (squaresOf a b)) (rootOf (squaresOf a b) a b) (rescaledOf a b)
 
--- A length is at most the sum of its parts and at least the larger of them. Rounding keeps both, so this changes no good answer; it is NaN exactly where a or b is.
+-- A length is at most the sum of its parts and at least the larger of them. Rounding keeps both, so
+-- this changes no good answer; it is NaN exactly where a or b is.
 unfoldable pub boundedOf : Float → Float → Float → Float
 boundedOf a b length = cond (lt length (a ⊕ b)) (cond (lt a length) length a) (a ⊕ b)
 

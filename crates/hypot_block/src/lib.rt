@@ -1,8 +1,10 @@
 // hypot by the block: the lengths √(x² + y²) of sixteen points, each as `hypot::hypot` gives it.
 //
-// The method is hypot's. Where all sums of squares are ordinary, as they nearly always are, one loop with neither a branch nor a test for NaN does, of which the compiler makes vector
-// instructions; any other block goes one point after the other. Proved: each number is hypot's, so that its exactness is hypot's too.
-// The distances from the axis in `cart` and `geocart_block` are taken by it.
+// The method is hypot's. Where all sums of squares are ordinary, as they nearly always are, one
+// loop with neither a branch nor a test for NaN does, of which the compiler makes vector
+// instructions; any other block goes one point after the other. Proved: each number is hypot's, so
+// that its exactness is hypot's too. The distances from the axis in `cart` and `geocart_block` are
+// taken by it.
 ghost use Prim.Native.Nat.{ℕ};
 ghost use Rattle.blocks.specs.Each.{at, Each};
 ghost use Rattle.hypot.specs.Hypot.{hypotOf};

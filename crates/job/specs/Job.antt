@@ -1,4 +1,5 @@
--- Document 01's job, from its bytes: four words; sheet; tuples; velocities; marks, a byte each; then the end.
+-- Document 01's job, from its bytes: four words; sheet; tuples; velocities; marks, a byte each;
+-- then the end.
 use Prim.Native.Nat.{ℕ, zero, suc, _+_, _*_}
 use mathlib.Core.Bool.{Bool, not, _||_}
 use mathlib.Core.List.{List, [], _∷_}
@@ -30,7 +31,8 @@ endAt h = marksAt h + h .velocities
 
 -- ---- 16, a bad job
 
--- direction over 1; a sheet over 4,240 bytes; over 512 tuples; velocities neither none nor as many as the tuples; not as long as the words say
+-- direction over 1; a sheet over 4,240 bytes; over 512 tuples; velocities neither none nor as many
+-- as the tuples; not as long as the words say
 unfoldable pub refusal16 : Head → ℕ → Bool
 refusal16 h bytes =
     ltb 1 (h .direction)
@@ -46,8 +48,8 @@ unfoldable pub numbersOf : ℕ → List ℕ → List Float
 numbersOf zero bs = []
 numbersOf (suc k) bs = numberAt bs 0 ∷ numbersOf k (drop 8 bs)
 
-abbrev pub inverseOf : List ℕ → Bool
-inverseOf j = eqb (headOf j .direction) 1
+abbrev pub asksInverse : List ℕ → Bool
+asksInverse j = eqb (headOf j .direction) 1
 
 unfoldable pub sheetOf : List ℕ → List ℕ
 sheetOf j = take (headOf j .sheet) (drop 16 j)

@@ -1,8 +1,10 @@
 // A job, as the program reads it: direction, sheet, tuples, velocities and marks from bytes.
 //
-// Document 01, "Program". A job is four words, the sheet, the tuples (four numbers each), the velocities (three numbers each) and a mark for each velocity,
-// then the end; docs/FORMAT.md has it byte by byte. Any other bytes are 16, and no other rule is looked at before that. Every function answers for every
-// input: past the end a byte reads as 0. Exact: a number's bits become the number, every NaN the one NaN. Used by `answer`.
+// Document 01, "Program". A job is four words, the sheet, the tuples (four numbers each), the
+// velocities (three numbers each) and a mark for each velocity, then the end; docs/FORMAT.md has it
+// byte by byte. Any other bytes are 16, and no other rule is looked at before that. Every function
+// answers for every input: past the end a byte reads as 0. Exact: a number's bits become the
+// number, every NaN the one NaN. Used by `answer`.
 ghost use mathlib.Core.Path.{_≡_};
 ghost use Prim.Native.Nat.{_+_, _<_, min};
 ghost use lib.ListN.{length};
@@ -27,36 +29,30 @@ pub fn read_head(job: &[u8]) -> Head
     }
 }
 
-pub fn wide(x: u32) -> usize
-    ensures { λ r. ⌜ (r ≡ x) × (r < 4294967296) ⌝ }
-{
-    x as usize
-}
-
 // Where the tuples begin, and the sheet ends.
 pub fn tuples_at(head: Head) -> usize
     ensures { λ r. ⌜ (r ≡ tuplesAt head) × (r < 4294967312) ⌝ }
 {
-    16 + wide(head.sheet)
+    16 + words::wide(head.sheet)
 }
 
 pub fn velocities_at(head: Head) -> usize
     ensures { λ r. ⌜ (r ≡ velocitiesAt head) × (r < 141733920784) ⌝ }
 {
-    tuples_at(head) + 32 * wide(head.tuples)
+    tuples_at(head) + 32 * words::wide(head.tuples)
 }
 
 pub fn marks_at(head: Head) -> usize
     ensures { λ r. ⌜ (r ≡ marksAt head) × (r < 244813135888) ⌝ }
 {
-    velocities_at(head) + 24 * wide(head.velocities)
+    velocities_at(head) + 24 * words::wide(head.velocities)
 }
 
 // Rule 16, over the four words and how many bytes there are.
 pub fn is_bad(head: Head, bytes: usize) -> bool
     ensures { λ r. ⌜ r ≡ refusal16 head bytes ⌝ }
 {
-    let end = marks_at(head) + wide(head.velocities);
+    let end = marks_at(head) + words::wide(head.velocities);
     (1 < head.direction)
         | (4240 < head.sheet)
         | (512 < head.tuples)

@@ -1,4 +1,5 @@
--- Refusals in their order, and what a call leaves by them. Assumes nothing.
+-- Refusals in their order, and what a call leaves by them. Working definition, which no promise
+-- cites: `Passed`. Assumes nothing.
 use Prim.Native.Nat.{ℕ, _/_, _%_, _≤_, _<_}
 use native.Mathlib.Omega.{arith}
 use mathlib.Core.Bool.{Bool, true, false, not, cond}
@@ -9,17 +10,18 @@ use lib.ListN.{length}
 use borrow.Author.Tests.{eq-eqb, ne-eqb, eqb-true, eqb-false, ltb-true, ltb-false, not-false}
 use Rattle.tuple.specs.declared.Tuple.{Tuple}
 use Rattle.sheet.specs.declared.Refusal.{Refusal}
-use Rattle.sheet.specs.Rules.{rule, accepted, ofSheet, firstBroken, refusalOf}
+use Rattle.sheet.specs.Rules.{rule, accepted, ofCall, firstBroken, refusalOf}
 use Rattle.sheet.proofs.Order.{neither}
 use Rattle.chain.specs.Rules.{refusal9}
 use Rattle.stretch.specs.Kept.{Kept, Redone, freshOf, correctedOf}
-use Rattle.kept.specs.Entries.{refusal12, refusal13, refusal14, keptOrder, keepRefusalOf, correctRefusalOf, shiftIn, turnedIn, keepOf, outcome, answerOf, correctOf}
+use Rattle.kept.specs.Entries.{refusal12, refusal13, refusal14, keptOrder, keepRefusalOf, correctRefusalOf, shiftIn, reversedIn, keepOf, outcome, correctedAs, correctOf}
 
 -- ---- the order
 
--- the answer, by whether the sheet has a refusal of its own and by the three rules; `later` where all are kept
+-- the answer, by whether the sheet has a refusal of its own and by the three rules; `later` where
+-- all are kept
 abbrev inOrder : Refusal → Bool → Bool → Bool → Bool → Refusal → Refusal
-inOrder own none b12 b9 b13 later = cond (not none) own (cond b12 (ofSheet 12) (cond b9 (ofSheet 9) (cond b13 (ofSheet 13) later)))
+inOrder own none b12 b9 b13 later = cond (not none) own (cond b12 (ofCall 12) (cond b9 (ofCall 9) (cond b13 (ofCall 13) later)))
 
 first-stays : (own later : Refusal) (none b12 b9 b13 : Bool) → (inOrder own none b12 b9 b13 accepted .number ≡ 0 → ⊥)
     → inOrder own none b12 b9 b13 accepted ≡ inOrder own none b12 b9 b13 later
@@ -55,15 +57,15 @@ module _ (s : List ℕ) (list results track : ℕ) where
   unfolding firstBroken
   own-refused h = rw (ne-eqb _ _ h)
 
-  pub refused-12 : refusalOf s .number ≡ 0 → refusal12 s ≡ true → ofSheet 12 ≡ answer
+  pub refused-12 : refusalOf s .number ≡ 0 → refusal12 s ≡ true → ofCall 12 ≡ answer
   unfolding firstBroken
   refused-12 h a = rw (eq-eqb _ _ h, a)
 
-  pub refused-9 : refusalOf s .number ≡ 0 → refusal12 s ≡ false → refusal9 list ≡ true → ofSheet 9 ≡ answer
+  pub refused-9 : refusalOf s .number ≡ 0 → refusal12 s ≡ false → refusal9 list ≡ true → ofCall 9 ≡ answer
   unfolding firstBroken
   refused-9 h a b = rw (eq-eqb _ _ h, a, b)
 
-  pub refused-13 : refusalOf s .number ≡ 0 → refusal12 s ≡ false → refusal9 list ≡ false → refusal13 list results track ≡ true → ofSheet 13 ≡ answer
+  pub refused-13 : refusalOf s .number ≡ 0 → refusal12 s ≡ false → refusal9 list ≡ false → refusal13 list results track ≡ true → ofCall 13 ≡ answer
   unfolding firstBroken
   refused-13 h a b d = rw (eq-eqb _ _ h, a, b, d)
 
@@ -99,7 +101,7 @@ module _ (inverse : Bool) (s : List ℕ) (old : Kept) where
   unfolding keepOf
   keep-refused h = rw (ne-eqb _ _ h)
 
-  pub keep-done : {new : Kept} → keepRefusalOf s old .number ≡ 0 → new ≡ freshOf (shiftIn s) (turnedIn inverse s) (old .list) → new ≡ keepOf inverse s old
+  pub keep-done : {new : Kept} → keepRefusalOf s old .number ≡ 0 → new ≡ freshOf (shiftIn s) (reversedIn inverse s) (old .list) → new ≡ keepOf inverse s old
   unfolding keepOf
   keep-done h e = rw (eq-eqb _ _ h) e
 
@@ -110,7 +112,7 @@ module _ (inverse : Bool) (s : List ℕ) (old : Kept) (index : ℕ) (fix : Tuple
   before-14 = keepRefusalOf s old
 
   abbrev at-14 : Refusal
-  at-14 = firstBroken (rule (ofSheet 14) (refusal14 (length (old .list)) index) ∷ [])
+  at-14 = firstBroken (rule (ofCall 14) (refusal14 (length (old .list)) index) ∷ [])
 
   early : (before-14 .number ≡ 0 → ⊥) → before-14 ≡ correctRefusalOf s old index
   unfolding keepRefusalOf correctRefusalOf firstBroken
@@ -132,12 +134,13 @@ module _ (inverse : Bool) (s : List ℕ) (old : Kept) (index : ℕ) (fix : Tuple
       (refusal13 (length (old .list)) (length (old .results)) (length (old .track))) (eqb-false _ _) e in
       rw (h .0, h .1, h .2, h .3)
 
-  -- no refusal of a correction: none of a fresh run over the same lists, and a fix stands at the index
+  -- no refusal of a correction: none of a fresh run over the same lists, and a fix stands at the
+  -- index
   pub taken : correctRefusalOf s old index .number ≡ 0 → (before-14 .number ≡ 0) × (refusal14 (length (old .list)) index ≡ false)
   unfolding firstBroken
   taken e = by-own (eqb (before-14 .number) 0) refl
     where
-      by-index : (b : Bool) → firstBroken (rule (ofSheet 14) b ∷ []) .number ≡ 0 → b ≡ false
+      by-index : (b : Bool) → firstBroken (rule (ofCall 14) b ∷ []) .number ≡ 0 → b ≡ false
       by-index true z = absurd (omega arith)
       by-index false z = refl
 
@@ -154,22 +157,22 @@ module _ (inverse : Bool) (s : List ℕ) (old : Kept) (index : ℕ) (fix : Tuple
   unfolding firstBroken refusal14
   not-refused h e = ap (λ (r : Refusal). r .number) (late h) ∙ rw e
 
-  given-back : {r : Refusal} → r ≡ correctRefusalOf s old index → (r .number ≡ 0 → ⊥) → outcome (answerOf r 0) old ≡ correctOf inverse s old index fix
+  given-back : {r : Refusal} → r ≡ correctRefusalOf s old index → (r .number ≡ 0 → ⊥) → outcome (correctedAs r 0) old ≡ correctOf inverse s old index fix
   unfolding correctOf
   given-back e h = rw (← e, ne-eqb _ _ h)
 
-  pub correct-refused : {r : Refusal} → r ≡ before-14 → (r .number ≡ 0 → ⊥) → outcome (answerOf r 0) old ≡ correctOf inverse s old index fix
+  pub correct-refused : {r : Refusal} → r ≡ before-14 → (r .number ≡ 0 → ⊥) → outcome (correctedAs r 0) old ≡ correctOf inverse s old index fix
   correct-refused {r} e h = given-back (e ∙ early (λ z. h (ap (λ (q : Refusal). q .number) e ∙ z))) h
 
-  pub correct-refused-14 : before-14 .number ≡ 0 → refusal14 (length (old .list)) index ≡ true → outcome (answerOf (ofSheet 14) 0) old ≡ correctOf inverse s old index fix
+  pub correct-refused-14 : before-14 .number ≡ 0 → refusal14 (length (old .list)) index ≡ true → outcome (correctedAs (ofCall 14) 0) old ≡ correctOf inverse s old index fix
   unfolding firstBroken
   correct-refused-14 h a = given-back (sym (late h ∙ rw a)) (λ z. omega arith)
 
   pub correct-done : {r : Refusal} {n : ℕ} {new : Kept} → r ≡ before-14 → r .number ≡ 0 → refusal14 (length (old .list)) index ≡ false
-      → record { count = n; kept = new } ≡ correctedOf (shiftIn s) (turnedIn inverse s) old index fix
-      → outcome (answerOf r n) new ≡ correctOf inverse s old index fix
+      → record { count = n; kept = new } ≡ correctedOf (shiftIn s) (reversedIn inverse s) old index fix
+      → outcome (correctedAs r n) new ≡ correctOf inverse s old index fix
   unfolding correctOf firstBroken
   correct-done {r} e h a d =
       let z : before-14 .number ≡ 0 = sym (ap (λ (q : Refusal). q .number) e) ∙ h in
       let same : r ≡ correctRefusalOf s old index = e ∙ accepted-before z ∙ sym (late z ∙ rw a) in
-      rw (← same, eq-eqb _ _ h) (ap (λ (k : Redone). outcome (answerOf r (k .count)) (k .kept)) d)
+      rw (← same, eq-eqb _ _ h) (ap (λ (k : Redone). outcome (correctedAs r (k .count)) (k .kept)) d)

@@ -1,3 +1,4 @@
 pub mod Answers
+pub mod ExactlyWhen
 pub mod Promises
 pub mod MarkedPoints

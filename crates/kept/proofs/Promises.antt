@@ -1,5 +1,6 @@
--- What is promised of the two entries, from a sheet's bytes on: of `keepOf` and `correctOf`, which the contracts of `keep` and `correct` cite, for every
--- sheet, direction, list, index and fix. Assumes nothing.
+-- What is promised of the two entries, from a sheet's bytes on: of `keepOf` and `correctOf`, which
+-- the contracts of `keep` and `correct` cite, for every sheet, direction, list, index and fix.
+-- Assumes nothing.
 use Prim.Native.Nat.{ℕ, suc, _+_, _-_, _*_, _/_, _≤_, _<_}
 use native.Mathlib.Omega.{arith}
 use native.Mathlib.Nat.{add-zero}
@@ -23,23 +24,27 @@ use Rattle.bodies.proofs.Laws.{kind-after-read}
 use Rattle.sheet.specs.declared.Entry.{Entry}
 use Rattle.sheet.specs.declared.Refusal.{Refusal}
 use Rattle.sheet.specs.Layout.{stepCountOf, kindAt, invertedAt, bodyAt, stepAt, entryAt}
-use Rattle.sheet.specs.Rules.{deformationBefore, refusalOf}
+use Rattle.sheet.specs.Rules.{hasDeformation, refusalOf}
 use Rattle.sheet.proofs.Order.{neither}
 use Rattle.sheet.proofs.Accepted.{accepted-keeps, body-kept}
 use Rattle.lists.specs.Flat.{numbersOf, tupleAt, putAt}
 use Rattle.lists.specs.Run.{Turns, ranOf, stateAfterOf}
 use Rattle.lists.proofs.Places.{put-none, put-length, put-take}
 use Rattle.lists.proofs.Laws.{ran-length}
-use Rattle.helmert_turns.specs.Turns.{helmertTurns}
-use Rattle.chain.specs.Chain.{turnsOf, stateOf, turnedOf, stepListOf, Run, chainOf, entriesOf}
+use Rattle.lists.proofs.Results.{track-at, result-at}
+use Rattle.helmert.specs.Turns.{helmertTurns}
+use Rattle.chain.specs.Chain.{turnsOf, stateOf, reversedOf, stepListOf, Run, chainOf, entriesOf}
 use Rattle.chain.specs.Rules.{refusal10, overOne, ranOutcome, shiftOf}
 use Rattle.chain.proofs.Laws.{one-step-forward, one-step-inverse}
 use Rattle.chain.proofs.Outcome.{run-through}
-use Rattle.stretch.specs.Kept.{heldOf, Kept, freshOf, carriedAt, keptAt, Stretch, beforeOf, putFix, correctedOf, Correction}
-use Rattle.kept.specs.Entries.{refusal12, refusal14, keepRefusalOf, correctRefusalOf, helmertOf, shiftIn, turnedIn, keepOf, Outcome, outcome, answerOf, correctOf}
-use Rattle.stretch.proofs.Meeting.{track-at, result-at, state-stays, whole-take, state-append, track-length}
+use Rattle.stretch.specs.Kept.{trackedOf, heldOf, Kept, freshOf, carriedAt, keptAt, Stretch, beforeOf, putFix, correctedOf, Correction}
+use Rattle.stretch.specs.Unwritten.{Unwritten}
+use Rattle.kept.specs.Corrections.{keptAfterOf, standsAfterOf}
+use Rattle.kept.specs.Still.{Still}
+use Rattle.kept.specs.Entries.{refusal12, refusal14, keepRefusalOf, correctRefusalOf, helmertOf, shiftIn, reversedIn, keepOf, CorrectOutcome, outcome, correctedAs, correctOf}
+use Rattle.stretch.proofs.Meeting.{state-stays, whole-take, state-append, track-length}
 use Rattle.kept.proofs.Answers.{Passed, passed, below, keep-done, taken, not-refused, correct-done, correct-refused-14}
-use Rattle.stretch.proofs.Laws.{Unwritten, step-stays, fresh-list, before-is, corrected-equals-fresh, redone-is-the-stretch, results-outside, track-outside, list-outside, still-track, still-redoes-one}
+use Rattle.stretch.proofs.Laws.{step-stays, fresh-list, before-is, corrected-equals-fresh, redone-is-the-stretch, results-outside, track-outside, list-outside, still-track, still-redoes-one}
 
 -- ---- the one step is the chain's
 
@@ -79,21 +84,21 @@ module _ (s : List ℕ) (own : refusalOf s .number ≡ 0) (one : refusal12 s ≡
       ∙ kind-after-read (kindAt s 0) (bodyAt s 0) (body-kept s 0 (ok .steps 0 (omega (arith, one-step)) .kept5))
       ∙ of-kind-1
 
-  no-deformation : deformationBefore (kindAt s) (stepCountOf s) ≡ false
-  unfolding deformationBefore
+  no-deformation : hasDeformation (kindAt s) (stepCountOf s) ≡ false
+  unfolding hasDeformation
   no-deformation = rw (one-step, of-kind-1)
 
   entries-are : entriesOf (entryAt s) (stepCountOf s) 0 ≡ entryAt s 0 ∷ []
   unfolding entriesOf
   entries-are = rw one-step
 
-  step-list : (inverse : Bool) (l : List Float) → stepListOf inverse [] [] (entryAt s 0) l ≡ ranOf (helmertTurns (turnedIn inverse s) (shiftIn s)) 0 (startOf (shiftIn s)) l
+  step-list : (inverse : Bool) (l : List Float) → stepListOf inverse [] [] (entryAt s 0) l ≡ ranOf (helmertTurns (reversedIn inverse s) (shiftIn s)) 0 (startOf (shiftIn s)) l
   unfolding stepListOf
   step-list inverse l =
-      rw (helmert-turns (turnedOf inverse (entryAt s 0)) (entryAt s 0 .step) a-helmert, helmert-start (entryAt s 0 .step) a-helmert)
+      rw (helmert-turns (reversedOf inverse (entryAt s 0)) (entryAt s 0 .step) a-helmert, helmert-start (entryAt s 0 .step) a-helmert)
 
   chain-list : (inverse : Bool) (l : List Float)
-      → chainOf inverse [] [] (entriesOf (entryAt s) (stepCountOf s) 0) l .list ≡ ranOf (helmertTurns (turnedIn inverse s) (shiftIn s)) 0 (startOf (shiftIn s)) l
+      → chainOf inverse [] [] (entriesOf (entryAt s) (stepCountOf s) 0) l .list ≡ ranOf (helmertTurns (reversedIn inverse s) (shiftIn s)) 0 (startOf (shiftIn s)) l
   chain-list true l = rw entries-are (ap (λ (r : Run). r .list) (one-step-inverse [] [] (entryAt s 0) l) ∙ step-list true l)
   chain-list false l = rw entries-are (ap (λ (r : Run). r .list) (one-step-forward [] [] (entryAt s 0) l) ∙ step-list false l)
 
@@ -110,22 +115,23 @@ pub keep-leaves-the-list : (inverse : Bool) (s : List ℕ) (old : Kept) → keep
 unfolding keepOf
 keep-leaves-the-list inverse s old = by-case (eqb (keepRefusalOf s old .number) 0)
   where
-    by-case : (b : Bool) → cond b (freshOf (shiftIn s) (turnedIn inverse s) (old .list)) old .list ≡ old .list
-    by-case true = fresh-list (shiftIn s) (turnedIn inverse s) (old .list)
+    by-case : (b : Bool) → cond b (freshOf (shiftIn s) (reversedIn inverse s) (old .list)) old .list ≡ old .list
+    by-case true = fresh-list (shiftIn s) (reversedIn inverse s) (old .list)
     by-case false = refl
 
 module _ (inverse : Bool) (s : List ℕ) (old : Kept) (passes : keepRefusalOf s old .number ≡ 0) where
   abbrev kept : Kept
   kept = keepOf inverse s old
 
-  pub keep-runs : kept ≡ freshOf (shiftIn s) (turnedIn inverse s) (old .list)
+  pub keep-runs : kept ≡ freshOf (shiftIn s) (reversedIn inverse s) (old .list)
   keep-runs = sym (keep-done inverse s old passes refl)
 
   lists-pass : Passed s (length (old .list)) (length (old .results)) (length (old .track))
   unfolding keepRefusalOf
   lists-pass = passed _ _ _ _ passes
 
-  -- The results of a fresh run are the chain's, on the same sheet, direction and list: `shift` takes them too, and leaves that list.
+  -- The results of a fresh run are the chain's, on the same sheet, direction and list: `shift`
+  -- takes them too, and leaves that list.
   pub results-are-the-chains : kept .results ≡ chainOf inverse [] [] (entriesOf (entryAt s) (stepCountOf s) 0) (old .list) .list
   unfolding freshOf
   results-are-the-chains =
@@ -134,10 +140,10 @@ module _ (inverse : Bool) (s : List ℕ) (old : Kept) (passes : keepRefusalOf s 
   pub shift-takes-them-too : shiftOf inverse s (old .list) [] [] ≡ ranOutcome (chainOf inverse [] [] (entriesOf (entryAt s) (stepCountOf s) 0) (old .list))
   unfolding shiftOf refusal10 overOne
   shift-takes-them-too =
-      run-through (refusalOf s) (deformationBefore (kindAt s) (stepCountOf s)) inverse (entriesOf (entryAt s) (stepCountOf s) 0) (old .list) [] []
+      run-through (refusalOf s) (hasDeformation (kindAt s) (stepCountOf s)) inverse (entriesOf (entryAt s) (stepCountOf s) 0) (old .list) [] []
       (lists-pass .own) (lists-pass .list-kept) nothing-lent
     where
-      nothing-lent : refusal10 (deformationBefore (kindAt s) (stepCountOf s)) (length (old .list)) [] [] ≡ false
+      nothing-lent : refusal10 (hasDeformation (kindAt s) (stepCountOf s)) (length (old .list)) [] [] ≡ false
       nothing-lent = rw (no-deformation s (lists-pass .own) (lists-pass .one-helmert))
 
   pub results-are-the-shifts : kept .results ≡ shiftOf inverse s (old .list) [] [] .list
@@ -145,10 +151,10 @@ module _ (inverse : Bool) (s : List ℕ) (old : Kept) (passes : keepRefusalOf s 
 
   -- the track holds, after each fix, the state that the run carries there
   pub track-is-the-state : (j : ℕ) → 4 * j + 4 ≤ length (old .list)
-      → keptAt (kept .track) j ≡ stateAfterOf (helmertTurns (turnedIn inverse s) (shiftIn s)) 0 (startOf (shiftIn s)) (take (4 * suc j) (old .list))
+      → keptAt (kept .track) j ≡ stateAfterOf (helmertTurns (reversedIn inverse s) (shiftIn s)) 0 (startOf (shiftIn s)) (take (4 * suc j) (old .list))
   unfolding freshOf
   track-is-the-state j h =
-      rw keep-runs (ap heldOf (track-at (helmertTurns (turnedIn inverse s) (shiftIn s)) 0 (startOf (shiftIn s)) (old .list) j h))
+      rw keep-runs (ap heldOf (track-at trackedOf (helmertTurns (reversedIn inverse s) (shiftIn s)) 0 (startOf (shiftIn s)) (old .list) j h))
 
   -- ---- what a fresh run leaves passes as it did
 
@@ -159,14 +165,14 @@ module _ (inverse : Bool) (s : List ℕ) (old : Kept) (passes : keepRefusalOf s 
   unfolding freshOf
   kept-results-long =
       ap (λ (k : Kept). length (k .results)) keep-runs
-      ∙ ran-length (helmertTurns (turnedIn inverse s) (shiftIn s)) 0 (startOf (shiftIn s)) (old .list)
+      ∙ ran-length (helmertTurns (reversedIn inverse s) (shiftIn s)) 0 (startOf (shiftIn s)) (old .list)
       ∙ sym (lists-pass .long-results)
 
   kept-track-long : length (kept .track) ≡ length (old .track)
   unfolding freshOf
   kept-track-long =
       ap (λ (k : Kept). length (k .track)) keep-runs
-      ∙ track-length (helmertTurns (turnedIn inverse s) (shiftIn s)) 0 (startOf (shiftIn s)) (old .list)
+      ∙ track-length (helmertTurns (reversedIn inverse s) (shiftIn s)) 0 (startOf (shiftIn s)) (old .list)
       ∙ sym (lists-pass .long-track)
 
   pub kept-passes : keepRefusalOf s kept .number ≡ 0
@@ -209,23 +215,24 @@ module _ (inverse : Bool) (s : List ℕ) (old : Kept) (passes : keepRefusalOf s 
       let none : length (was .list) / 4 ≤ index = ltb-false index (length (was .list) / 4) (not-true _ e) in
       let short : length (old .list) < 4 * index + 4 = omega (arith, long) in
       let same : putAt (old .list) (4 * index) fix ≡ old .list = put-none (old .list) (4 * index) fix short in
-      ap (λ (o : Outcome). o .kept) (sym (correct-refused-14 inverse s was index fix (kept-passes inverse s old passes) e))
+      ap (λ (o : CorrectOutcome). o .kept) (sym (correct-refused-14 inverse s was index fix (kept-passes inverse s old passes) e))
       ∙ ap (λ (l : List Float). keepOf inverse s (record { list = l; results = old .results; track = old .track })) (sym same)
 
   there : refusal14 (length (was .list)) index ≡ false → correctOf inverse s was index fix .kept ≡ shall-be
   there e =
       let shift = shiftIn s in
-      let turned = turnedIn inverse s in
-      ap (λ (o : Outcome). o .kept) (sym (correct-done inverse s was index fix refl (kept-passes inverse s old passes) e refl))
-      ∙ ap (λ (k : Kept). correctedOf shift turned k index fix .kept) (keep-runs inverse s old passes)
-      ∙ corrected-equals-fresh shift turned (old .list) index fix
+      let reversed = reversedIn inverse s in
+      ap (λ (o : CorrectOutcome). o .kept) (sym (correct-done inverse s was index fix refl (kept-passes inverse s old passes) e refl))
+      ∙ ap (λ (k : Kept). correctedOf shift reversed k index fix .kept) (keep-runs inverse s old passes)
+      ∙ corrected-equals-fresh shift reversed (old .list) index fix
       ∙ sym (keep-runs inverse s (putFix old index fix) corrected-passes)
 
   by-index : (b : Bool) → refusal14 (length (was .list)) index ≡ b → correctOf inverse s was index fix .kept ≡ shall-be
   by-index true e = nowhere e
   by-index false e = there e
 
-  -- Demand 3: if list, results and track came from a fresh run, then after a correction they equal a fresh run of the corrected list, same sheet and direction.
+  -- Demand 3: if list, results and track came from a fresh run, then after a correction they equal
+  -- a fresh run of the corrected list, same sheet and direction.
   pub corrected-is-kept-afresh : correctOf inverse s was index fix .kept ≡ shall-be
   corrected-is-kept-afresh = by-index (refusal14 (length (was .list)) index) refl
 
@@ -234,15 +241,6 @@ module _ (inverse : Bool) (s : List ℕ) (old : Kept) (passes : keepRefusalOf s 
   corrected-list = ap (λ (k : Kept). k .list) corrected-is-kept-afresh ∙ keep-leaves-the-list inverse s (putFix old index fix)
 
 -- ---- any corrections, one after another
-
-abbrev pub keptAfterOf : Bool → List ℕ → Kept → List Correction → Kept
-keptAfterOf inverse s kept [] = kept
-keptAfterOf inverse s kept (c ∷ later) = keptAfterOf inverse s (correctOf inverse s kept (c .index) (c .fix) .kept) later
-
--- the list as it stands after them
-abbrev pub standsAfterOf : Kept → List Correction → Kept
-standsAfterOf old [] = old
-standsAfterOf old (c ∷ later) = standsAfterOf (putFix old (c .index) (c .fix)) later
 
 -- A kept run equals a fresh run of the list as it stands.
 pub kept-equals-fresh-always : (inverse : Bool) (s : List ℕ) (old : Kept) → keepRefusalOf s old .number ≡ 0 → (corrections : List Correction)
@@ -258,8 +256,8 @@ module _ (inverse : Bool) (s : List ℕ) (old : Kept) (index : ℕ) (fix : Tuple
   abbrev shift : Shift
   shift = shiftIn s
 
-  abbrev turned : Bool
-  turned = turnedIn inverse s
+  abbrev reversed : Bool
+  reversed = reversedIn inverse s
 
   abbrev redone : ℕ
   redone = correctOf inverse s old index fix .answer .redone
@@ -268,16 +266,16 @@ module _ (inverse : Bool) (s : List ℕ) (old : Kept) (index : ℕ) (fix : Tuple
   left = correctOf inverse s old index fix .kept
 
   -- refused: the count is zero, and list, results and track are unaltered
-  pub refused-alters-nothing : (correctRefusalOf s old index .number ≡ 0 → ⊥) → correctOf inverse s old index fix ≡ outcome (answerOf (correctRefusalOf s old index) 0) old
+  pub refused-alters-nothing : (correctRefusalOf s old index .number ≡ 0 → ⊥) → correctOf inverse s old index fix ≡ outcome (correctedAs (correctRefusalOf s old index) 0) old
   unfolding correctOf
   refused-alters-nothing h = rw (ne-eqb _ _ h)
 
   done : correctRefusalOf s old index .number ≡ 0
-      → (redone ≡ correctedOf shift turned old index fix .count) × (left ≡ correctedOf shift turned old index fix .kept)
+      → (redone ≡ correctedOf shift reversed old index fix .count) × (left ≡ correctedOf shift reversed old index fix .kept)
   done e =
       let t = taken inverse s old index fix e in
       let d = correct-done inverse s old index fix refl (t .0) (t .1) refl in
-      (ap (λ (o : Outcome). o .answer .redone) (sym d), ap (λ (o : Outcome). o .kept) (sym d))
+      (ap (λ (o : CorrectOutcome). o .answer .redone) (sym d), ap (λ (o : CorrectOutcome). o .kept) (sym d))
 
   -- a fix stands at the index, and the three lists are as long as each other
   at-index : correctRefusalOf s old index .number ≡ 0
@@ -289,26 +287,28 @@ module _ (inverse : Bool) (s : List ℕ) (old : Kept) (index : ℕ) (fix : Tuple
       let i = below _ _ (t .1) in
       (omega arith, p .long-results, p .long-track)
 
-  -- The count is the stretch's length: from the index up to the first fix after which the carried state equals the kept one, else to the list's end.
+  -- The count is the stretch's length: from the index up to the first fix after which the carried
+  -- state equals the kept one, else to the list's end.
   pub count-is-the-stretch : correctRefusalOf s old index .number ≡ 0
-      → Stretch (carriedAt (helmertTurns turned shift) index (beforeOf shift (old .track) index) (putAt (old .list) (4 * index) fix)) (keptAt (old .track))
+      → Stretch (carriedAt (helmertTurns reversed shift) index (beforeOf shift (old .track) index) (putAt (old .list) (4 * index) fix)) (keptAt (old .track))
       index (length (old .list) / 4) redone
-  count-is-the-stretch e = rw (done e .0) (redone-is-the-stretch shift turned old index fix (at-index e .0))
+  count-is-the-stretch e = rw (done e .0) (redone-is-the-stretch shift reversed old index fix (at-index e .0))
 
-  -- Nothing outside the stretch is written, in results and track; and nothing of the list but the fix.
+  -- Nothing outside the stretch is written, in results and track; and nothing of the list but the
+  -- fix.
   by-refusal : (P : ℕ → Kept → Type 0) → P 0 old
       → ((4 * index + 4 ≤ length (old .list)) × (length (old .results) ≡ length (old .list)) × (length (old .track) ≡ length (old .list))
-      → P (correctedOf shift turned old index fix .count) (correctedOf shift turned old index fix .kept))
+      → P (correctedOf shift reversed old index fix .count) (correctedOf shift reversed old index fix .kept))
       → P redone left
   by-refusal P none some = by-case (eqb (correctRefusalOf s old index .number) 0) refl
     where
       by-case : (b : Bool) → eqb (correctRefusalOf s old index .number) 0 ≡ b → P redone left
       by-case true d =
           let e : correctRefusalOf s old index .number ≡ 0 = eqb-true _ _ d in
-          subst (λ (n : ℕ). P n left) (sym (done e .0)) (subst (λ (k : Kept). P (correctedOf shift turned old index fix .count) k) (sym (done e .1)) (some (at-index e)))
+          subst (λ (n : ℕ). P n left) (sym (done e .0)) (subst (λ (k : Kept). P (correctedOf shift reversed old index fix .count) k) (sym (done e .1)) (some (at-index e)))
       by-case false d =
           let e = refused-alters-nothing (eqb-false _ _ d) in
-          subst (λ (o : Outcome). P (o .answer .redone) (o .kept)) (sym e) none
+          subst (λ (o : CorrectOutcome). P (o .answer .redone) (o .kept)) (sym e) none
 
   as-it-was : (l : List Float) (start end : ℕ) → Unwritten l l start end
   as-it-was l start end = record { before = refl; after = refl; long = refl }
@@ -316,17 +316,17 @@ module _ (inverse : Bool) (s : List ℕ) (old : Kept) (index : ℕ) (fix : Tuple
   pub results-unwritten : Unwritten (old .results) (left .results) (4 * index) (4 * index + 4 * redone)
   results-unwritten =
       by-refusal (λ (n : ℕ) (k : Kept). Unwritten (old .results) (k .results) (4 * index) (4 * index + 4 * n)) (as-it-was _ _ _)
-      (λ h. results-outside shift turned old index fix (h .0) (h .1) (h .2))
+      (λ h. results-outside shift reversed old index fix (h .0) (h .1) (h .2))
 
   pub track-unwritten : Unwritten (old .track) (left .track) (4 * index) (4 * index + 4 * redone)
   track-unwritten =
       by-refusal (λ (n : ℕ) (k : Kept). Unwritten (old .track) (k .track) (4 * index) (4 * index + 4 * n)) (as-it-was _ _ _)
-      (λ h. track-outside shift turned old index fix (h .0) (h .1) (h .2))
+      (λ h. track-outside shift reversed old index fix (h .0) (h .1) (h .2))
 
   pub list-unwritten : Unwritten (old .list) (left .list) (4 * index) (4 * index + 4)
   list-unwritten =
       by-refusal (λ (n : ℕ) (k : Kept). Unwritten (old .list) (k .list) (4 * index) (4 * index + 4)) (as-it-was _ _ _)
-      (λ h. list-outside shift turned old index fix (h .0) (h .1) (h .2))
+      (λ h. list-outside shift reversed old index fix (h .0) (h .1) (h .2))
 
 -- ---- the stretch of a kept run, by its tracks
 
@@ -344,7 +344,7 @@ same-states {index = index} {count = count} {n = n} same a =
 
 module _ (inverse : Bool) (s : List ℕ) (old : Kept) (passes : keepRefusalOf s old .number ≡ 0) (index : ℕ) (fix : Tuple) (h : index < length (old .list) / 4) where
   abbrev f : Turns State
-  f = helmertTurns (turnedIn inverse s) (shiftIn s)
+  f = helmertTurns (reversedIn inverse s) (shiftIn s)
 
   abbrev start : State
   start = startOf (shiftIn s)
@@ -371,7 +371,7 @@ module _ (inverse : Bool) (s : List ℕ) (old : Kept) (passes : keepRefusalOf s 
   starts-there : beforeOf (shiftIn s) (kept-before .track) index ≡ stateAfterOf f 0 start (take at (putAt (old .list) at fix))
   starts-there =
       ap (λ (k : Kept). beforeOf (shiftIn s) (k .track) index) (keep-runs inverse s old passes)
-      ∙ before-is (shiftIn s) (turnedIn inverse s) (old .list) index (omega arith)
+      ∙ before-is (shiftIn s) (reversedIn inverse s) (old .list) index (omega arith)
       ∙ ap (stateAfterOf f 0 start) (sym (put-head (old .list) at fix there-is-a-fix))
 
   -- the state carried after a fix is the one that the track of that run holds
@@ -391,7 +391,8 @@ module _ (inverse : Bool) (s : List ℕ) (old : Kept) (passes : keepRefusalOf s 
   pub nothing-refuses : correctRefusalOf s kept-before index .number ≡ 0
   nothing-refuses = not-refused inverse s kept-before index fix (kept-passes inverse s old passes) (rw list-is (lt-ltb _ _ h))
 
-  -- Of a kept run the count is the number of fixes from the index up to the first after which the fresh run's track of the corrected list equals the kept one.
+  -- Of a kept run the count is the number of fixes from the index up to the first after which the
+  -- fresh run's track of the corrected list equals the kept one.
   pub count-by-the-tracks : Stretch (keptAt (kept-afresh .track)) (keptAt (kept-before .track)) index (length (old .list) / 4)
       (correctOf inverse s kept-before index fix .answer .redone)
   count-by-the-tracks =
@@ -404,10 +405,6 @@ module _ (inverse : Bool) (s : List ℕ) (old : Kept) (passes : keepRefusalOf s 
       (count-is-the-stretch inverse s kept-before index fix nothing-refuses))
 
 -- ---- static, fixed and own-epoch
-
--- a shift in one of these three modes
-abbrev pub Still : Shift → Type 0
-Still shift = (shift .dynamic ≡ false) ⊎ (shift .fixed ≡ true) ⊎ (shift .«own_epoch» ≡ true)
 
 pub still-is-not-running : (shift : Shift) → Still shift → isRunningOf shift ≡ false
 still-is-not-running shift = by-mode (shift .dynamic) (shift .fixed) (shift .«own_epoch»)
@@ -426,22 +423,22 @@ module _ (inverse : Bool) (s : List ℕ) (old : Kept) (passes : keepRefusalOf s 
   unfolding startOf
   still-tracks-T j h =
       ap (λ (k : Kept). keptAt (k .track) j) (keep-runs inverse s old passes)
-      ∙ still-track (shiftIn s) (turnedIn inverse s) (old .list) (still-is-not-running (shiftIn s) still) j (omega arith)
+      ∙ still-track (shiftIn s) (reversedIn inverse s) (old .list) (still-is-not-running (shiftIn s) still) j (omega arith)
 
   -- there a fix's result depends on that fix and the sheet alone
   pub still-result : (j : ℕ) → j < length (old .list) / 4
-      → tupleAt (keepOf inverse s old .results) (4 * j) ≡ stepOf (shiftIn s) (turnedIn inverse s) (startOf (shiftIn s)) (tupleAt (old .list) (4 * j)) .tuple
+      → tupleAt (keepOf inverse s old .results) (4 * j) ≡ stepOf (shiftIn s) (reversedIn inverse s) (startOf (shiftIn s)) (tupleAt (old .list) (4 * j)) .tuple
   unfolding freshOf
   still-result j h =
-      let f = helmertTurns (turnedIn inverse s) (shiftIn s) in
-      let stays = step-stays (shiftIn s) (turnedIn inverse s) (still-is-not-running (shiftIn s) still) in
+      let f = helmertTurns (reversedIn inverse s) (shiftIn s) in
+      let stays = step-stays (shiftIn s) (reversedIn inverse s) (still-is-not-running (shiftIn s) still) in
       ap (λ (k : Kept). tupleAt (k .results) (4 * j)) (keep-runs inverse s old passes)
       ∙ result-at f 0 (startOf (shiftIn s)) (old .list) j (omega arith)
-      ∙ ap (λ (state : State). stepOf (shiftIn s) (turnedIn inverse s) state (tupleAt (old .list) (4 * j)) .tuple) (state-stays f stays 0 (startOf (shiftIn s)) (take (4 * j) (old .list)))
+      ∙ ap (λ (state : State). stepOf (shiftIn s) (reversedIn inverse s) state (tupleAt (old .list) (4 * j)) .tuple) (state-stays f stays 0 (startOf (shiftIn s)) (take (4 * j) (old .list)))
 
   -- and a correction of a kept run redoes one fix
   pub still-count-is-one : (index : ℕ) (fix : Tuple) → index < length (old .list) / 4 → correctOf inverse s (keepOf inverse s old) index fix .answer .redone ≡ 1
   still-count-is-one index fix h =
       done inverse s (keepOf inverse s old) index fix (nothing-refuses inverse s old passes index fix h) .0
-      ∙ ap (λ (k : Kept). correctedOf (shiftIn s) (turnedIn inverse s) k index fix .count) (keep-runs inverse s old passes)
-      ∙ still-redoes-one (shiftIn s) (turnedIn inverse s) (old .list) (still-is-not-running (shiftIn s) still) index fix (omega arith)
+      ∙ ap (λ (k : Kept). correctedOf (shiftIn s) (reversedIn inverse s) k index fix .count) (keep-runs inverse s old passes)
+      ∙ still-redoes-one (shiftIn s) (reversedIn inverse s) (old .list) (still-is-not-running (shiftIn s) still) index fix (omega arith)

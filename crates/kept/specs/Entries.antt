@@ -1,4 +1,5 @@
--- When a call is refused, by document 01's numbers, and what it answers and leaves. `refusalN` says when refusal N is given: its rule is broken.
+-- When a call is refused, by document 01's numbers, and what it answers and leaves. `refusal12`,
+-- `refusal13` and `refusal14` say when the rule of that number is broken.
 use Prim.Native.Nat.{ℕ, _/_}
 use mathlib.Core.Bool.{Bool, not, cond, _||_}
 use mathlib.Core.List.{List, [], _∷_}
@@ -13,8 +14,8 @@ use Rattle.bodies.specs.declared.Step.{Step}
 use Rattle.bodies.specs.declared.Step.the-variants as step
 use Rattle.sheet.specs.declared.Refusal.{Refusal}
 use Rattle.sheet.specs.Layout.{stepCountOf, kindAt, entryAt}
-use Rattle.sheet.specs.Rules.{Rule, rule, ofSheet, firstBroken, refusalOf}
-use Rattle.chain.specs.Chain.{turnedOf}
+use Rattle.sheet.specs.Rules.{Rule, rule, ofCall, firstBroken, refusalOf}
+use Rattle.chain.specs.Chain.{reversedOf}
 use Rattle.chain.specs.Rules.{refusal9}
 use Rattle.kept.specs.declared.Corrected.{Corrected}
 use Rattle.stretch.specs.Kept.{Kept, freshOf, correctedOf}
@@ -37,9 +38,9 @@ refusal14 list index = not (ltb index (list / 4))
 abbrev pub keptOrder : List ℕ → ℕ → ℕ → ℕ → List Rule → List Rule
 keptOrder s list results track later =
     rule (refusalOf s) (not (eqb (refusalOf s .number) 0))
-    ∷ rule (ofSheet 12) (refusal12 s)
-    ∷ rule (ofSheet 9) (refusal9 list)
-    ∷ rule (ofSheet 13) (refusal13 list results track)
+    ∷ rule (ofCall 12) (refusal12 s)
+    ∷ rule (ofCall 9) (refusal9 list)
+    ∷ rule (ofCall 13) (refusal13 list results track)
     ∷ later
 
 unfoldable pub keepRefusalOf : List ℕ → Kept → Refusal
@@ -49,7 +50,7 @@ keepRefusalOf s old = firstBroken (keptOrder s (length (old .list)) (length (old
 unfoldable pub correctRefusalOf : List ℕ → Kept → ℕ → Refusal
 correctRefusalOf s old index =
     firstBroken
-    (keptOrder s (length (old .list)) (length (old .results)) (length (old .track)) (rule (ofSheet 14) (refusal14 (length (old .list)) index) ∷ []))
+    (keptOrder s (length (old .list)) (length (old .results)) (length (old .track)) (rule (ofCall 14) (refusal14 (length (old .list)) index) ∷ []))
 
 -- ---- the one step
 
@@ -64,29 +65,29 @@ helmertOf (step.Molodensky r) = blankHelmert
 abbrev pub shiftIn : List ℕ → Shift
 shiftIn s = prepareOf (helmertOf (entryAt s 0 .step))
 
-abbrev pub turnedIn : Bool → List ℕ → Bool
-turnedIn inverse s = turnedOf inverse (entryAt s 0)
+abbrev pub reversedIn : Bool → List ℕ → Bool
+reversedIn inverse s = reversedOf inverse (entryAt s 0)
 
 -- ---- the answers
 
 -- what a fresh run leaves; on refusal all three lists as they were
 unfoldable pub keepOf : Bool → List ℕ → Kept → Kept
-keepOf inverse s old = cond (eqb (keepRefusalOf s old .number) 0) (freshOf (shiftIn s) (turnedIn inverse s) (old .list)) old
+keepOf inverse s old = cond (eqb (keepRefusalOf s old .number) 0) (freshOf (shiftIn s) (reversedIn inverse s) (old .list)) old
 
 -- what a correction answers and leaves
-pub record Outcome : Type 0 where
+pub record CorrectOutcome : Type 0 where
   pub answer : Corrected
   pub kept : Kept
 
-abbrev pub outcome : Corrected → Kept → Outcome
+abbrev pub outcome : Corrected → Kept → CorrectOutcome
 outcome answer kept = record { answer = answer; kept = kept }
 
-abbrev pub answerOf : Refusal → ℕ → Corrected
-answerOf refusal redone = record { refusal = refusal; redone = redone }
+abbrev pub correctedAs : Refusal → ℕ → Corrected
+correctedAs refusal redone = record { refusal = refusal; redone = redone }
 
 -- on refusal the count is zero and all three lists are as they were
-unfoldable pub correctOf : Bool → List ℕ → Kept → ℕ → Tuple → Outcome
+unfoldable pub correctOf : Bool → List ℕ → Kept → ℕ → Tuple → CorrectOutcome
 correctOf inverse s old index fix =
     let refusal = correctRefusalOf s old index in
-    let done = correctedOf (shiftIn s) (turnedIn inverse s) old index fix in
-    cond (eqb (refusal .number) 0) (outcome (answerOf refusal (done .count)) (done .kept)) (outcome (answerOf refusal 0) old)
+    let done = correctedOf (shiftIn s) (reversedIn inverse s) old index fix in
+    cond (eqb (refusal .number) 0) (outcome (correctedAs refusal (done .count)) (done .kept)) (outcome (correctedAs refusal 0) old)

@@ -1,12 +1,17 @@
-// The kept run: a list, its results and its track, kept apart, shifted under a sheet of one Helmert step; and the correction of one fix.
+// The kept run: a list, its results and its track, kept apart, shifted under a sheet of one Helmert
+// step; and the correction of one fix.
 //
-// Document 01, "Kept run" and refusals 9, 12, 13 and 14; the Rust has none. `keep` runs the list as the chain does and writes, after each fix, the state that
-// the step carries on: last time, T. `correct` writes a new fix into the list and redoes from there until the carried state is the kept one, else to the list's
-// end. Both are `stretch`'s, over the sheet's one step; here stand the rules in their order, and what each entry answers and leaves.
+// Document 01, "Kept run" and refusals 9, 12, 13 and 14; the Rust has none. `keep` runs the list as
+// the chain does and writes, after each fix, the state that the step carries on: last time, T.
+// `correct` writes a new fix into the list and redoes from there until the carried state is the
+// kept one, else to the list's end. Both are `stretch`'s, over the sheet's one step; here stand the
+// rules in their order, and what each entry answers and leaves.
 //
-// No rounding but the step's own. Proved from a sheet's bytes on (proofs/Promises.antt): the results are the chain's; a kept run in which fixes are corrected
-// equals, in every bit, a fresh run of the list as it stands; the count is the stretch's length, one where the mode is not running; nothing outside the
-// stretch is written, whatever the three lists held. Used by callers that correct fixes of a list they keep; the program `corrections` replays some thousands.
+// No rounding but the step's own. Proved from a sheet's bytes on (proofs/Promises.antt): the
+// results are the chain's; a kept run in which fixes are corrected equals, in every bit, a fresh
+// run of the list as it stands; the count is the stretch's length, one where the mode is not
+// running; nothing outside the stretch is written, whatever the three lists held. Used by callers
+// that correct fixes of a list they keep; the program `corrections` replays some thousands.
 ghost use mathlib.Core.Path.{_≡_};
 ghost use mathlib.Core.List.{[]};
 ghost use Rattle.sheet.specs.Rules.{firstBroken};
@@ -47,7 +52,7 @@ fn step_of(entry: Entry) -> Helmert
 fn step_broken(s: &[u8]) -> bool
     ensures { λ r. ⌜ r ≡ refusal12 (now (s .entry)) ⌝ }
 {
-    (sheet::step_count(s) != 1) | (words::read32(s, 16) != 1)
+    (sheet::step_count(s) != 1) | (sheet::kind_at(s, 0) != 1)
 }
 
 // Rule 13: results or track not as long as the list.
@@ -73,19 +78,13 @@ fn check(s: &[u8], list: usize, results: usize, track: usize) -> Refusal
         return own;
     }
     if step_broken(s) {
-        return Refusal {
-            number: 12,
-            step: 0,
-        };
+        return Refusal::of_call(12);
     }
     if chain::list_broken(list) {
-        return Refusal { number: 9, step: 0 };
+        return Refusal::of_call(9);
     }
     if lengths_broken(list, results, track) {
-        return Refusal {
-            number: 13,
-            step: 0,
-        };
+        return Refusal::of_call(13);
     }
     Refusal::none()
 }
@@ -111,7 +110,7 @@ pub fn keep(
     let entry = sheet::entry_at(s, 0);
     stretch::fresh(
         step_of(entry),
-        chain::turned(inverse, entry), // turned round where the step is inverted
+        chain::reversed(inverse, entry), // turned round where the step is inverted
         list,
         results,
         track,
@@ -125,7 +124,8 @@ pub struct Corrected {
     pub redone: u64,
 }
 
-// Corrects one fix: writes it into the list and redoes from there until the carried state equals the kept one, else to the end.
+// Corrects one fix: writes it into the list and redoes from there until the carried state equals
+// the kept one, else to the end.
 pub fn correct(
     inverse: bool,
     s: &[u8],
@@ -146,19 +146,16 @@ pub fn correct(
         };
     }
     if index_broken(list.len(), index) {
-        let none = Refusal {
-            number: 14,
-            step: 0,
-        };
+        let refused = Refusal::of_call(14);
         return Corrected {
-            refusal: none,
+            refusal: refused,
             redone: 0,
         };
     }
     let entry = sheet::entry_at(s, 0);
     let n = stretch::put_right(
         step_of(entry),
-        chain::turned(inverse, entry),
+        chain::reversed(inverse, entry),
         list,
         results,
         track,

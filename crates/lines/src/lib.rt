@@ -1,8 +1,11 @@
-// The lines of a sheet that is shown: a name, what stands at a place of the sheet, its unit, written into a lent room.
+// The lines of a sheet that is shown: a name, what stands at a place of the sheet, its unit,
+// written into a lent room.
 //
-// A place is a body's offset, as the directory has it, and a field's place in its body. The names come from the caller; the words of units and ellipsoids stand
-// here, the ellipsoids' figures being those of crate ellipsoid. Where a sheet has a single beside its series place, a third line says which of them is in force,
-// by crate helmert's rule. Every byte is fixed by specs/Lines.antt, for every input and a room of any length. Used by `fields`.
+// A place is a body's offset, as the directory has it, and a field's place in its body. The names
+// come from the caller; the words of units and ellipsoids stand here, the ellipsoids' figures being
+// those of crate ellipsoid. Where a sheet has a single beside its series place, a third line says
+// which of them is in force, by crate helmert's rule. Every byte is fixed by specs/Lines.antt, for
+// every input and a room of any length. Used by `fields`.
 ghost use mathlib.Core.Path.{_≡_};
 ghost use Prim.Native.Nat.{_+_, _<_};
 ghost use Rattle.text.specs.Text.{text, appended};
@@ -20,17 +23,11 @@ pub enum Unit {
 
 // ----- places -----------------------------------------------------------------------------
 
-fn wide(x: u32) -> usize
-    ensures { λ r. ⌜ (r ≡ x) × (r < 4294967296) ⌝ }
-{
-    x as usize
-}
-
 // A field's place in the sheet: its body's offset and its place in the body.
 fn place_of(base: u32, k: u32) -> usize
     ensures { λ r. ⌜ (r ≡ base + k) × (r < 8589934592) ⌝ }
 {
-    wide(base) + wide(k)
+    words::wide(base) + words::wide(k)
 }
 
 // The word in a body.

@@ -1,5 +1,6 @@
--- What holds of a step over a list, for any step; and the law by which every loop over a list is proved: what one turn reads, makes and writes
--- carries the loop's invariant from a place to the next. Assumes nothing.
+-- What holds of a step over a list, for any step; and the law by which every loop over a list is
+-- proved: what one turn reads, makes and writes carries the loop's invariant from a place to the
+-- next. Assumes nothing.
 use Prim.Native.Nat.{ℕ, suc, _+_, _-_, _/_, _≤_, _<_}
 use native.Mathlib.Omega.{arith}
 use native.Mathlib.Nat.{add-assoc, add-zero, zero-add}
@@ -8,6 +9,7 @@ use mathlib.Core.Bool.{Bool, true, false, cond}
 use mathlib.Core.List.{List, [], _∷_, _++_, append-assoc}
 use lib.ListN.{length, take, drop, length-drop, take-append-drop}
 use lib.Ieee.{Float}
+use Rattle.blocks.proofs.Counts.{at-most-one}
 use Rattle.tuple.specs.declared.Tuple.{Tuple}
 use Rattle.lists.specs.Flat.{fourOf, numbersOf, tupleAt, putAt}
 use Rattle.lists.specs.Run.{Turn, Turns, ranOf, countOf, trackOf, stateAfterOf}
@@ -111,7 +113,8 @@ module _ {S : Type 0} (f : Turns S) (state : S) (l written : List Float) (i : �
 
 -- ---- a loop that writes where it reads
 
--- the invariant at a place: what is written before it and what the run makes from there on are the run of the whole list
+-- the invariant at a place: what is written before it and what the run makes from there on are the
+-- run of the whole list
 pub record Ran {S : Type 0} (f : Turns S) (start : S) (l₀ : List Float) (i : ℕ) (state : S) (l : List Float) : Type 0 where
   pub within : i ≤ length l
   pub long : length l ≡ length l₀
@@ -127,10 +130,6 @@ ran-start f start l = record { within = omega arith; long = refl; run = refl }
 
 pub count-start : {S : Type 0} (f : Turns S) (start : S) (l : List Float) → Counted f start l 0 start l 0
 count-start f start l = record { total = zero-add (countOf f 0 start l); few = omega arith }
-
-pub at-most-one : (b : Bool) → cond b 1 0 ≤ 1
-at-most-one true = omega arith
-at-most-one false = omega arith
 
 module _ {S : Type 0} {f : Turns S} {start state : S} {l₀ l : List Float} {i : ℕ} (h : i + 4 ≤ length l) where
   pub ran-again : {v : Tuple} {l′ : List Float} → v ≡ turnAt f state l i .tuple → l′ ≡ putAt l i v

@@ -1,4 +1,5 @@
--- Four numbers at a place of a flat list: what reading finds, and what putting leaves before the place, at it and after it. Assumes nothing.
+-- Four numbers at a place of a flat list: what reading finds, and what putting leaves before the
+-- place, at it and after it. Assumes nothing.
 use Prim.Native.Nat.{ℕ, suc, _+_, _≤_, _<_}
 use native.Mathlib.Omega.{arith}
 use mathlib.Core.Path.{_≡_, refl, sym, ap, _∙_}

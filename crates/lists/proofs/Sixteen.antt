@@ -1,5 +1,6 @@
--- Sixteen tuples of a flat list at once: what reading finds, what putting leaves, and the law by which a loop of sixteen tuples a turn is proved: what a turn
--- reads, makes and writes as columns carries the loop's invariant over sixteen places. Assumes nothing.
+-- Sixteen tuples of a flat list at once: what reading finds, what putting leaves, and the law by
+-- which a loop of sixteen tuples a turn is proved: what a turn reads, makes and writes as columns
+-- carries the loop's invariant over sixteen places. Assumes nothing.
 use Prim.Native.Nat.{ℕ, zero, suc, _+_, _*_, _-_, _/_, _≤_, _<_}
 use native.Mathlib.Omega.{arith}
 use native.Mathlib.Nat.{add-assoc, add-zero}
@@ -8,10 +9,11 @@ use mathlib.Core.Bool.{Bool, cond}
 use mathlib.Core.List.{List, [], _∷_, _++_}
 use lib.Dec.{leb}
 use borrow.Author.Tests.{le-leb, lt-leb}
-use lib.ListN.{length, take, drop, getD}
+use lib.ListN.{length, take, drop, getD, replicate, getD-replicate}
 use lib.Seq.{drop-drop}
 use lib.Ieee.{Float, nan}
 use Rattle.blocks.specs.Each.{at, UpTo, Each, countTo}
+use Rattle.blocks.proofs.Counts.{count-few, count-told}
 use Rattle.tuple.specs.declared.Tuple.{Tuple}
 use Rattle.tuple.specs.Sums.{nanTuple}
 use Rattle.tuple.specs.Columns.{rowOf}
@@ -19,18 +21,9 @@ use Rattle.lists.specs.Flat.{fourOf, numbersOf, tupleAt, putAt}
 use Rattle.lists.specs.Sixteen.{rowAt, putRows, putBlock, turnedOf, takenOf}
 use Rattle.lists.specs.Run.{Turn, Turns, ranOf, countOf}
 use Rattle.lists.proofs.Places.{tuple-there, from-place, put-drop, put-length}
-use Rattle.lists.proofs.Laws.{Ran, Counted, ran-again, count-again, at-most-one}
+use Rattle.lists.proofs.Laws.{Ran, Counted, ran-again, count-again}
 
 -- ---- reading
-
-abbrev pub copies : ℕ → Float → List Float
-copies zero v = []
-copies (suc n) v = v ∷ copies n v
-
-copies-at : (n : ℕ) (j : ℕ) → at (copies n nan) j ≡ nan
-copies-at zero j = refl
-copies-at (suc n) zero = refl
-copies-at (suc n) (suc j) = copies-at n j
 
 module _ (l : List Float) (i : ℕ) where
   no-row : length l < i + 64 → (j : ℕ) → rowAt l i j ≡ nanTuple
@@ -47,9 +40,9 @@ module _ (l : List Float) (i : ℕ) where
   row-read j h k = sym (row-there h j ∙ tuple-there l (i + 4 * j) (omega arith))
 
   -- a block of NaNs is each of the columns where not all sixteen stand there
-  pub none-there-block : {v : Float} → v ≡ nan → length l < i + 64 → (number : Tuple → Float) → number nanTuple ≡ nan → Each (copies 16 v) (λ (j : ℕ). number (rowAt l i j))
+  pub none-there-block : {v : Float} → v ≡ nan → length l < i + 64 → (number : Tuple → Float) → number nanTuple ≡ nan → Each (replicate 16 v) (λ (j : ℕ). number (rowAt l i j))
   none-there-block {v} ev h number en =
-      record { block = refl; held = λ j k. ap (λ (u : Float). at (copies 16 u) j) ev ∙ copies-at 16 j ∙ sym (ap number (no-row h j) ∙ en) }
+      record { block = refl; held = λ j k. getD-replicate 16 j v nan k ∙ ev ∙ sym (ap number (no-row h j) ∙ en) }
 
 -- columns that hold tuples
 pub record Columns (rows : ℕ → Tuple) (x y z t : List Float) : Type 0 where
@@ -135,14 +128,6 @@ module _ (l : List Float) (i : ℕ) (x y z t : List Float) where
 
 -- ---- how many count
 
-count-few : (n : ℕ) (f : ℕ → Bool) → countTo n f ≤ n
-count-few zero f = omega arith
-count-few (suc n) f = omega (arith, count-few n f, at-most-one (f n))
-
-pub count-same : (n : ℕ) (f g : ℕ → Bool) → ((j : ℕ) → j < n → f j ≡ g j) → countTo n f ≡ countTo n g
-count-same zero f g e = refl
-count-same (suc n) f g e = rw (count-same n f g (λ j k. e j (omega arith)), e n (omega arith))
-
 pub taken-few : {S : Type 0} (f : Turns S) (state : S) (l : List Float) (i : ℕ) {m : ℕ} → m ≡ takenOf f state l i → m ≤ 16
 unfolding takenOf
 taken-few f state l i em = rw em (count-few 16 (λ (j : ℕ). f (i / 4 + j) state (rowAt l i j) .counted))
@@ -201,7 +186,7 @@ module _ {S : Type 0} (f : Turns S) (state : S) (l : List Float) (i : ℕ) {x y 
 
   pub taken : {m : ℕ} → m ≡ countTo 16 (λ (j : ℕ). f (i / 4 + j) state (rowOf x y z t j) .counted) → m ≡ takenOf f state l i
   unfolding takenOf
-  taken em = em ∙ count-same 16 _ _ (λ j k. ap (λ (turn : Turn S). turn .counted) (row-turn j k))
+  taken em = em ∙ count-told 16 _ _ (λ j k. ap (λ (turn : Turn S). turn .counted) (row-turn j k))
 
 -- a turn of sixteen carries the invariants over sixteen places
 module _ {S : Type 0} {f : Turns S} {start state : S} {l₀ l : List Float} {i : ℕ} (steady : (k : ℕ) (v : Tuple) → f k state v .state ≡ state) (h : i + 64 ≤ length l) where

@@ -1,4 +1,5 @@
--- A flat list: four numbers a tuple, one tuple after another. A place is where a tuple's first number stands.
+-- A flat list: four numbers a tuple, one tuple after another. A place is where a tuple's first
+-- number stands.
 use Prim.Native.Nat.{ℕ, _+_}
 use mathlib.Core.Bool.{cond}
 use mathlib.Core.List.{List, [], _∷_, _++_}

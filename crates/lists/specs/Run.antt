@@ -1,4 +1,5 @@
--- A step over a list, for any step: tuple after tuple from the front, a state handed on from each to the next. A rest shorter than a tuple stays as it is.
+-- A step over a list, for any step: tuple after tuple from the front, a state handed on from each
+-- to the next. A rest shorter than a tuple stays as it is.
 use Prim.Native.Nat.{ℕ, suc, _+_}
 use mathlib.Core.Bool.{Bool, cond}
 use mathlib.Core.List.{List, [], _∷_, _++_}
@@ -6,7 +7,8 @@ use lib.Ieee.{Float}
 use Rattle.tuple.specs.declared.Tuple.{Tuple}
 use Rattle.lists.specs.Flat.{fourOf, numbersOf}
 
--- what a step makes of one tuple: the state for the next, the tuple in its place, and whether the step's count takes it in
+-- what a step makes of one tuple: the state for the next, the tuple in its place, and whether the
+-- step's count takes it in
 pub record Turn (S : Type 0) : Type 0 where
   pub state : S
   pub tuple : Tuple

@@ -1,4 +1,5 @@
--- Sixteen tuples of a flat list at once, as columns: a block of first numbers, of second, of third and of fourth.
+-- Sixteen tuples of a flat list at once, as columns: a block of first numbers, of second, of third
+-- and of fourth.
 use Prim.Native.Nat.{ℕ, zero, suc, _+_, _*_, _/_}
 use mathlib.Core.Bool.{cond}
 use mathlib.Core.List.{List}
@@ -21,7 +22,8 @@ abbrev pub putRows : List Float → ℕ → (ℕ → Tuple) → ℕ → List Flo
 putRows l at rows zero = l
 putRows l at rows (suc n) = putAt (putRows l at rows n) (at + 4 * n) (rows n)
 
--- the list with the columns' sixteen tuples from a place on; as it was where not all sixteen stand there
+-- the list with the columns' sixteen tuples from a place on; as it was where not all sixteen stand
+-- there
 unfoldable pub putBlock : List Float → ℕ → List Float → List Float → List Float → List Float → List Float
 putBlock l at x y z t = cond (leb (at + 64) (length l)) (putRows l at (rowOf x y z t) 16) l
 

@@ -1,9 +1,11 @@
-// Flat lists of binary64 numbers, four a tuple, read and written a tuple at a time or sixteen at once, and what it is to run a step over one.
+// Flat lists of binary64 numbers, four a tuple, read and written a tuple at a time or sixteen at
+// once, and what it is to run a step over one.
 //
-// The lent list of document 01, in place of the Rust's `dyn CoordinateSet`. specs/Run.antt says once, for any step, what a list and a count are after it;
-// proofs/Laws.antt has the law that every loop over a list is proved by: it turns what one turn reads, makes and writes into the next turn's invariant;
-// proofs/Sixteen.antt has the same for turns of sixteen tuples.
-// Exact: numbers are moved, never rounded. Used by every loop over a list.
+// The lent list of document 01, in place of the Rust's `dyn CoordinateSet`. specs/Run.antt says
+// once, for any step, what a list and a count are after it; proofs/Laws.antt has the law that every
+// loop over a list is proved by: it turns what one turn reads, makes and writes into the next
+// turn's invariant; proofs/Sixteen.antt has the same for turns of sixteen tuples. Exact: numbers
+// are moved, never rounded. Used by every loop over a list.
 ghost use mathlib.Core.Path.{_≡_};
 ghost use Prim.Native.Nat.{ℕ};
 ghost use Rattle.blocks.specs.Each.{Each};
@@ -82,7 +84,8 @@ pub fn read_block(
     }
 }
 
-// Sixteen tuples, as columns, put from a place on; nothing is written where not all sixteen stand there.
+// Sixteen tuples, as columns, put from a place on; nothing is written where not all sixteen stand
+// there.
 pub fn write_block(
     list: &mut [f64],
     at: usize,

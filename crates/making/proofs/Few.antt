@@ -8,7 +8,7 @@ use borrow.Author.Tests.{eqb-true}
 use lib.Dec.{eqb, ltb}
 use lib.ListN.{length, take}
 use Rattle.sheet.specs.Layout.{blankSheet, recordOf}
-use Rattle.sheet.specs.Rules.{accepted, ofSheet, refusalOf, readingOf}
+use Rattle.sheet.specs.Rules.{accepted, ofCall, refusalOf, readingOf}
 use Rattle.sheet.proofs.Order.{accepted-count}
 use Rattle.sheet.proofs.Back.{record-count}
 use Rattle.making.specs.Adding.{readingAs, standingOf}
@@ -18,7 +18,7 @@ few-read s true e = omega (arith, record-count s, accepted-count s (eqb-true _ _
 few-read s false e = omega arith
 
 few : (room : List ℕ) (len : ℕ) (none past : Bool)
-    → cond none (readingAs accepted blankSheet) (cond past (readingAs (ofSheet 1) blankSheet) (readingOf (take len room))) .sheet .count ≤ 16
+    → cond none (readingAs accepted blankSheet) (cond past (readingAs (ofCall 1) blankSheet) (readingOf (take len room))) .sheet .count ≤ 16
 unfolding readingOf
 few room len true past = omega arith
 few room len false true = omega arith

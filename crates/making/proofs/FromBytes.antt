@@ -1,4 +1,5 @@
--- What is read from bytes is what a computer's memory holds: words of 32 bits and binary64 numbers. Assumes nothing.
+-- What is read from bytes is what a computer's memory holds: words of 32 bits and binary64 numbers.
+-- Assumes nothing.
 use mathlib.Core.Path.{_≡_, refl, ap, _∙_}
 use Prim.Native.Nat.{ℕ, zero, suc, _+_, _<_}
 use mathlib.Core.Bool.{Bool, true, false, cond}
@@ -19,8 +20,8 @@ use Rattle.sheet.specs.Layout.{stepCountOf, kindAt, bodyAt, lengthAt, offsetAt,
 use Rattle.sheet.specs.Rules.{refusalOf}
 use Rattle.sheet.proofs.Accepted.{accepted-keeps}
 use Rattle.sheet.proofs.Back.{bytes-part, entry-same, step-same, record-count}
-use Rattle.sheet_writer.proofs.Laws.{HeldSheet}
-use Rattle.making.proofs.Longer.{Tidy}
+use Rattle.sheet_writer.specs.SameSheet.{HeldSheet}
+use Rattle.making.specs.InTurn.{Tidy}
 
 module _ (b : List ℕ) (bytes : Bytes b) where
   word : (at : ℕ) → word32 b at < 4294967296

@@ -1,5 +1,7 @@
--- What is true of sheets made step by step, for callers to cite: an accepted result is a sheet that is accepted; and steps added one after another to nothing
--- give the writer's bytes of the record with those steps, each addition being accepted exactly where the writer takes the record so far. Assumes nothing.
+-- What is true of sheets made step by step, for callers to cite: an accepted result is a sheet that
+-- is accepted; and steps added one after another to nothing give the writer's bytes of the record
+-- with those steps, each addition being accepted exactly where the writer takes the record so far.
+-- Assumes nothing.
 use mathlib.Core.Path.{_≡_, refl, sym, ap, _∙_}
 use Prim.Native.Nat.{ℕ, _+_, _-_, _<_, _≤_}
 use mathlib.Core.Logic.{_↔_}
@@ -21,16 +23,18 @@ use Rattle.sheet.specs.declared.Refusal.{Refusal}
 use Rattle.sheet.specs.declared.Reading.{Reading}
 use Rattle.sheet.specs.Layout.{totalLengthOf, recordOf, blankSheet}
 use Rattle.sheet_writer.specs.Bytes.{sheetLength, sheetBytesOf}
-use Rattle.sheet.specs.Rules.{accepted, ofSheet, refusalOf, readingOf}
-use Rattle.sheet_writer.specs.Rules.{writerRefusalOf, writtenOf}
+use Rattle.sheet.specs.Rules.{accepted, ofCall, refusalOf, readingOf}
+use Rattle.sheet_writer.specs.Rules.{writerRefusalOf, roomAfterOf}
 use Rattle.sheet.proofs.Accepted.{Accepted, accepted-keeps}
 use Rattle.sheet.proofs.Back.{bytes-part}
 use Rattle.sheet_writer.proofs.Forth.{taken}
 use Rattle.sheet_writer.proofs.Writing.{sheet-bytes-length}
 use Rattle.sheet_writer.proofs.WriterOrder.{accepted-record}
-use Rattle.sheet_writer.proofs.Laws.{HeldSheet, SameSheet, written-then-read, room-starts-with-the-sheet}
-use Rattle.making.specs.Adding.{readingAs, standingOf, withStepOf, Outcome, outcome, addedAs, writtenAs, addedOf}
-use Rattle.making.proofs.Longer.{Tidy, tidy-same, blank-is-tidy, blank-is-held, more-is-tidy, more-is-held, Begins, begins-itself, begins-on, begins-more, taken-before, shorter, writer-takes}
+use Rattle.sheet_writer.specs.SameSheet.{HeldSheet, SameSheet}
+use Rattle.sheet_writer.proofs.Laws.{written-then-read, room-starts-with-the-sheet}
+use Rattle.making.specs.Adding.{readingAs, standingOf, withStepOf, AddOutcome, outcome, addedAs, writtenAs, addedOf}
+use Rattle.making.specs.InTurn.{Sheeted, Tidy, allAdded, withSteps, EachHeld}
+use Rattle.making.proofs.Longer.{tidy-same, blank-is-tidy, blank-is-held, more-is-tidy, more-is-held, Begins, begins-itself, begins-on, begins-more, taken-before, shorter, writer-takes}
 use Rattle.making.proofs.FromBytes.{read-is-held, read-is-tidy}
 
 number-of : {r : Refusal} → r ≡ accepted → r .number ≡ 0
@@ -38,11 +42,11 @@ number-of e = ap (λ (x : Refusal). x .number) e
 
 -- ---- a record that the writer took stands in the room
 
-written-is : (sheet : Sheet) (room : List ℕ) → writerRefusalOf sheet (length room) ≡ accepted → writtenOf sheet room ≡ put room 0 (sheetBytesOf sheet)
-unfolding writtenOf
+written-is : (sheet : Sheet) (room : List ℕ) → writerRefusalOf sheet (length room) ≡ accepted → roomAfterOf sheet room ≡ put room 0 (sheetBytesOf sheet)
+unfolding roomAfterOf
 written-is sheet room e = rw e
 
-same-room : (sheet : Sheet) (room : List ℕ) → writerRefusalOf sheet (length room) ≡ accepted → length (writtenOf sheet room) ≡ length room
+same-room : (sheet : Sheet) (room : List ℕ) → writerRefusalOf sheet (length room) ≡ accepted → length (roomAfterOf sheet room) ≡ length room
 same-room sheet room e =
     ap length (written-is sheet room e)
     ∙ length-put room 0 (sheetBytesOf sheet) (omega (arith, accepted-record sheet (length room) (number-of e) .1, sheet-bytes-length sheet))
@@ -60,21 +64,21 @@ module _ (sheet : Sheet) (room : List ℕ) (tidy : Tidy sheet) (held : HeldSheet
   long : 16 ≤ sheetLength sheet
   long = omega (arith, ok .at-least, sheet-bytes-length sheet)
 
-  total : totalLengthOf (writtenOf sheet room) ≡ sheetLength sheet
+  total : totalLengthOf (roomAfterOf sheet room) ≡ sheetLength sheet
   total =
-      sym (word32-in-part (writtenOf sheet room) 0 4 (sheetLength sheet) (omega (arith, long)))
+      sym (word32-in-part (roomAfterOf sheet room) 0 4 (sheetLength sheet) (omega (arith, long)))
       ∙ ap (λ (l : List ℕ). word32 l 4) (room-starts-with-the-sheet sheet room e) ∙ ok .total ∙ sheet-bytes-length sheet
 
-  answer-is : (len : ℕ) → writtenAs sheet room len ≡ outcome (addedAs accepted (sheetLength sheet)) (writtenOf sheet room)
+  answer-is : (len : ℕ) → writtenAs sheet room len ≡ outcome (addedAs accepted (sheetLength sheet)) (roomAfterOf sheet room)
   unfolding writtenAs
   answer-is len = rw (e, total)
 
-  stands : standingOf (writtenOf sheet room) (sheetLength sheet) ≡ readingAs accepted sheet
+  stands : standingOf (roomAfterOf sheet room) (sheetLength sheet) ≡ readingAs accepted sheet
   unfolding standingOf readingOf
   stands =
       rw (
         ne-eqb (sheetLength sheet) 0 (λ z. omega (arith, long, z)),
-        le-ltb (length (writtenOf sheet room)) (sheetLength sheet) (omega (arith, same-room sheet room e, fits)),
+        le-ltb (length (roomAfterOf sheet room)) (sheetLength sheet) (omega (arith, same-room sheet room e, fits)),
         room-starts-with-the-sheet sheet room e,
         read-back .0,
       )
@@ -90,7 +94,7 @@ module _ (room : List ℕ) (len inverted : ℕ) (step : Step) where
   refused-by : (r : Reading) → r ≡ standingOf room len → (none : Bool) → eqb (r .refusal .number) 0 ≡ none
       → (addedOf room len inverted step .answer .refusal .number ≡ 0 → ⊥)
       → addedOf room len inverted step ≡ outcome (addedAs (addedOf room len inverted step .answer .refusal) len) room
-  unfolding addedOf writtenAs writtenOf
+  unfolding addedOf writtenAs roomAfterOf
   refused-by r s false e h = rw (← s, e)
   refused-by r s true e h =
       let sheet = withStepOf (r .sheet) inverted step in
@@ -106,7 +110,7 @@ module _ (room : List ℕ) (len inverted : ℕ) (step : Step) where
 
 -- what stands in a room of bytes is a record as it is read or begun
 sound : (room : List ℕ) (len : ℕ) → Bytes room → (none past : Bool)
-    → let r = cond none (readingAs accepted blankSheet) (cond past (readingAs (ofSheet 1) blankSheet) (readingOf (take len room))) in
+    → let r = cond none (readingAs accepted blankSheet) (cond past (readingAs (ofCall 1) blankSheet) (readingOf (take len room))) in
     r .refusal .number ≡ 0 → Tidy (r .sheet) × HeldSheet (r .sheet)
 unfolding readingOf
 sound room len bytes true past e = (blank-is-tidy, blank-is-held)
@@ -132,11 +136,6 @@ module _ (room : List ℕ) (inverted : ℕ) (step : Step) (sheet : Sheet) (tidy 
 
   held-after : HeldSheet (withStepOf sheet inverted step)
   held-after = more-is-held sheet tidy few-before inverted step held new
-
--- what an accepted addition leaves: at the room's start, and as long as it says, a sheet that is accepted
-pub record Sheeted (o : Outcome) : Type 0 where
-  pub within : o .answer .length ≤ length (o .room)
-  pub passes : refusalOf (take (o .answer .length) (o .room)) ≡ accepted
 
 pub written-is-sheeted : (sheet : Sheet) (room : List ℕ) → Tidy sheet → HeldSheet sheet → writerRefusalOf sheet (length room) ≡ accepted
     → (len : ℕ) → Sheeted (writtenAs sheet room len)
@@ -169,7 +168,7 @@ module _ (room : List ℕ) (len inverted : ℕ) (step : Step) (bytes : Bytes roo
       let good = standing-sound room len bytes none in
       let same = added-is room len inverted step sheet none refl in
       let zero-number : writerRefusalOf more (length room) .number ≡ 0 =
-      ap (λ (r : Refusal). r .number) (sym (writer's-number more room len)) ∙ ap (λ (o : Outcome). o .answer .refusal .number) (sym same) ∙ h in
+      ap (λ (r : Refusal). r .number) (sym (writer's-number more room len)) ∙ ap (λ (o : AddOutcome). o .answer .refusal .number) (sym same) ∙ h in
       let takes = none-at-all more (length room) zero-number in
       rw same
       (written-is-sheeted more room (tidy-after room inverted step sheet (good .0) (good .1) new takes) (held-after room inverted step sheet (good .0) (good .1) new takes) takes len)
@@ -179,23 +178,6 @@ module _ (room : List ℕ) (len inverted : ℕ) (step : Step) (bytes : Bytes roo
   accepted-passes-check h = sheeted-by (eqb (standingOf room len .refusal .number) 0) refl h
 
 -- ---- steps one after another
-
--- each added in turn, until one is refused
-unfoldable pub allAdded : List ℕ → ℕ → List Entry → Outcome
-allAdded room len [] = outcome (addedAs accepted len) room
-allAdded room len (e ∷ es) =
-    let first = addedOf room len (e .inverted) (e .step) in
-    cond (eqb (first .answer .refusal .number) 0) (allAdded (first .room) (first .answer .length) es) first
-
--- a record with some steps more
-unfoldable pub withSteps : Sheet → List Entry → Sheet
-withSteps sheet [] = sheet
-withSteps sheet (e ∷ es) = withSteps (withStepOf sheet (e .inverted) (e .step)) es
-
--- every step is what a computer's memory holds
-pub data EachHeld : List Entry → Type 0 where
-  none : EachHeld []
-  next : {e : Entry} {es : List Entry} → Held (e .step) → EachHeld es → EachHeld (e ∷ es)
 
 count-grows : (es : List Entry) (sheet : Sheet) → sheet .count ≤ withSteps sheet es .count
 unfolding withSteps withStepOf
@@ -224,9 +206,9 @@ over room xs ys h =
     ∙ ap (λ (n : ℕ). drop n room) (sym e)))
 
 written-over : (a b : Sheet) (room : List ℕ) → writerRefusalOf a (length room) ≡ accepted → writerRefusalOf b (length room) ≡ accepted
-    → sheetLength a ≤ sheetLength b → writtenOf b (writtenOf a room) ≡ writtenOf b room
+    → sheetLength a ≤ sheetLength b → roomAfterOf b (roomAfterOf a room) ≡ roomAfterOf b room
 written-over a b room e f h =
-    written-is b (writtenOf a room) (ap (writerRefusalOf b) (same-room a room e) ∙ f)
+    written-is b (roomAfterOf a room) (ap (writerRefusalOf b) (same-room a room e) ∙ f)
     ∙ ap (λ (l : List ℕ). put l 0 (sheetBytesOf b)) (written-is a room e)
     ∙ over room (sheetBytesOf a) (sheetBytesOf b) (omega (arith, sheet-bytes-length a, sheet-bytes-length b))
     ∙ sym (written-is b room f)
@@ -257,13 +239,13 @@ module _ (e : Entry) (room : List ℕ) (len : ℕ) (sheet : Sheet) (st : standin
     held-one : HeldSheet one
     held-one = held-after room (e .inverted) (e .step) sheet tidy held new takes
 
-    first-is : addedOf room len (e .inverted) (e .step) ≡ outcome (addedAs accepted (sheetLength one)) (writtenOf one room)
+    first-is : addedOf room len (e .inverted) (e .step) ≡ outcome (addedAs accepted (sheetLength one)) (roomAfterOf one room)
     first-is = written-first ∙ answer-is one room tidy-one held-one takes len
 
-    stands-one : standingOf (writtenOf one room) (sheetLength one) ≡ readingAs accepted one
+    stands-one : standingOf (roomAfterOf one room) (sheetLength one) ≡ readingAs accepted one
     stands-one = stands one room tidy-one held-one takes
 
-    go-on : (es : List Entry) → allAdded room len (e ∷ es) ≡ allAdded (writtenOf one room) (sheetLength one) es
+    go-on : (es : List Entry) → allAdded room len (e ∷ es) ≡ allAdded (roomAfterOf one room) (sheetLength one) es
     unfolding allAdded
     go-on es = rw first-is
 
@@ -275,12 +257,13 @@ one-taken e es room sheet tidy takes =
     let few : sheet .count < 16 = omega (arith, count-grows es one, accepted-record (withSteps one es) room (number-of takes) .0) in
     first-taken es one room (more-is-tidy sheet tidy few (e .inverted) (e .step)) (omega arith) takes
 
--- Steps added one after another to a sheet that stands in a room: where the writer takes the record of them all, every addition is accepted, and room and length
--- are those that the writer gives for that record.
+-- Steps added one after another to a sheet that stands in a room: where the writer takes the record
+-- of them all, every addition is accepted, and room and length are those that the writer gives for
+-- that record.
 pub added-in-turn : (e : Entry) (es : List Entry) (room : List ℕ) (len : ℕ) (sheet : Sheet) → standingOf room len ≡ readingAs accepted sheet
     → Tidy sheet → HeldSheet sheet → EachHeld (e ∷ es) → writerRefusalOf (withSteps sheet (e ∷ es)) (length room) ≡ accepted
     → allAdded room len (e ∷ es)
-    ≡ outcome (addedAs accepted (sheetLength (withSteps sheet (e ∷ es)))) (writtenOf (withSteps sheet (e ∷ es)) room)
+    ≡ outcome (addedAs accepted (sheetLength (withSteps sheet (e ∷ es)))) (roomAfterOf (withSteps sheet (e ∷ es)) room)
 unfolding withSteps allAdded
 added-in-turn e [] room len sheet st tidy held (EachHeld.next new rest) takes = go-on e room len sheet st tidy held new takes []
 added-in-turn e (d ∷ es) room len sheet st tidy held (EachHeld.next new rest) takes =
@@ -290,7 +273,7 @@ added-in-turn e (d ∷ es) room len sheet st tidy held (EachHeld.next new rest) 
     let tidy1 = tidy-one e room len sheet st tidy held new t in
     let few = accepted-record all (length room) (number-of takes) .0 in
     go-on e room len sheet st tidy held new t (d ∷ es)
-    ∙ added-in-turn d es (writtenOf one room) (sheetLength one) one (stands-one e room len sheet st tidy held new t) tidy1 (held-one e room len sheet st tidy held new t) rest
+    ∙ added-in-turn d es (roomAfterOf one room) (sheetLength one) one (stands-one e room len sheet st tidy held new t) tidy1 (held-one e room len sheet st tidy held new t) rest
     (ap (writerRefusalOf all) (same-room one room t) ∙ takes)
     ∙ ap (outcome (addedAs accepted (sheetLength all))) (written-over one all room t takes (shorter one all (begins-all (d ∷ es) one tidy1 few)))
 
@@ -309,7 +292,7 @@ first-accepted e es room len sheet st tidy held new h =
     let z = first-by e es room len (eqb (first .answer .refusal .number) 0) refl h in
     none-at-all one (length room)
     (ap (λ (r : Refusal). r .number) (sym (writer's-number one room len))
-    ∙ ap (λ (o : Outcome). o .answer .refusal .number) (sym (written-first e room len sheet st tidy held new)) ∙ z)
+    ∙ ap (λ (o : AddOutcome). o .answer .refusal .number) (sym (written-first e room len sheet st tidy held new)) ∙ z)
 
 -- and where every addition is accepted, the writer takes the record of them all
 pub taken-in-turn : (e : Entry) (es : List Entry) (room : List ℕ) (len : ℕ) (sheet : Sheet) → standingOf room len ≡ readingAs accepted sheet
@@ -322,19 +305,20 @@ taken-in-turn e (d ∷ es) room len sheet st tidy held (EachHeld.next new rest) 
     let t = first-accepted e (d ∷ es) room len sheet st tidy held new h in
     let on = go-on e room len sheet st tidy held new t (d ∷ es) in
     sym (ap (writerRefusalOf (withSteps one (d ∷ es))) (same-room one room t))
-    ∙ taken-in-turn d es (writtenOf one room) (sheetLength one) one (stands-one e room len sheet st tidy held new t)
+    ∙ taken-in-turn d es (roomAfterOf one room) (sheetLength one) one (stands-one e room len sheet st tidy held new t)
     (tidy-one e room len sheet st tidy held new t) (held-one e room len sheet st tidy held new t) rest
-    (ap (λ (o : Outcome). o .answer .refusal .number) (sym on) ∙ h)
+    (ap (λ (o : AddOutcome). o .answer .refusal .number) (sym on) ∙ h)
 
 nothing-stands : (room : List ℕ) → standingOf room 0 ≡ readingAs accepted blankSheet
 unfolding standingOf
 nothing-stands room = refl
 
--- Steps added one after another to nothing: where the writer takes the record of those steps, room and length are those that the writer gives for it,
+-- Steps added one after another to nothing: where the writer takes the record of those steps, room
+-- and length are those that the writer gives for it,
 pub made-as-written : (e : Entry) (es : List Entry) (room : List ℕ) → EachHeld (e ∷ es)
     → writerRefusalOf (withSteps blankSheet (e ∷ es)) (length room) ≡ accepted
     → allAdded room 0 (e ∷ es)
-    ≡ outcome (addedAs accepted (sheetLength (withSteps blankSheet (e ∷ es)))) (writtenOf (withSteps blankSheet (e ∷ es)) room)
+    ≡ outcome (addedAs accepted (sheetLength (withSteps blankSheet (e ∷ es)))) (roomAfterOf (withSteps blankSheet (e ∷ es)) room)
 made-as-written e es room each takes =
     added-in-turn e es room 0 blankSheet (nothing-stands room) blank-is-tidy blank-is-held each takes
 
@@ -343,5 +327,5 @@ pub made-exactly-when-written : (e : Entry) (es : List Entry) (room : List ℕ) 
     → (allAdded room 0 (e ∷ es) .answer .refusal .number ≡ 0) ↔ (writerRefusalOf (withSteps blankSheet (e ∷ es)) (length room) ≡ accepted)
 made-exactly-when-written e es room each = (
   taken-in-turn e es room 0 blankSheet (nothing-stands room) blank-is-tidy blank-is-held each,
-  λ takes. ap (λ (o : Outcome). o .answer .refusal .number) (made-as-written e es room each takes),
+  λ takes. ap (λ (o : AddOutcome). o .answer .refusal .number) (made-as-written e es room each takes),
 )

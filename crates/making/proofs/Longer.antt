@@ -1,4 +1,6 @@
--- A record with one step more: its entries, and that the writer takes a record where it takes a longer one that begins with it. Assumes nothing.
+-- A record with one step more: its entries, and that the writer takes a record where it takes a
+-- longer one that begins with it. Working definition, which no promise cites: `Begins`. Assumes
+-- nothing.
 use mathlib.Core.Path.{_≡_, refl, sym, ap, _∙_}
 use Prim.Native.Nat.{ℕ, zero, suc, _+_, _-_, _<_, _≤_}
 use mathlib.Core.Bool.{Bool, true, false}
@@ -6,7 +8,7 @@ use native.Mathlib.Omega.{arith}
 use native.Mathlib.Nat.{zero-add, add-zero, add-suc}
 use borrow.Author.Tests.{lt-ltb, le-ltb, ltb-true, ltb-false, eqb-true, eqb-false, ne-eqb}
 use lib.Dec.{eqb, ltb}
-use lib.ListN.{length, set, length-set, getD-replicate}
+use lib.ListN.{set, length-set, getD-replicate}
 use lib.Seq.{ext-getD, getD-set-same, getD-set-other}
 use Rattle.bodies.specs.declared.Step.{Step}
 use Rattle.bodies.specs.Kinds.{kindOf, lengthOf}
@@ -17,17 +19,15 @@ use Rattle.sheet.specs.Layout.{blankEntry, blankSheet, entryOf, stepIn, kindIn}
 use Rattle.sheet_writer.specs.Bytes.{bodyStart, sheetLength}
 use Rattle.sheet.specs.Rules.{accepted, refusal3, fiveToEight, elevens}
 use Rattle.sheet_writer.specs.Rules.{recordRefusal4, recordRefusal5, refusal15, invertedBrokenIn, writerOrder, writerRefusalOf}
-use Rattle.sheet.proofs.Order.{Kept, none-broken, kept-append}
+use Rattle.sheet.specs.Given.{Unbroken}
+use Rattle.sheet.proofs.Order.{none-broken, kept-append}
 use Rattle.sheet.proofs.Each.{every-step, every-eleven, every-kept, eleven-same}
 use Rattle.sheet_writer.proofs.Forth.{Taken}
-use Rattle.sheet_writer.proofs.Laws.{HeldSheet, SameSheet}
+use Rattle.sheet_writer.specs.SameSheet.{HeldSheet, SameSheet}
 use Rattle.making.specs.Adding.{entryAs, withStepOf}
+use Rattle.making.specs.InTurn.{Tidy}
 
--- ---- a record as it is read or begun: sixteen entries, blank past its step count
-
-pub record Tidy (sheet : Sheet) : Type 0 where
-  pub places : length (sheet .entries) ≡ 16
-  pub blank : (i : ℕ) → sheet .count ≤ i → i < 16 → entryOf sheet i ≡ blankEntry
+-- ---- a record as it is read or begun
 
 module _ (a b : Sheet) (s : Tidy a) (t : Tidy b) (e : SameSheet a b) where
   each-same : (i : ℕ) → i < 16 → (within : Bool) → ltb i (b .count) ≡ within → entryOf a i ≡ entryOf b i
@@ -158,8 +158,8 @@ module _ (sheet : Sheet) (t : Taken sheet) where
   unfolding writerRefusalOf writerOrder refusal15
   writer-takes room h =
       let n = sheet .count in
-      let steps : Kept (fiveToEight (recordRefusal5 sheet) (stepIn sheet) n 0) =
+      let steps : Unbroken (fiveToEight (recordRefusal5 sheet) (stepIn sheet) n 0) =
       every-step (recordRefusal5 sheet) (stepIn sheet) n 0 (λ i l. rw zero-add (t .steps i l)) in
-      let second : Kept (elevens (kindIn sheet) n 0) = every-eleven (kindIn sheet) n 0 (λ i l. rw zero-add (t .one-deformation i l)) in
+      let second : Unbroken (elevens (kindIn sheet) n 0) = every-eleven (kindIn sheet) n 0 (λ i l. rw zero-add (t .one-deformation i l)) in
       none-broken (writerOrder sheet room)
-      (Kept.next three (Kept.next four (kept-append steps (kept-append second (Kept.next (le-ltb room (sheetLength sheet) h) Kept.none)))))
+      (Unbroken.next three (Unbroken.next four (kept-append steps (kept-append second (Unbroken.next (le-ltb room (sheetLength sheet) h) Unbroken.none)))))

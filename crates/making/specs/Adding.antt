@@ -10,8 +10,8 @@ use Rattle.sheet.specs.declared.Sheet.{Sheet}
 use Rattle.sheet.specs.declared.Refusal.{Refusal}
 use Rattle.sheet.specs.declared.Reading.{Reading}
 use Rattle.sheet.specs.Layout.{totalLengthOf, blankSheet}
-use Rattle.sheet.specs.Rules.{accepted, ofSheet, readingOf}
-use Rattle.sheet_writer.specs.Rules.{writerRefusalOf, writtenOf}
+use Rattle.sheet.specs.Rules.{accepted, ofCall, readingOf}
+use Rattle.sheet_writer.specs.Rules.{writerRefusalOf, roomAfterOf}
 use Rattle.making.specs.declared.Added.{Added}
 
 -- ---- what stands there
@@ -19,11 +19,12 @@ use Rattle.making.specs.declared.Added.{Added}
 abbrev pub readingAs : Refusal → Sheet → Reading
 readingAs refusal sheet = record { refusal = refusal; sheet = sheet }
 
--- The first `len` bytes of the room as a sheet. Of length 0 it is the record with no step; a length past the room's end is refused by 1, as of a sheet cut short.
+-- The first `len` bytes of the room as a sheet. Of length 0 it is the record with no step; a length
+-- past the room's end is refused by 1, as of a sheet cut short.
 unfoldable pub standingOf : List ℕ → ℕ → Reading
 standingOf room len =
     cond (eqb len 0) (readingAs accepted blankSheet)
-    (cond (ltb (length room) len) (readingAs (ofSheet 1) blankSheet)
+    (cond (ltb (length room) len) (readingAs (ofCall 1) blankSheet)
     (readingOf (take len room)))
 
 -- ---- the step added
@@ -31,7 +32,8 @@ standingOf room len =
 abbrev pub entryAs : ℕ → Step → Entry
 entryAs inverted step = record { inverted = inverted; step = step }
 
--- the record with one step more at the end; a seventeenth has no place, and the count alone tells of it
+-- the record with one step more at the end; a seventeenth has no place, and the count alone tells
+-- of it
 unfoldable pub withStepOf : Sheet → ℕ → Step → Sheet
 withStepOf sheet inverted step =
     record {
@@ -40,25 +42,27 @@ withStepOf sheet inverted step =
     }
 
 -- what a call answers, and the room afterwards
-pub record Outcome : Type 0 where
+pub record AddOutcome : Type 0 where
   pub answer : Added
   pub room : List ℕ
 
-abbrev pub outcome : Added → List ℕ → Outcome
+abbrev pub outcome : Added → List ℕ → AddOutcome
 outcome answer room = record { answer = answer; room = room }
 
 abbrev pub addedAs : Refusal → ℕ → Added
 addedAs refusal length = record { refusal = refusal; length = length }
 
--- the writer's answer to a record; the length is what the header then tells, and on refusal what it was
-unfoldable pub writtenAs : Sheet → List ℕ → ℕ → Outcome
+-- the writer's answer to a record; the length is what the header then tells, and on refusal what it
+-- was
+unfoldable pub writtenAs : Sheet → List ℕ → ℕ → AddOutcome
 writtenAs sheet room len =
     let refusal = writerRefusalOf sheet (length room) in
-    let after = writtenOf sheet room in
+    let after = roomAfterOf sheet room in
     outcome (addedAs refusal (cond (eqb (refusal .number) 0) (totalLengthOf after) len)) after
 
--- the reader's refusal of what stands there, with nothing touched; else the writer's answer to the record with the step added
-unfoldable pub addedOf : List ℕ → ℕ → ℕ → Step → Outcome
+-- the reader's refusal of what stands there, with nothing touched; else the writer's answer to the
+-- record with the step added
+unfoldable pub addedOf : List ℕ → ℕ → ℕ → Step → AddOutcome
 addedOf room len inverted step =
     let standing = standingOf room len in
     cond (eqb (standing .refusal .number) 0)

@@ -1,2 +1,3 @@
--- What the contracts of `making` cite.
+-- What the contracts of `making` cite; and steps added one after another.
 pub mod Adding
+pub mod InTurn

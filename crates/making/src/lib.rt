@@ -1,10 +1,14 @@
 // Making a sheet step by step, in lent room.
 //
-// A box-builder has bytes and no record: each call takes the sheet that stands at the room's start, or nothing yet, and puts one step more at its end. The
-// record is the reader's (`sheet::read`), the rules are the reader's and the writer's, and the bytes are the writer's (`sheet_writer::write`); nothing here places a
-// byte. What is answered and what the room holds afterwards is specs/Adding.antt's for every input (proved). Proved besides: an accepted result is a sheet
-// that `sheet::check` accepts, and steps added one after another to nothing give the bytes that the writer gives for the record of those steps. No rounding:
-// every bit of every number stays. A sheet's record is 4 kB, so this is for whoever makes a sheet, not for whoever runs one. Used by the exported library.
+// A box-builder has bytes and no record: each call takes the sheet that stands at the room's start,
+// or nothing yet, and puts one step more at its end. The record is the reader's (`sheet::read`),
+// the rules are the reader's and the writer's, and the bytes are the writer's
+// (`sheet_writer::write`); nothing here places a byte. What is answered and what the room holds
+// afterwards is specs/Adding.antt's for every input (proved). Proved besides: an accepted result is
+// a sheet that `sheet::check` accepts, and steps added one after another to nothing give the bytes
+// that the writer gives for the record of those steps. No rounding:
+// every bit of every number stays. A sheet's record is 4 kB, so this is for whoever makes a sheet,
+// not for whoever runs one. Used by the exported library.
 ghost use mathlib.Core.Path.{_≡_};
 ghost use Prim.Native.Nat.{_≤_};
 ghost use Rattle.making.specs.Adding.{readingAs, standingOf, withStepOf, outcome, writtenAs, addedOf};
@@ -37,7 +41,7 @@ fn standing(room: &[u8], len: usize) -> Reading
         return reading(Refusal::none(), Sheet::blank());
     }
     if room.len() < len {
-        return reading(Refusal { number: 1, step: 0 }, Sheet::blank());
+        return reading(Refusal::of_call(1), Sheet::blank());
     }
     sheet::read(&room[..len])
 }
@@ -62,12 +66,6 @@ fn with_step(sheet: Sheet, inverted: u32, step: Step) -> Sheet
     }
 }
 
-fn wide(x: u32) -> usize
-    ensures { λ r. ⌜ r ≡ x ⌝ }
-{
-    x as usize
-}
-
 // Writes the record, and answers with its length; on refusal with `len`.
 fn written(sheet: Sheet, room: &mut [u8], len: usize) -> Added
     ensures { λ r. ⌜ outcome r (now (room .exit)) ≡ writtenAs sheet (now (room .entry)) len ⌝ }
@@ -81,11 +79,12 @@ fn written(sheet: Sheet, room: &mut [u8], len: usize) -> Added
     }
     Added {
         refusal: refusal,
-        length: wide(words::read32(room, 4)),
+        length: words::wide(words::read32(room, 4)),
     }
 }
 
-// Adds a step at the end of the sheet that stands in the room's first `len` bytes, 0 for none yet. On refusal the room holds what it held.
+// Adds a step at the end of the sheet that stands in the room's first `len` bytes, 0 for none yet.
+// On refusal the room holds what it held.
 pub fn add(room: &mut [u8], len: usize, inverted: u32, step: Step) -> Added
     ensures { λ r. ⌜ outcome r (now (room .exit)) ≡ addedOf (now (room .entry)) len inverted step ⌝ }
 {

@@ -1,4 +1,5 @@
--- The Molodensky step's record, as a sheet carries it (kind 3): flags, two ellipsoids, the shift of the centre and the change of the figure.
+-- The Molodensky step's record, as a sheet carries it (kind 3): flags, two ellipsoids, the shift of
+-- the centre and the change of the figure.
 use Prim.Native.Nat.{ℕ, _/_, _%_}
 use mathlib.Core.Bool.{Bool, true, cond, _&&_}
 use lib.Dec.{eqb, ltb}

@@ -1,12 +1,16 @@
-// The full and abridged Molodensky transformations: molodensky.rs of the crate geodesy 0.15.0, after IOGP 373-7-2 and Deakin (2004).
+// The full and abridged Molodensky transformations: molodensky.rs of the crate geodesy 0.15.0,
+// after IOGP 373-7-2 and Deakin (2004).
 //
-// The Rust's letters and sequence of roundings, over our sine, cosine and square root: the sine-cosine pair of the latitude and the root that N and M share
-// are worked out once where the Rust does so twice, with equal bits. Where a divisor is zero there are no offsets, and the first three coordinates become
-// NaN, as the Rust's sums with a NaN do. The time stays, and every tuple counts. Sixteen tuples at a time: the crate molodensky_block.
+// The Rust's letters and sequence of roundings, over our sine, cosine and square root: the
+// sine-cosine pair of the latitude and the root that N and M share are worked out once where the
+// Rust does so twice, with equal bits. Where a divisor is zero there are no offsets, and the first
+// three coordinates become NaN, as the Rust's sums with a NaN do. The time stays, and every tuple
+// counts. Sixteen tuples at a time: the crate molodensky_block.
 ghost use mathlib.Core.Path.{_≡_};
 ghost use Rattle.molodensky.specs.Record.{blankOf, abridgedOf, twoEllipsoidsOf, secondInRuleOf, figureInRuleOf, finiteOf, inRuleOf};
-ghost use Rattle.molodensky.specs.Step.{figureOf, mopedOf, placeOf, abridgedOffsetsOf, fullOffsetsOf, offsetsOf, commonOf};
+ghost use Rattle.molodensky.specs.Step.{figureOf, mopedOf, placeWith, figuresAtOf, abridgedOffsetsOf, fullOffsetsOf, offsetsOf, commonOf};
 use ellipsoid::Ellipsoid;
+use ellipsoid::Radii;
 use tuple::Tuple;
 
 // The record that a sheet carries. Flags: 1 abridged, 2 two ellipsoids.
@@ -165,21 +169,27 @@ impl Moped {
 }
 
 impl Place {
+    // Given the sines and cosines of longitude and latitude, and the radii.
+    pub fn with(op: Moped, slam: f64, clam: f64, sphi: f64, cphi: f64, radii: Radii) -> Self
+        ensures { λ r. ⌜ r ≡ placeWith op slam clam sphi cphi radii ⌝ }
+    {
+        Place {
+            slam: slam,
+            clam: clam,
+            sphi: sphi,
+            cphi: cphi,
+            n: radii.n,
+            m: radii.m,
+            fac: op.dx * clam + op.dy * slam,
+        }
+    }
+
     fn at(op: Moped, lam: f64, phi: f64) -> Self
-        ensures { λ r. ⌜ r ≡ placeOf op lam phi ⌝ }
+        ensures { λ r. ⌜ r ≡ figuresAtOf op lam phi ⌝ }
     {
         let l = trig::sin_cos(lam);
         let p = trig::sin_cos(phi);
-        let radii = op.ellps.radii_of_curvature(p.s);
-        Place {
-            slam: l.s,
-            clam: l.c,
-            sphi: p.s,
-            cphi: p.c,
-            n: radii.n,
-            m: radii.m,
-            fac: op.dx * l.c + op.dy * l.s,
-        }
+        Place::with(op, l.s, l.c, p.s, p.c, op.ellps.radii_of_curvature(p.s))
     }
 }
 

@@ -1,3 +1,2 @@
--- What serves the proofs of the blocks, and how a loop writes over what it reads.
+-- What serves the proofs of the blocks.
 pub mod Block
-pub mod Over

@@ -1,21 +1,23 @@
-// The full and abridged Molodensky transformations, sixteen tuples at a time: the step of the crate molodensky by the block.
+// The full and abridged Molodensky transformations, sixteen tuples at a time: the step of the crate
+// molodensky by the block.
 //
-// Method, letters and sequence of roundings are those of `molodensky`: each tuple is proved to be what `common` gives, in every bit. Every loop is arithmetic and choices
-// between numbers, which a compiler turns into vector instructions; the kernels are called between the loops, a block at a time. Where there are no offsets, they are
-// three NaNs, which makes the coordinates NaN as `common` does. Used by the loops over a list.
+// Method, letters and sequence of roundings are those of `molodensky`: each tuple is proved to be
+// what `common` gives, in every bit. Every loop is arithmetic and choices between numbers, which a
+// compiler turns into vector instructions; the kernels are called between the loops, a block at a
+// time. Where there are no offsets, they are three NaNs, which makes the coordinates NaN as
+// `common` does. Used by the loops over a list.
 ghost use mathlib.Core.Path.{_≡_};
 ghost use Prim.Native.Nat.{ℕ};
 ghost use lib.ListN.{length};
 ghost use Rattle.floats.specs.Binary64.{_⊕_, _⊖_, _⊗_};
 ghost use Rattle.trig.specs.Trig.{sinOf};
-ghost use Rattle.ellipsoid.specs.Figure.{two, wOf};
+ghost use Rattle.ellipsoid.specs.Figure.{two, wOf, radiiWith};
 ghost use Rattle.blocks.specs.Each.{at, Each};
 ghost use Rattle.tuple.specs.Columns.{rowOf};
-ghost use Rattle.molodensky.specs.Step.{fullOffsetsOf, unlessZero, commonOf};
+ghost use Rattle.molodensky.specs.Step.{placeWith, unlessZero, abridgedWith, fullOffsetsOf, commonOf};
 ghost use Rattle.molodensky.specs.declared.Offsets.the-variants.{Three};
-ghost use Rattle.molodensky_block.specs.Block.{shiftOf, placeWith, abridgedWith, fullAt, abridgedAt, shiftAt};
+ghost use Rattle.molodensky_block.specs.Block.{shiftOf, fullAt, abridgedAt, shiftAt};
 use blocks::WIDTH;
-use ellipsoid::Ellipsoid;
 use molodensky::Moped;
 use molodensky::Place;
 
@@ -58,26 +60,13 @@ fn unless_either_zero(d: f64, e: f64, dlam: f64, dphi: f64, dh: f64) -> Shift
     unless_zero(e, dlam, dphi, dh)
 }
 
-fn w_at(ellps: Ellipsoid, sphi: f64) -> f64
-    ensures { λ r. ⌜ r ≡ wOf ellps sphi ⌝ }
-{
-    1.0 - floats::square(sphi) * ellps.es
-}
-
-// A place, given its sines and cosines and q, the root of w = 1 - es·sin²φ. That w is worked out again costs less than a column of them.
+// A place, given its sines and cosines and q, the root of w = 1 - es·sin²φ. That w is worked out
+// again costs less than a column of them.
 fn place_with(op: Moped, slam: f64, clam: f64, sphi: f64, cphi: f64, q: f64) -> Place
-    ensures { λ r. ⌜ r ≡ placeWith op slam clam sphi cphi q ⌝ }
+    ensures { λ r. ⌜ r ≡ placeWith op slam clam sphi cphi (radiiWith (op .ellps) (wOf (op .ellps) sphi) q) ⌝ }
 {
-    let w = w_at(op.ellps, sphi);
-    Place {
-        slam: slam,
-        clam: clam,
-        sphi: sphi,
-        cphi: cphi,
-        n: op.ellps.a / q,
-        m: op.ellps.a * (1.0 - op.ellps.es) / (w * q),
-        fac: op.dx * clam + op.dy * slam,
-    }
+    let radii = op.ellps.radii_with(op.ellps.w(sphi), q);
+    Place::with(op, slam, clam, sphi, cphi, radii)
 }
 
 // Given the sine of 2φ.
@@ -108,28 +97,6 @@ fn full_shift(op: Moped, q: Place, h: f64) -> Shift
     unless_either_zero(dphi_denom, dlam_denom, dlam, dphi / dphi_denom, dh)
 }
 
-fn ws(ellps: Ellipsoid, sphi: &[f64; WIDTH], w: &mut [f64; WIDTH])
-    ensures { λ _. ⌜ Each (now (w .exit)) (λ (j : ℕ). wOf ellps (at (now (sphi .entry)) j)) ⌝ }
-{
-    *w = [0.0; WIDTH];
-    let mut i = 0;
-    while i < WIDTH {
-        w[i] = w_at(ellps, sphi[i]);
-        i += 1;
-    }
-}
-
-fn doubled(x: &[f64; WIDTH], r: &mut [f64; WIDTH])
-    ensures { λ _. ⌜ Each (now (r .exit)) (λ (j : ℕ). two ⊗ at (now (x .entry)) j) ⌝ }
-{
-    *r = [0.0; WIDTH];
-    let mut i = 0;
-    while i < WIDTH {
-        r[i] = 2.0 * x[i];
-        i += 1;
-    }
-}
-
 // The sines of 2φ. The angles are laid down in twice, the cosines in c.
 fn double_sines(
     phi: &[f64; WIDTH],
@@ -139,11 +106,12 @@ fn double_sines(
 )
     ensures { λ _. ⌜ Each (now (r .exit)) (λ (j : ℕ). sinOf (two ⊗ at (now (phi .entry)) j)) ⌝ }
 {
-    doubled(phi, twice);
+    blocks::scaled(2.0, phi, twice);
     trig_block::sin_cos_block(twice, r, c);
 }
 
-// The offsets of a block over the columns that hold the sines and cosines of the longitudes and the sines of 2φ.
+// The offsets of a block over the columns that hold the sines and cosines of the longitudes and the
+// sines of 2φ.
 fn abridged_shifts(
     op: Moped,
     sphi: &[f64; WIDTH],
@@ -201,7 +169,8 @@ fn full_shifts(
     }
 }
 
-// The offsets of a block. What is needed on the way is laid down in the columns that the offsets come in, as far as they reach.
+// The offsets of a block. What is needed on the way is laid down in the columns that the offsets
+// come in, as far as they reach.
 fn shifts(
     op: Moped,
     x: &[f64; WIDTH],
@@ -221,7 +190,7 @@ fn shifts(
     let mut cphi = [0.0; WIDTH];
     let mut q = [0.0; WIDTH];
     trig_block::sin_cos_block(y, &mut sphi, &mut cphi);
-    ws(op.ellps, &sphi, dlam);
+    ellipsoid::w_block(op.ellps, &sphi, dlam);
     root::sqrt_block(dlam, &mut q);
     if op.abridged {
         double_sines(y, dlam, dphi, dh);

@@ -1,5 +1,5 @@
--- The permtide step's record, as a sheet carries it (kind 4): an ellipsoid, the codes of the system shifted to and from, and Love's number k.
--- Systems: mean 1, zero 2, free 3.
+-- The permtide step's record, as a sheet carries it (kind 4): an ellipsoid, the codes of the system
+-- shifted to and from, and Love's number k. Systems: mean 1, zero 2, free 3.
 use Prim.Native.Nat.{ℕ}
 use mathlib.Core.Bool.{Bool, not, cond, false}
 use lib.Dec.{eqb}
@@ -9,7 +9,8 @@ use Rattle.floats.specs.Binary64.{_⊕_, bits}
 use Rattle.ellipsoid.specs.Figure.{one, existsOf}
 use Rattle.permtide.specs.declared.Permtide.{Permtide}
 
--- the crate's defaults: GRS80, k = 0.3; the codes must be given, so they are 0 here and refused by rule 5
+-- the crate's defaults: GRS80, k = 0.3; the codes must be given, so they are 0 here and refused by
+-- rule 5
 abbrev pub blankOf : Permtide
 blankOf = record { ellipsoid = 1; to = 0; from = 0; k = bits 0x3fd3_3333_3333_3333 }
 
@@ -25,7 +26,8 @@ coefficientOf to from k =
     (cond (eqb to 3) (fromOf from (neg (one ⊕ k)) (neg k) (bits 0))
     nan))
 
--- rule 5: the table has the ellipsoid, k is finite, and the codes have a coefficient, tested as in the Rust: it is no NaN
+-- rule 5: the table has the ellipsoid, k is finite, and the codes have a coefficient, tested as in
+-- the Rust: it is no NaN
 abbrev pub inRuleOf : Permtide → Bool
 inRuleOf r =
     cond (existsOf (r .ellipsoid)) (cond (finite (r .k)) (not (isNan (coefficientOf (r .to) (r .from) (r .k)))) false) false

@@ -1,16 +1,15 @@
-// Shifts of heights between the permanent tide systems, mean, zero and free: permtide.rs of the crate geodesy 0.15.0.
+// Shifts of heights between the permanent tide systems, mean, zero and free: permtide.rs of the
+// crate geodesy 0.15.0.
 //
-// The nine coefficients, the constants and the order of the products are the Rust's; a text parameter there is a code here (mean 1, zero 2, free 3).
-// Every tuple counts. Exact as the Rust's sequence over our sine, cosine and atan2.
+// The nine coefficients, the constants and the order of the products are the Rust's; a text
+// parameter there is a code here (mean 1, zero 2, free 3). Every tuple counts. Exact as the Rust's
+// sequence over our sine, cosine and atan2.
 ghost use mathlib.Core.Path.{_≡_};
 ghost use Prim.Native.Nat.{ℕ};
-ghost use Rattle.floats.specs.Binary64.{_⊕_, _⊖_, _⊗_};
-ghost use Rattle.trig.specs.Trig.{sinOf, cosOf};
-ghost use Rattle.ellipsoid.specs.Figure.{geocentricOf};
+ghost use Rattle.floats.specs.Binary64.{_⊕_, _⊖_};
 ghost use Rattle.blocks.specs.Each.{at, Each};
 ghost use Rattle.permtide.specs.Record.{blankOf, fromOf, coefficientOf, inRuleOf};
-ghost use Rattle.permtide.specs.Step.{tideOf, liftOf, fwdOf, invOf};
-ghost use Rattle.permtide.specs.Block.{heightOf};
+ghost use Rattle.permtide.specs.Step.{tideOf, geocentricSineOf, heightOf, liftOf, fwdOf, invOf};
 use blocks::WIDTH;
 use ellipsoid::Ellipsoid;
 use tuple::Tuple;
@@ -113,27 +112,16 @@ fn lift(op: Tide, phi: f64) -> f64
     height(op, s)
 }
 
-fn scaled(k: f64, x: &[f64; WIDTH], r: &mut [f64; WIDTH])
-    ensures { λ _. ⌜ Each (now (r .exit)) (λ (j : ℕ). k ⊗ at (now (x .entry)) j) ⌝ }
-{
-    *r = [0.0; WIDTH];
-    let mut i = 0;
-    while i < WIDTH {
-        r[i] = k * x[i];
-        i += 1;
-    }
-}
-
 // The sines of a block's geocentric latitudes.
 fn sines(ellps: Ellipsoid, phi: &[f64; WIDTH], r: &mut [f64; WIDTH])
-    ensures { λ _. ⌜ Each (now (r .exit)) (λ (j : ℕ). sinOf (geocentricOf ellps (sinOf (at (now (phi .entry)) j)) (cosOf (at (now (phi .entry)) j)))) ⌝ }
+    ensures { λ _. ⌜ Each (now (r .exit)) (λ (j : ℕ). geocentricSineOf ellps (at (now (phi .entry)) j)) ⌝ }
 {
     let mut s = [0.0; WIDTH];
     let mut c = [0.0; WIDTH];
     let mut p = [0.0; WIDTH];
     let mut phibar = [0.0; WIDTH];
     trig_block::sin_cos_block(phi, &mut s, &mut c);
-    scaled(1.0 - ellps.es, &s, &mut p);
+    blocks::scaled(1.0 - ellps.es, &s, &mut p);
     arctan_block::atan2_block(&p, &c, &mut phibar);
     trig_block::sin_cos_block(&phibar, r, &mut c);
 }

@@ -1,7 +1,8 @@
 // Document 01's marked points that are run and not proved, printed beside what is expected.
 //
-// 2,048 tuples through a sheet of 16 steps, within the default stack; 2,049 tuples; 16 and 17 steps; p = 1e-11 by both inverses, which differ there; and
-// deformation up 1000. Numbers are printed by their bits.
+// 2,048 tuples through a sheet of 16 steps, within the default stack; 2,049 tuples; 16 and 17
+// steps; p = 1e-11 by both inverses, which differ there; and deformation up 1000. Numbers are
+// printed by their bits.
 ghost use mathlib.Core.Path.{_≡_};
 ghost use Prim.Native.Nat.{_<_, _≤_};
 ghost use lib.ListN.{length};
@@ -66,8 +67,8 @@ fn narrow(x: usize) -> u32
 fn put_step(s: &mut [u8], n: usize, i: usize)
     requires { ⌜ (n ≤ 17) × (i < 17) ⌝ }
 {
-    let at = 16 + 16 * i;
-    let body = 16 + 16 * n + 8 * i;
+    let at = sheet::entry_offset(narrow(i));
+    let body = sheet::directory_end(narrow(n)) + 8 * i;
     words::put32(s, at, 2);
     words::put32(s, at + 4, narrow(i % 2));
     words::put32(s, at + 8, narrow(body));
@@ -82,10 +83,18 @@ fn put_header(s: &mut [u8], n: u32, total: u32) {
     words::put32(s, 12, 16);
 }
 
+// How long a sheet of n cart steps is.
+fn length_of(n: usize) -> usize
+    requires { ⌜ n ≤ 17 ⌝ }
+    ensures { λ r. ⌜ r ≤ 424 ⌝ }
+{
+    sheet::directory_end(narrow(n)) + 8 * n
+}
+
 fn put_sheet(s: &mut [u8], n: usize)
     requires { ⌜ n ≤ 17 ⌝ }
 {
-    put_header(s, narrow(n), narrow(16 + 24 * n));
+    put_header(s, narrow(n), narrow(length_of(n)));
     let mut i = 0;
     while i < n {
         put_step(s, n, i);
@@ -148,12 +157,13 @@ fn carts(n: usize, tuples: usize)
     let mut s = sheet_room();
     put_sheet(&mut s, n);
     let mut list = room();
-    let total = 16 + 24 * n;
+    let total = length_of(n);
     let numbers = 4 * tuples;
     run_spread(&s[..total], &mut list[..numbers]);
 }
 
-// (1e-11, 0, z, 0): on the axis for cart's inverse, which then counts nothing; off it for geographic.
+// (1e-11, 0, z, 0): on the axis for cart's inverse, which then counts nothing; off it for
+// geographic.
 fn near_the_axis(z: f64) -> Tuple {
     Tuple {
         x: 0.00000000001,

@@ -27,7 +27,8 @@ unfoldable pub countsText : ℕ → List ℕ → List ℕ
 countsText i [] = []
 countsText i (c ∷ cs) = countText (i + 1) c ++ countsText (i + 1) cs
 
--- a number's 64 bits as 16 hexadecimal digits, and what stands after them; a NaN's are 7ff8000000000000
+-- a number's 64 bits as 16 hexadecimal digits, and what stands after them; a NaN's are
+-- 7ff8000000000000
 unfoldable pub wordOf : Float → ℕ → List ℕ
 wordOf x end = hexOf (toBits binary64 x) ++ (end ∷ [])
 

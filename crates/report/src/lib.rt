@@ -1,8 +1,9 @@
 // The lines that the program prints, written into a lent room.
 //
-// Document 01, "Program": how many steps and tuples, the count of each step, each tuple as four words of 16 hexadecimal digits; or the refusal. Every byte is
-// fixed by specs/Report.antt, for every input and a room of any length (crate text says what a room that is too short holds). A NaN is printed
-// 7ff8000000000000, whichever bits it came with. Used by `answer`.
+// Document 01, "Program": how many steps and tuples, the count of each step, each tuple as four
+// words of 16 hexadecimal digits; or the refusal. Every byte is fixed by specs/Report.antt, for
+// every input and a room of any length (crate text says what a room that is too short holds). A NaN
+// is printed 7ff8000000000000, whichever bits it came with. Used by `answer`.
 ghost use mathlib.Core.Path.{_≡_};
 ghost use mathlib.Core.List.{[], _∷_};
 ghost use lib.ListN.{take};
@@ -21,18 +22,6 @@ fn put_line(room: &mut [u8], at: usize, first: &[u8], a: u64, second: &[u8], b: 
     text::put_byte(room, s, b'\n')
 }
 
-fn wide32(x: u32) -> u64
-    ensures { λ r. ⌜ r ≡ x ⌝ }
-{
-    x as u64
-}
-
-fn wide(x: usize) -> u64
-    ensures { λ r. ⌜ r ≡ x ⌝ }
-{
-    x as u64
-}
-
 pub fn refused(room: &mut [u8], at: usize, number: u32, step: u32) -> usize
     ensures { λ r. ⌜ text (now (room .exit)) r ≡ appended (text (now (room .entry)) at) (refusedText number step) ⌝ }
 {
@@ -40,22 +29,36 @@ pub fn refused(room: &mut [u8], at: usize, number: u32, step: u32) -> usize
         room,
         at,
         b"refused ",
-        wide32(number),
+        words::wide64(number),
         b" step ",
-        wide32(step),
+        words::wide64(step),
     )
 }
 
 fn put_head(room: &mut [u8], at: usize, steps: usize, tuples: usize) -> usize
     ensures { λ r. ⌜ text (now (room .exit)) r ≡ appended (text (now (room .entry)) at) (headText steps tuples) ⌝ }
 {
-    put_line(room, at, b"steps ", wide(steps), b" tuples ", wide(tuples))
+    put_line(
+        room,
+        at,
+        b"steps ",
+        words::long(steps),
+        b" tuples ",
+        words::long(tuples),
+    )
 }
 
 fn put_count(room: &mut [u8], at: usize, step: usize, count: usize) -> usize
     ensures { λ r. ⌜ text (now (room .exit)) r ≡ appended (text (now (room .entry)) at) (countText step count) ⌝ }
 {
-    put_line(room, at, b"step ", wide(step), b" counted ", wide(count))
+    put_line(
+        room,
+        at,
+        b"step ",
+        words::long(step),
+        b" counted ",
+        words::long(count),
+    )
 }
 
 // A line for each step's count, no more than there are.

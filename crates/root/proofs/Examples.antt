@@ -1,4 +1,5 @@
--- Roots that the definition works out: exact squares, well-known digits, the ends of the range, and what is no positive number. Assumes nothing.
+-- Roots that the definition works out: exact squares, well-known digits, the ends of the range, and
+-- what is no positive number. Assumes nothing.
 use mathlib.Core.Path.{_≡_, refl}
 use Prim.Native.Nat.{ℕ}
 use lib.Ieee.{binary64, ofBits, size}

@@ -45,7 +45,8 @@ pub sqrt-of-nan-is-nan : sqrtOf nan ≡ nan
 unfolding sqrtOf
 sqrt-of-nan-is-nan = refl
 
--- a minus sign and a significand above 0 are below zero; a zero and a number with no minus sign are not
+-- a minus sign and a significand above 0 are below zero; a zero and a number with no minus sign are
+-- not
 below-zero : (m : ℕ) (e : ℤ) → lt (fin true (suc m) e) (fin false 0 (pos 0)) ≡ true
 unfolding lt
 below-zero m e =

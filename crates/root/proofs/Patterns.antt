@@ -1,4 +1,5 @@
--- The bit patterns of binary64: which are NaN's, and what number each of the others stands for. Assumes nothing.
+-- The bit patterns of binary64: which are NaN's, and what number each of the others stands for.
+-- Assumes nothing.
 use mathlib.Core.Path.{_≡_, refl, sym, ap, _∙_, subst}
 use mathlib.Core.Logic.{_⊎_, inl, inr}
 use Prim.Native.Nat.{ℕ, zero, suc, _+_, _-_, _*_, _/_, _%_, _^_, _≤_, _<_}
@@ -36,7 +37,8 @@ at-zero : (t : ℕ) → ofFields binary64 false 0 t ≡ odd 53 false t 0 1074
 unfolding ofFields
 at-zero t = refl
 
--- a normal number's pattern: b / 2 ^ 52 is the exponent's field, b % 2 ^ 52 the digits below the leading one
+-- a normal number's pattern: b / 2 ^ 52 is the exponent's field, b % 2 ^ 52 the digits below the
+-- leading one
 pub normal-value : (b : ℕ) → 4503599627370496 ≤ b → b < 9218868437227405312 → HasValue (ofBits binary64 b) false ((4503599627370496 + b % 4503599627370496) * 2 ^ (b / 4503599627370496 - 1)) (2 ^ 1074)
 normal-value b h k =
     let x : ℕ = b / 4503599627370496 - 1 in

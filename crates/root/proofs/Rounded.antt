@@ -1,4 +1,5 @@
--- The definition `sqrtOf` meets the statement `CorrectRoot`, and the statement leaves no choice. Assumes nothing.
+-- The definition `sqrtOf` meets the statement `CorrectRoot`, and the statement leaves no choice.
+-- Assumes nothing.
 use mathlib.Core.Path.{_≡_, refl, sym, ap, _∙_, subst}
 use mathlib.Core.Bool.{Bool, true, false, not, _&&_, cond}
 use Prim.Native.Nat.{ℕ, zero, suc, _+_, _-_, _*_, _/_, _%_, _^_, _≤_, _<_}

@@ -1,4 +1,5 @@
--- Squares and powers of two of whole numbers: what `omega` takes as facts in the proofs of the functions. Assumes nothing.
+-- Squares and powers of two of whole numbers: what `omega` takes as facts in the proofs of the
+-- functions. Assumes nothing.
 use mathlib.Core.Path.{_≡_, refl, sym, ap, _∙_, subst}
 use mathlib.Core.Logic.{_⊎_, inl, inr}
 use Prim.Native.Nat.{ℕ, zero, suc, _+_, _-_, _*_, _/_, _%_, _^_, _≤_, _<_}

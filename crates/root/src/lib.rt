@@ -1,14 +1,21 @@
-// The square root of a binary64 number, correctly rounded: the number nearest to the exact root, as IEEE 754 asks.
+// The square root of a binary64 number, correctly rounded: the number nearest to the exact root, as
+// IEEE 754 asks.
 //
-// By a float guess that an exact residual in whole numbers corrects. The guess: one over the root from the bits of the number (the start of the fast inverse
-// square root of Quake III Arena), mended by one polynomial of six coefficients and one step of Newton's method. It is off by one unit in the last place for one
-// number in eight, and was not off by more in 2 * 10^8 random ones; but nothing is proved of it and nothing rests on it. What is returned has passed a test: the number lies between
-// the squares of the midpoints on either side of the root. Where the guess is too far off for the test to tell, and for a subnormal number, the root is worked out a digit at a time.
+// By a float guess that an exact residual in whole numbers corrects. The guess: one over the root
+// from the bits of the number (the start of the fast inverse square root of Quake III Arena),
+// mended by one polynomial of six coefficients and one step of Newton's method. It is off by one
+// unit in the last place for one number in eight, and was not off by more in 2 * 10^8 random ones;
+// but nothing is proved of it and nothing rests on it. What is returned has passed a test: the
+// number lies between the squares of the midpoints on either side of the root. Where the guess is
+// too far off for the test to tell, and for a subnormal number, the root is worked out a digit at a
+// time.
 //
-// Exact: proved correctly rounded for every binary64 number, subnormal ones included (`sqrt-is-correctly-rounded` in proofs/Laws.antt).
-// The curvature radii of the ellipsoids, the inverses of cart and the length of a deformation call it.
+// Exact: proved correctly rounded for every binary64 number, subnormal ones included
+// (`sqrt-is-correctly-rounded` in proofs/Laws.antt). The curvature radii of the ellipsoids, the
+// inverses of cart and the length of a deformation call it.
 //
-// 0x10_0000_0000_0000 is 2^52, the weight of the exponent's field and of a significand's leading digit; 0x400_0000 is 2^26, half as many digits.
+// 0x10_0000_0000_0000 is 2^52, the weight of the exponent's field and of a significand's leading
+// digit; 0x400_0000 is 2^26, half as many digits.
 ghost use mathlib.Core.Path.{_≡_};
 ghost use Prim.Native.Nat.{ℕ, _+_, _-_, _*_, _^_, _≤_, _<_};
 ghost use lib.Ieee.{binary64, ofBits};
@@ -41,7 +48,8 @@ fn whole(a: u64) -> u64
     q
 }
 
-// The root of a * 2^52, rounded to the nearest: the whole part of a's root and 26 digits more, one at a time.
+// The root of a * 2^52, rounded to the nearest: the whole part of a's root and 26 digits more, one
+// at a time.
 fn by_digits(a: u64) -> u64
     requires { ⌜ (2 ^ 52 ≤ a) × (a < 2 ^ 54) ⌝ }
     ensures { λ r. ⌜ NearestRoot (a * 2 ^ 52) r ⌝ }
@@ -77,9 +85,10 @@ fn slow(a: u64, k: u64) -> f64
     put(by_digits(a), k)
 }
 
-// The same from any guess g at the root of a * 2^52, of which the answer is the nearest whole number. The square of g has 106 bits, so g is cut into h * 2^26 + l.
-// The residual a * 2^52 - g^2 is v - 2 g: the answer is g where it lies above -g and is at most g, and one more or one less up to 2 g. The differences may wrap, and the
-// test after each sends what wrapped the slow way.
+// The same from any guess g at the root of a * 2^52, of which the answer is the nearest whole
+// number. The square of g has 106 bits, so g is cut into h * 2^26 + l. The residual a * 2^52 - g^2
+// is v - 2 g: the answer is g where it lies above -g and is at most g, and one more or one less up
+// to 2 g. The differences may wrap, and the test after each sends what wrapped the slow way.
 fn nearest(a: u64, g: u64, k: u64) -> f64
     requires { ⌜ (2 ^ 52 ≤ a) × (a < 2 ^ 54 - 1) × Digits g × (k < 2000) ⌝ }
     ensures { λ r. ⌜ RoundedRoot (a * 2 ^ 52 * (2 ^ k * 2 ^ k)) r ⌝ }
@@ -103,7 +112,8 @@ fn nearest(a: u64, g: u64, k: u64) -> f64
     put(g + up - down, k)
 }
 
-// The root of t, nearly, from y, which is within 4 parts in 100 of one over it. u = t * y^2 lies from 0.9218 to 1.0523, and there p is 1 / sqrt(u) within 2^-30.6.
+// The root of t, nearly, from y, which is within 4 parts in 100 of one over it. u = t * y^2 lies
+// from 0.9218 to 1.0523, and there p is 1 / sqrt(u) within 2^-30.6.
 fn approximate(t: f64, y: f64) -> f64 {
     let s0 = t * y;
     let u = s0 * y;
@@ -115,14 +125,17 @@ fn approximate(t: f64, y: f64) -> f64 {
     s + (t - s * s) * (0.5 * y * p)
 }
 
-// The bits of s, or of 0.5 where s is less or NaN: a choice that a machine makes in one instruction.
+// The bits of s, or of 0.5 where s is less or NaN: a choice that a machine makes in one
+// instruction.
 fn half_or_more(s: f64) -> u64 {
     let z = if 0.5 < s { s } else { 0.5 };
     f64::to_bits(z)
 }
 
-// A guess at the root's 53 digits from the number's bits. What lies above the exponent's lowest bit scales the root and is left out: t's number is from 0.5 to below 2.
-// Halving t halves the exponent: the constant less that is nearly the bits of one over the root. There is no branch, so that a loop over numbers becomes vector instructions.
+// A guess at the root's 53 digits from the number's bits. What lies above the exponent's lowest bit
+// scales the root and is left out: t's number is from 0.5 to below 2. Halving t halves the
+// exponent: the constant less that is nearly the bits of one over the root. There is no branch, so
+// that a loop over numbers becomes vector instructions.
 fn guess(b: u64) -> u64
     ensures { λ r. ⌜ Digits r ⌝ }
 {
@@ -139,7 +152,8 @@ fn bits(x: f64) -> u64 {
     if x != x { 0 } else { f64::to_bits(x) }
 }
 
-// The normal number with the bits b. In e the exponent's field is one less, so that its lowest bit is 0 where the significand is not to be doubled.
+// The normal number with the bits b. In e the exponent's field is one less, so that its lowest bit
+// is 0 where the significand is not to be doubled.
 fn normal(b: u64) -> Scaled
     requires { ⌜ (2 ^ 52 ≤ b) × (b < 2047 * 2 ^ 52) ⌝ }
     ensures { λ r. ⌜ Significand b (r .a) (r .k) ⌝ }
@@ -204,7 +218,8 @@ pub fn sqrt(x: f64) -> f64
     from_guess(x, guess(bits(x)))
 }
 
-// The square roots of a block, each as `sqrt` gives it: first the guesses, two or more to an instruction, then the test of each.
+// The square roots of a block, each as `sqrt` gives it: first the guesses, two or more to an
+// instruction, then the test of each.
 pub fn sqrt_block(x: &[f64; WIDTH], r: &mut [f64; WIDTH])
     ensures { λ _. ⌜ Each (now (r .exit)) (λ (j : ℕ). sqrtOf (at (now (x .entry)) j)) ⌝ }
 {

@@ -15,12 +15,14 @@ pub transposed : Matrix → Matrix
 transposed m =
     (at m 0 0 ∷ at m 1 0 ∷ at m 2 0 ∷ []) ∷ (at m 0 1 ∷ at m 1 1 ∷ at m 2 1 ∷ []) ∷ (at m 0 2 ∷ at m 1 2 ∷ at m 2 2 ∷ []) ∷ []
 
--- the position vector matrix is the transpose of the coordinate frame's, for any angles, small or exact
+-- the position vector matrix is the transpose of the coordinate frame's, for any angles, small or
+-- exact
 pub position-vector-is-transpose : (r : Vec3) (exact : Bool) → rotationMatrixOf r exact true ≡ transposed (rotationMatrixOf r exact false)
 unfolding rotationMatrixOf rowsOf transposed
 position-vector-is-transpose r exact = refl
 
--- In the small-angle form the coordinate frame rows are (1, rz, -ry), (-rz, 1, rx), (ry, -rx, 1), for any three binary64 numbers, infinities and NaN too.
+-- In the small-angle form the coordinate frame rows are (1, rz, -ry), (-rz, 1, rx), (ry, -rx, 1),
+-- for any three binary64 numbers, infinities and NaN too.
 pub small-angle-rows : (r : Vec3) → T (fits binary64 (r .x)) → T (fits binary64 (r .y)) → T (fits binary64 (r .z))
     → rotationMatrixOf r false false
     ≡ (one ∷ r .z ∷ neg (r .y) ∷ []) ∷ (neg (r .z) ∷ one ∷ r .x ∷ []) ∷ (r .y ∷ neg (r .x) ∷ one ∷ []) ∷ []

@@ -1,8 +1,11 @@
-// A rotation of three numbers: the matrix of three angles, in two conventions, and its application, plain and transposed.
+// A rotation of three numbers: the matrix of three angles, in two conventions, and its application,
+// plain and transposed.
 //
-// `rotation_matrix` of helmert.rs of the crate geodesy 0.15.0, based on Karsten Engsager's implementation in set_dtm_1.c (trlib), in the Rust's own sequence
-// of roundings and with its letters; the products with a matrix are those of its `helmert_common`. Proved equal to specs/Matrix.antt, rounding by rounding,
-// for every number; how exact the sines and cosines are is the crate trig's to say. A crate of its own because steps other than Helmert turn by it too.
+// `rotation_matrix` of helmert.rs of the crate geodesy 0.15.0, based on Karsten Engsager's
+// implementation in set_dtm_1.c (trlib), in the Rust's own sequence of roundings and with its
+// letters; the products with a matrix are those of its `helmert_common`. Proved equal to
+// specs/Matrix.antt, rounding by rounding, for every number; how exact the sines and cosines are is
+// the crate trig's to say. A crate of its own because steps other than Helmert turn by it too.
 ghost use mathlib.Core.Path.{_≡_};
 ghost use Rattle.rotation.specs.Matrix.{sinesOf, smallOf, firstOrderOf, secondOrderOf, rowsOf, rotationMatrixOf, rotateOf, rotateBackOf};
 
@@ -66,7 +69,8 @@ fn small_sines(r: Vec3) -> Sines
     }
 }
 
-// Leaves out the second order infinitesimals in the rotation matrix elements, as small-angle approximations do.
+// Leaves out the second order infinitesimals in the rotation matrix elements, as small-angle
+// approximations do.
 fn first_order(a: Sines) -> Entries
     ensures { λ r. ⌜ r ≡ firstOrderOf a ⌝ }
 {

@@ -1,17 +1,18 @@
--- What cart, permtide and Molodensky make of one tuple of a list, forward or inverse. Each is made of the step's own definition; nothing is computed here.
+-- What cart, permtide and Molodensky make of one tuple of a list, forward or inverse. Each is made
+-- of the step's own definition; nothing is computed here.
 use mathlib.Core.Bool.{Bool, cond}
 use Rattle.tuple.specs.declared.Tuple.{Tuple}
 use Rattle.tuple.specs.declared.Shifted.{Shifted}
 use Rattle.ellipsoid.specs.Figure.{namedOf}
 use Rattle.cart.specs.declared.Cart.{Cart}
-use Rattle.cart.specs.Step.{cartFwdOf, cartInvOf, inverseOf}
+use Rattle.cart.specs.Step.{cartFwdOf, cartInvOf, inverseFiguresOf}
 use Rattle.permtide.specs.declared.Permtide.{Permtide}
 use Rattle.permtide.specs.Step.{tideOf, fwdOf, invOf}
 use Rattle.molodensky.specs.declared.Molodensky.{Molodensky}
 use Rattle.molodensky.specs.Step.{mopedOf, commonOf}
 use Rattle.helmert.specs.declared.State.{State}
 use Rattle.lists.specs.Run.{Turns}
-use Rattle.helmert_turns.specs.Turns.{allTurns}
+use Rattle.helmert.specs.Turns.{allTurns}
 
 -- a step that sees the tuple alone, and says whether it counts
 abbrev pub plainTurns : (Tuple → Shifted) → Turns State
@@ -21,7 +22,7 @@ plainTurns f k state v = record { state = state; tuple = f v .tuple; counted = f
 
 abbrev pub cartTurns : Bool → Cart → Turns State
 cartTurns inverse r =
-    cond inverse (plainTurns (cartInvOf (inverseOf (namedOf (r .ellipsoid))))) (plainTurns (cartFwdOf (namedOf (r .ellipsoid))))
+    cond inverse (plainTurns (cartInvOf (inverseFiguresOf (namedOf (r .ellipsoid))))) (plainTurns (cartFwdOf (namedOf (r .ellipsoid))))
 
 abbrev pub permtideTurns : Bool → Permtide → Turns State
 permtideTurns inverse r = cond inverse (allTurns (invOf (tideOf r))) (allTurns (fwdOf (tideOf r)))

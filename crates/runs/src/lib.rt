@@ -1,20 +1,21 @@
-// cart, permtide and Molodensky over a lent flat list, written where the list stands: sixteen tuples a turn by the step's block form, and a loop for the fewer
-// than sixteen that are left. Helmert's loops: `helmert_runs`; deformation's: `deformation_runs`.
+// cart, permtide and Molodensky over a lent flat list, written where the list stands: sixteen
+// tuples a turn by the step's block form, and a loop for the fewer than sixteen that are left.
+// Helmert's loops: `helmert_runs`; deformation's: `deformation_runs`.
 //
-// What depends on the record alone is worked out once a list: the ellipsoid, the inverse's constants, the coefficient. Kind and direction are decided before a
-// loop starts. Every function is proved equal, list and count, to the step's own definition from tuple to tuple (specs/Turns.antt over `lists`).
-// Exact: no rounding but the steps' own. Used by the chain.
+// What depends on the record alone is worked out once a list: the ellipsoid, the inverse's
+// constants, the coefficient. Kind and direction are decided before a loop starts. Every function
+// is proved equal, list and count, to the step's own definition from tuple to tuple
+// (specs/Turns.antt over `lists`). Exact: no rounding but the steps' own. Used by the chain.
 ghost use mathlib.Core.Path.{_≡_};
-ghost use mathlib.Core.Bool.{cond};
-ghost use Prim.Native.Nat.{_+_, _<_};
 ghost use Rattle.cart.specs.Step.{cartFwdOf, cartInvOf};
 ghost use Rattle.permtide.specs.Step.{fwdOf, invOf};
 ghost use Rattle.molodensky.specs.Step.{commonOf};
 ghost use Rattle.lists.specs.Run.{ranOf, countOf};
 ghost use Rattle.lists.specs.Sixteen.{turnedOf, takenOf};
-ghost use Rattle.helmert_turns.specs.Turns.{noState, allTurns};
+ghost use Rattle.helmert.specs.Turns.{noState, allTurns};
 ghost use Rattle.runs.specs.Turns.{plainTurns, cartTurns, permtideTurns, molodenskyTurns};
 use blocks::WIDTH;
+use blocks::one_if;
 use cart::Cart;
 use cart::Inverse;
 use ellipsoid::Ellipsoid;
@@ -22,14 +23,6 @@ use molodensky::Molodensky;
 use molodensky::Moped;
 use permtide::Permtide;
 use permtide::Tide;
-
-// One more where a tuple counts.
-fn tally(n: usize, counted: bool) -> usize
-    requires { ⌜ n < 18446744073709551615 ⌝ }
-    ensures { λ r. ⌜ r ≡ n + cond counted 1 0 ⌝ }
-{
-    if counted { n + 1 } else { n }
-}
 
 // ----- cart ------------------------------------------------------------------------------
 
@@ -63,7 +56,7 @@ fn cart_forward(list: &mut [f64], ellps: Ellipsoid) -> usize
     while 4 <= list.len() - i {
         let r = cart::cart_fwd(ellps, lists::read4(list, i));
         lists::write4(list, i, r.tuple);
-        n = tally(n, r.counted);
+        n += one_if(r.counted);
         i += 4;
     }
     n
@@ -98,7 +91,7 @@ fn cart_inverse(list: &mut [f64], k: Inverse) -> usize
     while 4 <= list.len() - i {
         let r = cart::cart_inv(k, lists::read4(list, i));
         lists::write4(list, i, r.tuple);
-        n = tally(n, r.counted);
+        n += one_if(r.counted);
         i += 4;
     }
     n

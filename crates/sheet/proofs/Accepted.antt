@@ -1,4 +1,5 @@
--- What a sheet that breaks no rule keeps, rule by rule, and that this is all that it takes. Assumes nothing.
+-- What a sheet that breaks no rule keeps, rule by rule, and that this is all that it takes. Working
+-- definitions, which no promise cites: `PlaceKept`, `Accepted`. Assumes nothing.
 use mathlib.Core.Path.{_≡_, refl, sym, ap, _∙_, subst}
 use Prim.Native.Nat.{ℕ, zero, suc, _+_, _*_, _<_, _≤_}
 use mathlib.Core.List.{List, [], _∷_, _++_}
@@ -12,7 +13,8 @@ use Rattle.bodies.specs.Kinds.{lengthOf}
 use Rattle.bodies.specs.Rules.{bodyInRule}
 use Rattle.sheet.specs.Layout.{formOf, totalLengthOf, stepCountOf, directoryOffsetOf, kindAt, invertedAt, offsetAt, lengthAt, directoryEnd, bodyAt, stepAt}
 use Rattle.sheet.specs.Rules.{refusal1, refusal2, refusal3, refusal4, refusal5, refusal5At, refusal11, endBefore, placeBroken, invertedBroken, someFrom, fiveToEight, elevens, readerOrder, firstBroken, refusalOf, accepted}
-use Rattle.sheet.proofs.Order.{Kept, all-kept, none-broken, kept-append, kept-left, kept-right, neither, numbered-reader, count-kept}
+use Rattle.sheet.specs.Given.{Unbroken}
+use Rattle.sheet.proofs.Order.{all-kept, none-broken, kept-append, kept-left, kept-right, neither, numbered-reader, count-kept}
 use Rattle.sheet.proofs.Each.{StepKept, each-step, every-step, each-eleven, every-eleven, each-kept, every-kept}
 
 -- a place of the directory in rule
@@ -61,9 +63,9 @@ keep-place s i h =
     )
 
 module _ (s : List ℕ) where
-  from-kept : Kept (readerOrder s) → Accepted s
+  from-kept : Unbroken (readerOrder s) → Accepted s
   unfolding readerOrder refusal1 refusal2 refusal4
-  from-kept (Kept.next a (Kept.next b (Kept.next c (Kept.next d k)))) =
+  from-kept (Unbroken.next a (Unbroken.next b (Unbroken.next c (Unbroken.next d k)))) =
       let n = stepCountOf s in
       let a1 = neither _ _ a in
       let a2 = neither _ _ (a1 .0) in
@@ -90,7 +92,7 @@ module _ (s : List ℕ) where
         one-deformation = λ i h. rw zero-add at (each-eleven (kindAt s) n 0 i second h);
       }
 
-  to-kept : Accepted s → Kept (readerOrder s)
+  to-kept : Accepted s → Unbroken (readerOrder s)
   unfolding readerOrder refusal1 refusal2 refusal3 refusal4
   to-kept h =
       let n = stepCountOf s in
@@ -102,7 +104,7 @@ module _ (s : List ℕ) where
       let three : refusal3 n ≡ false = rw (ne-eqb n 0 some, le-ltb 16 n (h .few-steps)) in
       let four : refusal4 s ≡ false =
       rw (eq-eqb (directoryOffsetOf s) 16 (h .directory), le-ltb (length s) (directoryEnd n) (h .inside), places, eq-eqb (endBefore s n) (totalLengthOf s) ends) in
-      Kept.next one (Kept.next two (Kept.next three (Kept.next four
+      Unbroken.next one (Unbroken.next two (Unbroken.next three (Unbroken.next four
       (kept-append (every-step (refusal5At s) (stepAt s) n 0 (λ i l. rw zero-add (h .steps i l)))
       (every-eleven (kindAt s) n 0 (λ i l. rw zero-add (h .one-deformation i l)))))))
 

@@ -1,4 +1,6 @@
--- The entries of the record that a sheet stands for: filled one after another, blank past the step count, each as `entryAt` says. Assumes nothing.
+-- The entries of the record that a sheet stands for: filled one after another, blank past the step
+-- count, each as `entryAt` says. Working definition, which no promise cites: `filled`. Assumes
+-- nothing.
 use mathlib.Core.Path.{_≡_, refl, sym, ap, _∙_}
 use Prim.Native.Nat.{ℕ, zero, suc, _+_, _-_, _≤_, _<_}
 use mathlib.Core.List.{List, [], _∷_, _++_, append-assoc}

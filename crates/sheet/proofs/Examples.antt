@@ -1,4 +1,5 @@
--- Known sheets, evaluated: document 01's marked points P1, P7, P11 and P12, by the reader's and the writer's rules. Assumes nothing.
+-- Known sheets, evaluated: document 01's marked points P1, P7, P11 and P12, by the reader's and the
+-- writer's rules. Assumes nothing.
 use mathlib.Core.Path.{_≡_, refl}
 use mathlib.Core.List.{List, [], _∷_, _++_}
 use Prim.Native.Nat.{ℕ, zero, suc}
@@ -12,7 +13,7 @@ use Rattle.helmert.specs.Rules.{fieldsInRuleOf, vectorsFiniteOf, scalesFiniteOf
 use Rattle.helmert.specs.Units.{parametersOf, winnerOf, lengthsOf, anglesOf}
 use lib.Ieee.{ofBits, isNan, ne, mul, div}
 use Rattle.sheet.specs.Layout.{bodyAt}
-use Rattle.sheet.specs.Rules.{refusal1, refusal2, refusal3, refusal4, refusal5, endBefore, placeBroken, someFrom, deformationBefore, refusal11, rulesOfStep, fiveToEight, elevens, readerOrder, firstBroken, accepted, ofSheet, ofStep, refusalOf}
+use Rattle.sheet.specs.Rules.{refusal1, refusal2, refusal3, refusal4, refusal5, endBefore, placeBroken, someFrom, hasDeformation, refusal11, rulesOfStep, fiveToEight, elevens, readerOrder, firstBroken, accepted, ofCall, ofStep, refusalOf}
 
 -- a sheet's bytes, given as words
 bytes : List ℕ → List ℕ
@@ -24,12 +25,12 @@ pub p1 : List ℕ
 p1 = bytes (1 ∷ 40 ∷ 1 ∷ 16 ∷ 2 ∷ 0 ∷ 32 ∷ 8 ∷ 1 ∷ 0 ∷ [])
 
 pub P1-is-read : refusalOf p1 ≡ accepted
-unfolding p1 bytes word32 word64 numberAt oneNanAt le32 lengthOf bodyAt stepOf vec3At helmertOf cartOf stepInRule lacksConvention lacksEpoch lacksDuration writtenInRule bodyInRule fieldsInRuleOf vectorsFiniteOf scalesFiniteOf finite3Of timeOf lacksConventionOf lacksEpochOf rotatedOf dynamicOf someOf parametersOf winnerOf lengthsOf anglesOf refusal1 refusal2 refusal3 refusal4 refusal5 endBefore placeBroken someFrom deformationBefore refusal11 rulesOfStep fiveToEight elevens readerOrder firstBroken refusalOf
+unfolding p1 bytes word32 word64 numberAt oneNanAt le32 lengthOf bodyAt stepOf vec3At helmertOf cartOf stepInRule lacksConvention lacksEpoch lacksDuration writtenInRule bodyInRule fieldsInRuleOf vectorsFiniteOf scalesFiniteOf finite3Of timeOf lacksConventionOf lacksEpochOf rotatedOf dynamicOf someOf parametersOf winnerOf lengthsOf anglesOf refusal1 refusal2 refusal3 refusal4 refusal5 endBefore placeBroken someFrom hasDeformation refusal11 rulesOfStep fiveToEight elevens readerOrder firstBroken refusalOf
 P1-is-read = refl
 
 -- P7: P1's sheet cut by a byte
-pub P7-is-refused-by-1 : refusalOf (take 39 p1) ≡ ofSheet 1
-unfolding p1 bytes word32 word64 numberAt oneNanAt le32 lengthOf bodyAt stepOf vec3At helmertOf cartOf stepInRule lacksConvention lacksEpoch lacksDuration writtenInRule bodyInRule fieldsInRuleOf vectorsFiniteOf scalesFiniteOf finite3Of timeOf lacksConventionOf lacksEpochOf rotatedOf dynamicOf someOf parametersOf winnerOf lengthsOf anglesOf refusal1 refusal2 refusal3 refusal4 refusal5 endBefore placeBroken someFrom deformationBefore refusal11 rulesOfStep fiveToEight elevens readerOrder firstBroken refusalOf
+pub P7-is-refused-by-1 : refusalOf (take 39 p1) ≡ ofCall 1
+unfolding p1 bytes word32 word64 numberAt oneNanAt le32 lengthOf bodyAt stepOf vec3At helmertOf cartOf stepInRule lacksConvention lacksEpoch lacksDuration writtenInRule bodyInRule fieldsInRuleOf vectorsFiniteOf scalesFiniteOf finite3Of timeOf lacksConventionOf lacksEpochOf rotatedOf dynamicOf someOf parametersOf winnerOf lengthsOf anglesOf refusal1 refusal2 refusal3 refusal4 refusal5 endBefore placeBroken someFrom hasDeformation refusal11 rulesOfStep fiveToEight elevens readerOrder firstBroken refusalOf
 P7-is-refused-by-1 = refl
 
 -- P11: Helmert, rx = 1, no convention
@@ -45,7 +46,7 @@ p11 =
     ∷ 0 ∷ 0 ∷ 0 ∷ 0 ∷ 0 ∷ 0 ∷ 0 ∷ 0x7ff80000 ∷ 0 ∷ 0x7ff80000 ∷ [])
 
 pub P11-is-refused-by-6 : refusalOf p11 ≡ ofStep 6 0
-unfolding p11 bytes word32 word64 numberAt oneNanAt le32 lengthOf bodyAt stepOf vec3At helmertOf cartOf stepInRule lacksConvention lacksEpoch lacksDuration writtenInRule bodyInRule fieldsInRuleOf vectorsFiniteOf scalesFiniteOf finite3Of timeOf lacksConventionOf lacksEpochOf rotatedOf dynamicOf someOf parametersOf winnerOf lengthsOf anglesOf refusal1 refusal2 refusal3 refusal4 refusal5 endBefore placeBroken someFrom deformationBefore refusal11 rulesOfStep fiveToEight elevens readerOrder firstBroken refusalOf isNan ofBits ne mul div
+unfolding p11 bytes word32 word64 numberAt oneNanAt le32 lengthOf bodyAt stepOf vec3At helmertOf cartOf stepInRule lacksConvention lacksEpoch lacksDuration writtenInRule bodyInRule fieldsInRuleOf vectorsFiniteOf scalesFiniteOf finite3Of timeOf lacksConventionOf lacksEpochOf rotatedOf dynamicOf someOf parametersOf winnerOf lengthsOf anglesOf refusal1 refusal2 refusal3 refusal4 refusal5 endBefore placeBroken someFrom hasDeformation refusal11 rulesOfStep fiveToEight elevens readerOrder firstBroken refusalOf isNan ofBits ne mul div
 P11-is-refused-by-6 = refl
 
 -- P12: Helmert, dx = 1, no epoch
@@ -61,5 +62,5 @@ p12 =
     ∷ 0 ∷ 0 ∷ 0 ∷ 0 ∷ 0 ∷ 0 ∷ 0 ∷ 0x7ff80000 ∷ 0 ∷ 0x7ff80000 ∷ [])
 
 pub P12-is-refused-by-7 : refusalOf p12 ≡ ofStep 7 0
-unfolding p12 bytes word32 word64 numberAt oneNanAt le32 lengthOf bodyAt stepOf vec3At helmertOf cartOf stepInRule lacksConvention lacksEpoch lacksDuration writtenInRule bodyInRule fieldsInRuleOf vectorsFiniteOf scalesFiniteOf finite3Of timeOf lacksConventionOf lacksEpochOf rotatedOf dynamicOf someOf parametersOf winnerOf lengthsOf anglesOf refusal1 refusal2 refusal3 refusal4 refusal5 endBefore placeBroken someFrom deformationBefore refusal11 rulesOfStep fiveToEight elevens readerOrder firstBroken refusalOf isNan ofBits ne mul div
+unfolding p12 bytes word32 word64 numberAt oneNanAt le32 lengthOf bodyAt stepOf vec3At helmertOf cartOf stepInRule lacksConvention lacksEpoch lacksDuration writtenInRule bodyInRule fieldsInRuleOf vectorsFiniteOf scalesFiniteOf finite3Of timeOf lacksConventionOf lacksEpochOf rotatedOf dynamicOf someOf parametersOf winnerOf lengthsOf anglesOf refusal1 refusal2 refusal3 refusal4 refusal5 endBefore placeBroken someFrom hasDeformation refusal11 rulesOfStep fiveToEight elevens readerOrder firstBroken refusalOf isNan ofBits ne mul div
 P12-is-refused-by-7 = refl

@@ -29,21 +29,25 @@ directoryOffsetOf s = word32 s 12
 
 -- ---- directory, 16 bytes a step: kind; inverted; body offset; body length
 
+-- where the entry of step i begins, after the header's 16 bytes
+abbrev pub entryOffset : ℕ → ℕ
+entryOffset i = 16 + 16 * i
+
 abbrev pub kindAt : List ℕ → ℕ → ℕ
-kindAt s i = word32 s (16 + 16 * i)
+kindAt s i = word32 s (entryOffset i)
 
 abbrev pub invertedAt : List ℕ → ℕ → ℕ
-invertedAt s i = word32 s (16 + 16 * i + 4)
+invertedAt s i = word32 s (entryOffset i + 4)
 
 abbrev pub offsetAt : List ℕ → ℕ → ℕ
-offsetAt s i = word32 s (16 + 16 * i + 8)
+offsetAt s i = word32 s (entryOffset i + 8)
 
 abbrev pub lengthAt : List ℕ → ℕ → ℕ
-lengthAt s i = word32 s (16 + 16 * i + 12)
+lengthAt s i = word32 s (entryOffset i + 12)
 
 -- where the directory of n steps ends, and the first body starts
 abbrev pub directoryEnd : ℕ → ℕ
-directoryEnd n = 16 + 16 * n
+directoryEnd n = entryOffset n
 
 -- ---- bodies
 

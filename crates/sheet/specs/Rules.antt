@@ -1,5 +1,7 @@
--- The rules of the sheet by document 01's numbers. `refusalN` says when refusal N is given: its rule is broken.
--- The order in which they are asked stands in `readerOrder`; an answer is the first that is broken. A record's rules and the writer's order stand in sheet_writer.
+-- The rules of the sheet by document 01's numbers: `refusal1` to `refusal8` and `refusal11` say
+-- when the rule of that number is broken. The order in which they are asked stands in
+-- `readerOrder`; an answer is the first that is broken. A record's rules and the writer's order
+-- stand in sheet_writer.
 use Prim.Native.Nat.{ℕ, zero, suc, _+_}
 use mathlib.Core.List.{List, [], _∷_, _++_}
 use mathlib.Core.Bool.{Bool, false, not, cond, _&&_, _||_}
@@ -35,7 +37,8 @@ endBefore s (suc i) = offsetAt s i + lengthAt s i
 abbrev pub invertedBroken : ℕ → Bool
 invertedBroken inverted = ltb 1 inverted
 
--- a kind, inverted word or body length outside its rule, or an offset not where the body before it ends
+-- a kind, inverted word or body length outside its rule, or an offset not where the body before it
+-- ends
 unfoldable pub placeBroken : List ℕ → ℕ → Bool
 placeBroken s i =
     eqb (lengthOf (kindAt s i)) 0
@@ -48,7 +51,8 @@ unfoldable pub someFrom : (ℕ → Bool) → ℕ → ℕ → Bool
 someFrom broken zero i = false
 someFrom broken (suc k) i = broken i || someFrom broken k (i + 1)
 
--- directory offset not 16, a directory outside the sheet, a place of it out of rule, or bodies not ending at the total length
+-- directory offset not 16, a directory outside the sheet, a place of it out of rule, or bodies not
+-- ending at the total length
 unfoldable pub refusal4 : List ℕ → Bool
 refusal4 s =
     not (eqb (directoryOffsetOf s) 16)
@@ -79,13 +83,13 @@ abbrev pub refusal8 : Step → Bool
 refusal8 step = lacksDuration step
 
 -- whether a step before step i is a deformation step, by the steps' kinds
-unfoldable pub deformationBefore : (ℕ → ℕ) → ℕ → Bool
-deformationBefore kind zero = false
-deformationBefore kind (suc i) = deformationBefore kind i || eqb (kind i) 5
+unfoldable pub hasDeformation : (ℕ → ℕ) → ℕ → Bool
+hasDeformation kind zero = false
+hasDeformation kind (suc i) = hasDeformation kind i || eqb (kind i) 5
 
 -- second deformation step: a deformation step after another; the first such is the second one
 unfoldable pub refusal11 : (ℕ → ℕ) → ℕ → Bool
-refusal11 kind i = eqb (kind i) 5 && deformationBefore kind i
+refusal11 kind i = eqb (kind i) 5 && hasDeformation kind i
 
 -- ---- the order
 
@@ -98,13 +102,17 @@ pub record Rule : Type 0 where
 abbrev pub accepted : Refusal
 accepted = record { number = 0; step = 0 }
 
--- of the sheet as a whole: step 0
-abbrev pub ofSheet : ℕ → Refusal
-ofSheet number = record { number = number; step = 0 }
+-- of the call as a whole: step 0
+abbrev pub ofCall : ℕ → Refusal
+ofCall number = record { number = number; step = 0 }
 
 -- of step i, which is answered from 1
 abbrev pub ofStep : ℕ → ℕ → Refusal
 ofStep number i = record { number = number; step = i + 1 }
+
+-- the same of any index: past 15, where no sheet has a step, of the call
+unfoldable pub ofIndex : ℕ → ℕ → Refusal
+ofIndex number i = cond (ltb i 16) (ofStep number i) (ofCall number)
 
 abbrev pub rule : Refusal → Bool → Rule
 rule answer broken = record { answer = answer; broken = broken }
@@ -127,10 +135,10 @@ elevens kind (suc k) i = rule (ofStep 11 i) (refusal11 kind i) ∷ elevens kind 
 -- the reader's order: 1, 2, 3, 4; then step by step 5 to 8; then 11
 unfoldable pub readerOrder : List ℕ → List Rule
 readerOrder s =
-    rule (ofSheet 1) (refusal1 s)
-    ∷ rule (ofSheet 2) (refusal2 s)
-    ∷ rule (ofSheet 3) (refusal3 (stepCountOf s))
-    ∷ rule (ofSheet 4) (refusal4 s)
+    rule (ofCall 1) (refusal1 s)
+    ∷ rule (ofCall 2) (refusal2 s)
+    ∷ rule (ofCall 3) (refusal3 (stepCountOf s))
+    ∷ rule (ofCall 4) (refusal4 s)
     ∷ (fiveToEight (refusal5At s) (stepAt s) (stepCountOf s) 0
     ++ elevens (kindAt s) (stepCountOf s) 0)
 

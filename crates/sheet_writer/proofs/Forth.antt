@@ -1,4 +1,5 @@
--- A record that the writer accepts is read back, step by step, from the bytes that it is written as. Assumes nothing.
+-- A record that the writer accepts is read back, step by step, from the bytes that it is written
+-- as. Working definition, which no promise cites: `Taken`. Assumes nothing.
 use mathlib.Core.Path.{_≡_, sym, ap, _∙_}
 use Prim.Native.Nat.{ℕ, zero, suc, _+_, _*_, _-_, _^_, _<_, _≤_}
 use mathlib.Core.List.{List, [], _++_, append-nil, append-assoc}
@@ -24,7 +25,8 @@ use Rattle.sheet.specs.Layout.{formOf, totalLengthOf, stepCountOf, directoryOff
 use Rattle.sheet_writer.specs.Bytes.{lengthIn, bodyStart, sheetLength, headerBytes, placeBytes, directoryBytes, bodiesBytes, sheetBytesOf}
 use Rattle.sheet.specs.Rules.{endBefore, refusal5, refusal5At, refusal6, refusal7, refusal8, refusal11, fiveToEight, elevens}
 use Rattle.sheet_writer.specs.Rules.{recordRefusal4, recordRefusal5, invertedBrokenIn, writerOrder, writerRefusalOf}
-use Rattle.sheet.proofs.Order.{Kept, all-kept, kept-left, kept-right, count-kept}
+use Rattle.sheet.specs.Given.{Unbroken}
+use Rattle.sheet.proofs.Order.{all-kept, kept-left, kept-right, count-kept}
 use Rattle.sheet_writer.proofs.WriterOrder.{numbered-writer, last}
 use Rattle.sheet.proofs.Each.{StepKept, each-step, each-eleven, each-kept, eleven-same}
 use Rattle.sheet_writer.proofs.Writing.{length-small, start-small, bodies-length, place-length, directory-length, header-length, sheet-bytes-length}
@@ -84,9 +86,9 @@ pub record Taken (sheet : Sheet) : Type 0 where
   pub steps : (i : ℕ) → i < sheet .count → StepKept (recordRefusal5 sheet i) (stepIn sheet i)
   pub one-deformation : (i : ℕ) → i < sheet .count → refusal11 (kindIn sheet) i ≡ false
 
-from-kept : (sheet : Sheet) (room : ℕ) → Kept (writerOrder sheet room) → Taken sheet
+from-kept : (sheet : Sheet) (room : ℕ) → Unbroken (writerOrder sheet room) → Taken sheet
 unfolding writerOrder recordRefusal4
-from-kept sheet room (Kept.next a (Kept.next b k)) =
+from-kept sheet room (Unbroken.next a (Unbroken.next b k)) =
     let n = sheet .count in
     let five = fiveToEight (recordRefusal5 sheet) (stepIn sheet) n 0 in
     let eleven = elevens (kindIn sheet) n 0 in

@@ -1,5 +1,6 @@
--- What is true of sheets as they are written, for callers to cite: a refusal is given exactly when its rule is broken and none before it; what is read and
--- written again is the same bytes; what is written and read is the same record; a sheet is read in one way only. Assumes nothing.
+-- What is true of sheets as they are written, for callers to cite: a refusal is given exactly when
+-- its rule is broken and none before it; what is read and written again is the same bytes; what is
+-- written and read is the same record; a sheet is read in one way only. Assumes nothing.
 use mathlib.Core.Path.{_≡_, sym, ap, _∙_}
 use mathlib.Core.Logic.{_↔_}
 use Prim.Native.Nat.{ℕ, _<_, _≤_}
@@ -12,22 +13,23 @@ use lib.ListN.{length, take}
 use lib.Seq.{take-at}
 use Rattle.words.specs.Words.{Bytes, put}
 use Rattle.bodies.specs.Rules.{stepInRule}
-use Rattle.bodies.specs.Held.{Held}
 use Rattle.bodies.proofs.Laws.{step-of-body-in-rule}
 use Rattle.sheet.specs.declared.Refusal.{Refusal}
 use Rattle.sheet.specs.declared.Sheet.{Sheet}
 use Rattle.sheet.specs.Layout.{stepCountOf, kindAt, bodyAt, recordOf, entryOf, stepIn, kindIn}
 use Rattle.sheet_writer.specs.Bytes.{sheetLength, sheetBytesOf}
-use Rattle.sheet.specs.Rules.{accepted, firstBroken, refusalOf, refusal3, refusal6, refusal7, refusal8, refusal11, fiveToEight, elevens}
-use Rattle.sheet_writer.specs.Rules.{writerOrder, writerRefusalOf, writtenOf, recordRefusal4, recordRefusal5, refusal15, invertedBrokenIn}
-use Rattle.sheet.proofs.Order.{Kept, none-broken, kept-append}
+use Rattle.sheet.specs.Rules.{accepted, refusalOf, refusal3, refusal6, refusal7, refusal8, refusal11, fiveToEight, elevens}
+use Rattle.sheet_writer.specs.Rules.{writerOrder, writerRefusalOf, roomAfterOf, recordRefusal4, recordRefusal5, refusal15, invertedBrokenIn}
+use Rattle.sheet.specs.Given.{Unbroken, FirstBroken}
+use Rattle.sheet.proofs.Order.{none-broken, kept-append}
 use Rattle.sheet.proofs.Each.{StepKept, every-step, every-eleven, every-kept, eleven-same}
 use Rattle.sheet.proofs.Accepted.{Accepted, accepted-keeps, keeps-accepted, body-kept}
+use Rattle.sheet_writer.specs.SameSheet.{HeldSheet, SameSheet}
 use Rattle.sheet_writer.proofs.Forth.{taken, count-back, accepted-back, entry-back}
 use Rattle.sheet_writer.proofs.Writing.{sheet-bytes-length}
 use Rattle.sheet.proofs.Back.{record-count, count-same, entry-same, step-same, inverted-same, kind-same}
 use Rattle.sheet_writer.proofs.SameBytes.{sheet-length-same, bytes-same}
-use Rattle.sheet.proofs.Laws.{FirstBroken, find, give}
+use Rattle.sheet.proofs.Laws.{first-broken-exactly-when}
 
 -- ---- given exactly when
 
@@ -35,10 +37,7 @@ use Rattle.sheet.proofs.Laws.{FirstBroken, find, give}
 pub writer-gives-exactly-when : (sheet : Sheet) (room : ℕ) (r : Refusal) → (r .number ≡ 0 → ⊥)
     → (writerRefusalOf sheet room ≡ r) ↔ FirstBroken (writerOrder sheet room) r
 unfolding writerRefusalOf
-writer-gives-exactly-when sheet room r h = (
-  find (writerOrder sheet room) r h,
-  λ f. ap firstBroken (f .in-order) ∙ give (f .before) (f .its-rule) (f .after) (f .kept-before) (f .is-broken) ∙ f .answers,
-)
+writer-gives-exactly-when sheet room r h = first-broken-exactly-when (writerOrder sheet room) r h
 
 -- ---- read, then written
 
@@ -89,31 +88,23 @@ module _ (s : List ℕ) (bytes : Bytes s) (e : refusalOf s ≡ accepted) where
   unfolding writerRefusalOf writerOrder
   writer-takes-what-was-read room h =
       let r = recordOf s in
-      let steps : Kept (fiveToEight (recordRefusal5 r) (stepIn r) (r .count) 0) =
+      let steps : Unbroken (fiveToEight (recordRefusal5 r) (stepIn r) (r .count) 0) =
       every-step (recordRefusal5 r) (stepIn r) (r .count) 0 (λ i l. rw zero-add (takes-step i (omega (arith, count)))) in
-      let second : Kept (elevens (kindIn r) (r .count) 0) =
+      let second : Unbroken (elevens (kindIn r) (r .count) 0) =
       every-eleven (kindIn r) (r .count) 0 (λ i l. rw zero-add (takes-eleven i (omega (arith, count)))) in
       none-broken (writerOrder r room)
-      (Kept.next takes-three (Kept.next takes-four (kept-append steps (kept-append second (Kept.next (takes-room room h) Kept.none)))))
+      (Unbroken.next takes-three (Unbroken.next takes-four (kept-append steps (kept-append second (Unbroken.next (takes-room room h) Unbroken.none)))))
 
   -- and gives the same bytes
-  pub read-then-written : (room : List ℕ) → length s ≤ length room → writtenOf (recordOf s) room ≡ put room 0 s
-  unfolding writtenOf
+  pub read-then-written : (room : List ℕ) → length s ≤ length room → roomAfterOf (recordOf s) room ≡ put room 0 s
+  unfolding roomAfterOf
   read-then-written room h =
       rw (writer-takes-what-was-read (length room) h) (ap (put room 0) (bytes-same s bytes ok))
 
 -- ---- written, then read
 
--- what every record in memory meets: a theorem over records takes it as its premise
-abbrev pub HeldSheet : Sheet → Type 0
-HeldSheet sheet = (i : ℕ) → i < sheet .count → Held (stepIn sheet i)
-
--- the same record up to its step count
-pub record SameSheet (a b : Sheet) : Type 0 where
-  pub same-count : a .count ≡ b .count
-  pub same-entries : (i : ℕ) → i < b .count → entryOf a i ≡ entryOf b i
-
--- a record that the writer takes is read back: every field of every step, -0 and "not given" among them
+-- a record that the writer takes is read back: every field of every step, -0 and "not given" among
+-- them
 pub written-then-read : (sheet : Sheet) (room : ℕ) → HeldSheet sheet → writerRefusalOf sheet room ≡ accepted
     → (refusalOf (sheetBytesOf sheet) ≡ accepted) × SameSheet (recordOf (sheetBytesOf sheet)) sheet
 written-then-read sheet room held e =
@@ -127,8 +118,8 @@ written-then-read sheet room held e =
 
 -- the room then starts with those bytes
 pub room-starts-with-the-sheet : (sheet : Sheet) (room : List ℕ) → writerRefusalOf sheet (length room) ≡ accepted
-    → take (sheetLength sheet) (writtenOf sheet room) ≡ sheetBytesOf sheet
-unfolding writtenOf put
+    → take (sheetLength sheet) (roomAfterOf sheet room) ≡ sheetBytesOf sheet
+unfolding roomAfterOf put
 room-starts-with-the-sheet sheet room e = rw e (take-at (sheetBytesOf sheet) _ (sheetLength sheet) (sheet-bytes-length sheet))
 
 -- ---- read in one way only

@@ -1,4 +1,5 @@
--- The writer's order, as `check_record` goes through it. Assumes nothing.
+-- The writer's order, as `check_record` goes through it. Working definitions, which no promise
+-- cites: `last`, `after`. Assumes nothing.
 use mathlib.Core.Path.{_≡_, sym, ap, _∙_}
 use Prim.Native.Nat.{ℕ, _≤_}
 use mathlib.Core.List.{List, [], _∷_, _++_}
@@ -8,33 +9,34 @@ use Rattle.sheet.specs.declared.Refusal.{Refusal}
 use Rattle.sheet.specs.declared.Sheet.{Sheet}
 use Rattle.sheet.specs.Layout.{stepIn, kindIn}
 use Rattle.sheet_writer.specs.Bytes.{sheetLength}
-use Rattle.sheet.specs.Rules.{Rule, rule, ofSheet, accepted, firstBroken, fiveToEight, elevens, refusal3}
+use Rattle.sheet.specs.Rules.{Rule, rule, ofCall, accepted, firstBroken, fiveToEight, elevens, refusal3}
 use Rattle.sheet_writer.specs.Rules.{recordRefusal4, recordRefusal5, refusal15, writerOrder, writerRefusalOf}
-use Rattle.sheet.proofs.Order.{Numbered, not-zero, numbered-append, numbered-steps, numbered-elevens, kept-then, broken-first, Kept, all-kept, kept-right, count-kept}
+use Rattle.sheet.specs.Given.{Unbroken}
+use Rattle.sheet.proofs.Order.{Without, Numbered, not-zero, without-append, numbered-steps, numbered-elevens, kept-then, broken-first, all-kept, kept-right, count-kept}
 
 -- after step by step 5 to 8 and 11: 15
 abbrev pub last : Sheet → ℕ → List Rule
-last sheet room = rule (ofSheet 15) (refusal15 sheet room) ∷ []
+last sheet room = rule (ofCall 15) (refusal15 sheet room) ∷ []
 
 -- 5 to 8 of n steps, 11, then 15
 abbrev pub after : Sheet → ℕ → ℕ → List Rule
 after sheet room n = fiveToEight (recordRefusal5 sheet) (stepIn sheet) n 0 ++ (elevens (kindIn sheet) n 0 ++ last sheet room)
 
 module _ (sheet : Sheet) (room : ℕ) where
-  pub writer-three : refusal3 (sheet .count) ≡ true → writerRefusalOf sheet room ≡ ofSheet 3
+  pub writer-three : refusal3 (sheet .count) ≡ true → writerRefusalOf sheet room ≡ ofCall 3
   unfolding writerRefusalOf writerOrder firstBroken
   writer-three e = rw e
 
-  pub writer-four : refusal3 (sheet .count) ≡ false → recordRefusal4 sheet ≡ true → writerRefusalOf sheet room ≡ ofSheet 4
+  pub writer-four : refusal3 (sheet .count) ≡ false → recordRefusal4 sheet ≡ true → writerRefusalOf sheet room ≡ ofCall 4
   unfolding writerRefusalOf writerOrder firstBroken
   writer-four e h = rw (e, h)
 
   pub numbered-writer : Numbered (writerOrder sheet room)
   unfolding writerOrder
   numbered-writer =
-      Numbered.next (not-zero 2) (Numbered.next (not-zero 3)
-      (numbered-append (numbered-steps (recordRefusal5 sheet) (stepIn sheet) (sheet .count) 0)
-      (numbered-append (numbered-elevens (kindIn sheet) (sheet .count) 0) (Numbered.next (not-zero 14) Numbered.none))))
+      Without.next (λ b. not-zero 2) (Without.next (λ b. not-zero 3)
+      (without-append (numbered-steps (recordRefusal5 sheet) (stepIn sheet) (sheet .count) 0)
+      (without-append (numbered-elevens (kindIn sheet) (sheet .count) 0) (Without.next (λ b. not-zero 14) Without.none))))
 
   module _ (kept3 : refusal3 (sheet .count) ≡ false) (kept4 : recordRefusal4 sheet ≡ false) (n : ℕ) (count : n ≡ sheet .count) where
     passed : writerRefusalOf sheet room ≡ firstBroken (after sheet room (sheet .count))
@@ -67,7 +69,7 @@ module _ (sheet : Sheet) (room : ℕ) where
           elevens-kept g =
               steps-kept ∙ kept-then (elevens (kindIn sheet) n 0) (last sheet room) (numbered-elevens (kindIn sheet) n 0) (rw second at g)
 
-          pub writer-short : q .number ≡ 0 → refusal15 sheet room ≡ true → writerRefusalOf sheet room ≡ ofSheet 15
+          pub writer-short : q .number ≡ 0 → refusal15 sheet room ≡ true → writerRefusalOf sheet room ≡ ofCall 15
           unfolding firstBroken
           writer-short g e = elevens-kept g ∙ rw e
 
@@ -75,16 +77,16 @@ module _ (sheet : Sheet) (room : ℕ) where
           unfolding firstBroken
           writer-accepts g e = elevens-kept g ∙ rw e
 
-kept-three : (sheet : Sheet) (room : ℕ) → Kept (writerOrder sheet room) → refusal3 (sheet .count) ≡ false
+kept-three : (sheet : Sheet) (room : ℕ) → Unbroken (writerOrder sheet room) → refusal3 (sheet .count) ≡ false
 unfolding writerOrder
-kept-three sheet room (Kept.next a k) = a
+kept-three sheet room (Unbroken.next a k) = a
 
-only : {r : Rule} → Kept (r ∷ []) → r .broken ≡ false
-only (Kept.next a k) = a
+only : {r : Rule} → Unbroken (r ∷ []) → r .broken ≡ false
+only (Unbroken.next a k) = a
 
-kept-last : (sheet : Sheet) (room : ℕ) → Kept (writerOrder sheet room) → refusal15 sheet room ≡ false
+kept-last : (sheet : Sheet) (room : ℕ) → Unbroken (writerOrder sheet room) → refusal15 sheet room ≡ false
 unfolding writerOrder
-kept-last sheet room (Kept.next a (Kept.next b k)) =
+kept-last sheet room (Unbroken.next a (Unbroken.next b k)) =
     only (kept-right (elevens (kindIn sheet) (sheet .count) 0) (last sheet room)
     (kept-right (fiveToEight (recordRefusal5 sheet) (stepIn sheet) (sheet .count) 0) (elevens (kindIn sheet) (sheet .count) 0 ++ last sheet room) k))
 

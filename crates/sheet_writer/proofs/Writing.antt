@@ -1,4 +1,5 @@
--- The bytes of a record as the writer's loops meet them: where each part starts, how long it is, and a turn of each loop. Assumes nothing.
+-- The bytes of a record as the writer's loops meet them: where each part starts, how long it is,
+-- and a turn of each loop. Assumes nothing.
 use mathlib.Core.Path.{_≡_, refl}
 use Prim.Native.Nat.{ℕ, zero, suc, _+_, _*_, _-_, _≤_, _<_}
 use mathlib.Core.List.{List, _++_}

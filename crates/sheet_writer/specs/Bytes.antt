@@ -1,4 +1,5 @@
--- A sheet as it is written: the bytes of a record. Header; directory, 16 bytes a step; bodies without gaps, in order.
+-- A sheet as it is written: the bytes of a record. Header; directory, 16 bytes a step; bodies
+-- without gaps, in order.
 use Prim.Native.Nat.{ℕ, zero, suc, _+_}
 use mathlib.Core.List.{List, [], _++_}
 use Rattle.words.specs.Words.{le32}
@@ -11,7 +12,8 @@ use Rattle.sheet.specs.Layout.{directoryEnd, entryOf, stepIn, kindIn}
 abbrev pub lengthIn : Sheet → ℕ → ℕ
 lengthIn sheet i = lengthOf (kindIn sheet i)
 
--- where step i's body starts: the first where the directory ends, each other where the body before it ends
+-- where step i's body starts: the first where the directory ends, each other where the body before
+-- it ends
 unfoldable pub bodyStart : Sheet → ℕ → ℕ
 bodyStart sheet zero = directoryEnd (sheet .count)
 bodyStart sheet (suc i) = bodyStart sheet i + lengthIn sheet i

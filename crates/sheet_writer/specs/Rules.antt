@@ -1,4 +1,5 @@
--- The rules of a record by document 01's numbers, as the writer asks them. The order stands in `writerOrder`; an answer is the first that is broken.
+-- The rules of a record by document 01's numbers, as the writer asks them. The order stands in
+-- `writerOrder`; an answer is the first that is broken.
 use Prim.Native.Nat.{ℕ}
 use mathlib.Core.List.{List, [], _∷_, _++_}
 use mathlib.Core.Bool.{Bool, not, cond}
@@ -10,7 +11,7 @@ use Rattle.sheet.specs.declared.Refusal.{Refusal}
 use Rattle.sheet.specs.declared.Sheet.{Sheet}
 use Rattle.sheet.specs.Layout.{entryOf, stepIn, kindIn}
 use Rattle.sheet_writer.specs.Bytes.{sheetLength, sheetBytesOf}
-use Rattle.sheet.specs.Rules.{Rule, invertedBroken, someFrom, rule, ofSheet, fiveToEight, elevens, firstBroken, refusal3}
+use Rattle.sheet.specs.Rules.{Rule, invertedBroken, someFrom, rule, ofCall, fiveToEight, elevens, firstBroken, refusal3}
 
 abbrev pub invertedBrokenIn : Sheet → ℕ → Bool
 invertedBrokenIn sheet i = invertedBroken (entryOf sheet i .inverted)
@@ -32,11 +33,11 @@ refusal15 sheet room = ltb room (sheetLength sheet)
 -- the writer's order: 3; inverted words by 4; then step by step 5 to 8; 11; then 15
 unfoldable pub writerOrder : Sheet → ℕ → List Rule
 writerOrder sheet room =
-    rule (ofSheet 3) (refusal3 (sheet .count))
-    ∷ rule (ofSheet 4) (recordRefusal4 sheet)
+    rule (ofCall 3) (refusal3 (sheet .count))
+    ∷ rule (ofCall 4) (recordRefusal4 sheet)
     ∷ (fiveToEight (recordRefusal5 sheet) (stepIn sheet) (sheet .count) 0
     ++ (elevens (kindIn sheet) (sheet .count) 0
-    ++ (rule (ofSheet 15) (refusal15 sheet room) ∷ [])))
+    ++ (rule (ofCall 15) (refusal15 sheet room) ∷ [])))
 
 -- ---- the answers
 
@@ -44,6 +45,7 @@ writerOrder sheet room =
 unfoldable pub writerRefusalOf : Sheet → ℕ → Refusal
 writerRefusalOf sheet room = firstBroken (writerOrder sheet room)
 
--- the room afterwards: the sheet's bytes at its start and nothing after them touched; on refusal what it held
-unfoldable pub writtenOf : Sheet → List ℕ → List ℕ
-writtenOf sheet room = cond (eqb (writerRefusalOf sheet (length room) .number) 0) (put room 0 (sheetBytesOf sheet)) room
+-- the room afterwards: the sheet's bytes at its start and nothing after them touched; on refusal
+-- what it held
+unfoldable pub roomAfterOf : Sheet → List ℕ → List ℕ
+roomAfterOf sheet room = cond (eqb (writerRefusalOf sheet (length room) .number) 0) (put room 0 (sheetBytesOf sheet)) room

@@ -1,40 +1,27 @@
 // The sheet's writer: a record's rules, and its bytes written into lent room.
 //
-// The layout and the rules are document 01's, "The sheet" and "Numbers of refusal"; the writer's order of refusals stands in specs/Rules.antt once, the bytes
-// in specs/Bytes.antt. Every function answers for every input exactly as its definition says (proved). Proved besides, over whole sheets of any kinds: what is
-// read and written again is the same bytes, what is written and read is the same record, and no two sheets read alike. Exact: no number changes. A record is
-// 4 kB, so pass it on once. Used by whoever makes a sheet, and by the chain over a record that is already read.
+// The layout and the rules are document 01's, "The sheet" and "Numbers of refusal"; the writer's
+// order of refusals stands in specs/Rules.antt once, the bytes in specs/Bytes.antt. Every function
+// answers for every input exactly as its definition says (proved). Proved besides, over whole
+// sheets of any kinds: what is read and written again is the same bytes, what is written and read
+// is the same record, and no two sheets read alike. Exact: no number changes. A record is 4 kB, so
+// pass it on once. Used by whoever makes a sheet, and by the chain over a record that is already
+// read.
 ghost use mathlib.Core.Path.{_≡_};
-ghost use Prim.Native.Nat.{_+_, _*_, _<_, _≤_};
+ghost use Prim.Native.Nat.{_+_, _<_, _≤_};
 ghost use lib.ListN.{length};
 ghost use mathlib.Core.List.{_++_};
 ghost use Rattle.words.specs.Words.{le32, put};
 ghost use Rattle.body_writer.specs.Write.{bytesOf};
-ghost use Rattle.sheet.specs.Layout.{entryOf, stepIn, kindIn};
+ghost use Rattle.sheet.specs.Layout.{entryOffset, directoryEnd, entryOf, stepIn, kindIn};
 ghost use Rattle.sheet_writer.specs.Bytes.{lengthIn, bodyStart, sheetLength, placeBytes, directoryBytes, bodiesBytes, sheetBytesOf};
-ghost use Rattle.sheet.specs.Rules.{someFrom, ofStep, rulesOfStep, fiveToEight, elevens, firstBroken};
-ghost use Rattle.sheet_writer.specs.Rules.{recordRefusal5, invertedBrokenIn, writerRefusalOf, writtenOf};
+ghost use Rattle.sheet.specs.Rules.{someFrom, rulesOfStep, fiveToEight, elevens, firstBroken};
+ghost use Rattle.sheet_writer.specs.Rules.{recordRefusal5, invertedBrokenIn, writerRefusalOf, roomAfterOf};
 use bodies::Step;
 use sheet::Entry;
+use sheet::HEADER;
 use sheet::Refusal;
 use sheet::Sheet;
-
-fn wide(x: u32) -> usize
-    ensures { λ r. ⌜ (r ≡ x) × (r < 4294967296) ⌝ }
-{
-    x as usize
-}
-
-// A refusal of the step at index i.
-fn of_step(number: u32, i: usize) -> Refusal
-    requires { ⌜ i < 16 ⌝ }
-    ensures { λ r. ⌜ r ≡ ofStep number i ⌝ }
-{
-    Refusal {
-        number: number,
-        step: (i + 1) as u32,
-    }
-}
 
 // ----- the rules of a record ---------------------------------------------------------------------
 
@@ -44,16 +31,16 @@ fn check_step(i: usize, five: bool, step: Step) -> Refusal
     ensures { λ r. ⌜ r ≡ firstBroken (rulesOfStep i five step) ⌝ }
 {
     if five {
-        return of_step(5, i);
+        return Refusal::of_step(5, i);
     }
     if bodies::lacks_convention(step) {
-        return of_step(6, i);
+        return Refusal::of_step(6, i);
     }
     if bodies::lacks_epoch(step) {
-        return of_step(7, i);
+        return Refusal::of_step(7, i);
     }
     if bodies::lacks_duration(step) {
-        return of_step(8, i);
+        return Refusal::of_step(8, i);
     }
     Refusal::none()
 }
@@ -127,7 +114,7 @@ fn check_steps(sheet: Sheet, n: usize) -> Refusal
     while i < n {
         let deformation = kind_in(sheet, i) == 5;
         if deformation & before {
-            return of_step(11, i);
+            return Refusal::of_step(11, i);
         }
         before = before | deformation;
         i += 1;
@@ -140,7 +127,7 @@ fn length_in(sheet: Sheet, i: usize) -> usize
     requires { ⌜ i < 16 ⌝ }
     ensures { λ r. ⌜ (r ≡ lengthIn sheet i) × (r ≤ 248) ⌝ }
 {
-    wide(bodies::length_of(kind_in(sheet, i)))
+    words::wide(bodies::length_of(kind_in(sheet, i)))
 }
 
 // Where the last body ends.
@@ -148,7 +135,7 @@ fn sheet_length(sheet: Sheet, n: usize) -> usize
     requires { ⌜ (n ≤ 16) × (n ≡ sheet .count) ⌝ }
     ensures { λ r. ⌜ (r ≡ sheetLength sheet) × (r ≤ 4240) ⌝ }
 {
-    let mut end = 16 + 16 * n;
+    let mut end = sheet::directory_end(sheet.count);
     let mut i = 0;
     while i < n {
         end = end + length_in(sheet, i);
@@ -161,12 +148,12 @@ fn sheet_length(sheet: Sheet, n: usize) -> usize
 pub fn check_record(sheet: Sheet, room: usize) -> Refusal
     ensures { λ r. ⌜ r ≡ writerRefusalOf sheet room ⌝ }
 {
-    let n = wide(sheet.count);
+    let n = words::wide(sheet.count);
     if sheet::count_broken(n) {
-        return Refusal::of_sheet(3);
+        return Refusal::of_call(3);
     }
     if inverted_broken(sheet, n) {
-        return Refusal::of_sheet(4);
+        return Refusal::of_call(4);
     }
     let refusal = check_entries(sheet, n);
     if refusal.number != 0 {
@@ -177,7 +164,7 @@ pub fn check_record(sheet: Sheet, room: usize) -> Refusal
         return second;
     }
     if room < sheet_length(sheet, n) {
-        return Refusal::of_sheet(15);
+        return Refusal::of_call(15);
     }
     Refusal::none()
 }
@@ -197,14 +184,14 @@ fn put_words(room: &mut [u8], at: usize, a: u32, b: u32, c: u32, d: u32)
 
 // The place of the step at index i, its body starting at `start`.
 fn put_place(room: &mut [u8], sheet: Sheet, i: usize, start: usize)
-    requires { ⌜ (i < 16) × ((start ≡ bodyStart sheet i) × ((start ≤ 4240) × (32 + 16 * i ≤ length (now room)))) ⌝ }
-    ensures { λ _. ⌜ now (room .exit) ≡ put (now (room .entry)) (16 + 16 * i) (placeBytes sheet i) ⌝ }
+    requires { ⌜ (i < 16) × ((start ≡ bodyStart sheet i) × ((start ≤ 4240) × (entryOffset i + 16 ≤ length (now room)))) ⌝ }
+    ensures { λ _. ⌜ now (room .exit) ≡ put (now (room .entry)) (entryOffset i) (placeBytes sheet i) ⌝ }
 {
     let entry = entry_in(sheet, i);
     let kind = kind_in(sheet, i);
     put_words(
         room,
-        16 + 16 * i,
+        sheet::entry_offset(i as u32),
         kind,
         entry.inverted,
         start as u32,
@@ -213,10 +200,10 @@ fn put_place(room: &mut [u8], sheet: Sheet, i: usize, start: usize)
 }
 
 fn put_directory(room: &mut [u8], sheet: Sheet, n: usize)
-    requires { ⌜ (n ≤ 16) × ((n ≡ sheet .count) × (16 + 16 * n ≤ length (now room))) ⌝ }
+    requires { ⌜ (n ≤ 16) × ((n ≡ sheet .count) × (directoryEnd n ≤ length (now room))) ⌝ }
     ensures { λ _. ⌜ now (room .exit) ≡ put (now (room .entry)) 16 (directoryBytes sheet n) ⌝ }
 {
-    let mut start = 16 + 16 * n;
+    let mut start = sheet::directory_end(sheet.count);
     let mut i = 0;
     while i < n {
         put_place(room, sheet, i, start);
@@ -236,9 +223,9 @@ fn put_body(room: &mut [u8], sheet: Sheet, i: usize, start: usize)
 
 fn put_bodies(room: &mut [u8], sheet: Sheet, n: usize)
     requires { ⌜ (n ≤ 16) × ((n ≡ sheet .count) × (sheetLength sheet ≤ length (now room))) ⌝ }
-    ensures { λ _. ⌜ now (room .exit) ≡ put (now (room .entry)) (16 + 16 * n) (bodiesBytes sheet n) ⌝ }
+    ensures { λ _. ⌜ now (room .exit) ≡ put (now (room .entry)) (directoryEnd n) (bodiesBytes sheet n) ⌝ }
 {
-    let mut start = 16 + 16 * n;
+    let mut start = sheet::directory_end(sheet.count);
     let mut i = 0;
     while i < n {
         put_body(room, sheet, i, start);
@@ -251,16 +238,17 @@ fn put_sheet(room: &mut [u8], sheet: Sheet)
     requires { ⌜ (sheet .count ≤ 16) × (sheetLength sheet ≤ length (now room)) ⌝ }
     ensures { λ _. ⌜ now (room .exit) ≡ put (now (room .entry)) 0 (sheetBytesOf sheet) ⌝ }
 {
-    let n = wide(sheet.count);
+    let n = words::wide(sheet.count);
     let total = sheet_length(sheet, n);
-    put_words(room, 0, 1, total as u32, sheet.count, 16);
+    put_words(room, 0, 1, total as u32, sheet.count, HEADER as u32);
     put_directory(room, sheet, n);
     put_bodies(room, sheet, n);
 }
 
-// Writes the sheet's bytes at the room's start and nothing after them. On refusal the room holds what it held.
+// Writes the sheet's bytes at the room's start and nothing after them. On refusal the room holds
+// what it held.
 pub fn write(sheet: Sheet, room: &mut [u8]) -> Refusal
-    ensures { λ r. ⌜ (r ≡ writerRefusalOf sheet (length (now (room .entry)))) × (now (room .exit) ≡ writtenOf sheet (now (room .entry))) ⌝ }
+    ensures { λ r. ⌜ (r ≡ writerRefusalOf sheet (length (now (room .entry)))) × (now (room .exit) ≡ roomAfterOf sheet (now (room .entry))) ⌝ }
 {
     let refusal = check_record(sheet, room.len());
     if refusal.number != 0 {

@@ -1,10 +1,12 @@
--- A sheet shown: its header, and step by step its directory entry and its fields; or the refusal in words, with the step and the place.
-use Prim.Native.Nat.{ℕ, zero, suc, _+_, _-_, _*_}
+-- A sheet shown: its header, and step by step its directory entry and its fields; or the refusal in
+-- words, with the step and the place.
+use Prim.Native.Nat.{ℕ, zero, suc, _+_, _-_}
 use mathlib.Core.Bool.{cond}
 use mathlib.Core.List.{List, [], _++_}
-use lib.Dec.{eqb}
+use lib.Dec.{eqb, ltb}
 use lib.ListN.{length}
-use Rattle.sheet.specs.Layout.{formOf, totalLengthOf, stepCountOf, directoryOffsetOf, kindAt, invertedAt, offsetAt, lengthAt}
+use Rattle.words.specs.Words.{word32}
+use Rattle.sheet.specs.Layout.{stepCountOf, entryOffset, kindAt, invertedAt, offsetAt, lengthAt}
 use Rattle.sheet.specs.Rules.{refusalOf}
 use Rattle.text.specs.Ascii.{ascii}
 use Rattle.text.specs.Digits.{decimalOf}
@@ -18,15 +20,16 @@ lineOf name n = name ++ decimalOf n ++ ascii "\n"
 
 -- ---- the header: form; total length; step count; directory offset
 
-unfoldable pub headerText : ℕ → ℕ → ℕ → ℕ → List ℕ
-headerText form total count offset =
-    lineOf (ascii "form: ") form
-    ++ lineOf (ascii "total length: ") total
-    ++ lineOf (ascii "step count: ") count
-    ++ lineOf (ascii "directory offset: ") offset
+-- the word at an offset; of a sheet that is too short to have it, that it is missing
+unfoldable pub headLine : List ℕ → List ℕ → ℕ → List ℕ
+headLine name s offset = cond (ltb (length s) (offset + 4)) (name ++ ascii "missing\n") (lineOf name (word32 s offset))
 
 unfoldable pub headText : List ℕ → List ℕ
-headText s = headerText (formOf s) (totalLengthOf s) (stepCountOf s) (directoryOffsetOf s)
+headText s =
+    headLine (ascii "form: ") s 0
+    ++ headLine (ascii "total length: ") s 4
+    ++ headLine (ascii "step count: ") s 8
+    ++ headLine (ascii "directory offset: ") s 12
 
 -- ---- a step: its directory entry, kind; inverted; body offset; body length; then its fields
 
@@ -66,7 +69,8 @@ ruleText n =
 unfoldable pub answerText : ℕ → ℕ → List ℕ
 answerText number step = ascii "refused " ++ decimalOf number ++ ascii " step " ++ decimalOf step ++ ascii ": " ++ ruleText number
 
--- the byte of the word that a refusal of the sheet as a whole is about: 1 the total length, 2 the form, 3 the step count, 4 where the fault is
+-- the byte of the word that a refusal of the sheet as a whole is about: 1 the total length, 2 the
+-- form, 3 the step count, 4 where the fault is
 unfoldable pub wordPlace : List ℕ → ℕ → ℕ
 wordPlace s number = cond (eqb number 1) 4 (cond (eqb number 2) 0 (cond (eqb number 3) 8 (faultOf s)))
 
@@ -76,7 +80,7 @@ sheetPlace s number = lineOf (ascii "place: byte ") (wordPlace s number) ++ line
 -- a step's entry and body, and the step as it is
 unfoldable pub stepPlace : List ℕ → ℕ → List ℕ
 stepPlace s i =
-    lineOf (ascii "place: directory entry at byte ") (16 + 16 * i)
+    lineOf (ascii "place: directory entry at byte ") (entryOffset i)
     ++ lineOf (ascii "place: body at byte ") (offsetAt s i)
     ++ stepText s i
 

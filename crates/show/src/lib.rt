@@ -1,31 +1,22 @@
-// A sheet shown to whoever fits it: every field by its name and in its unit; or the refusal in words, with the step and the place.
+// A sheet shown to whoever fits it: every field by its name and in its unit; or the refusal in
+// words, with the step and the place.
 //
-// The text is fixed byte by byte by specs/Show.antt, for every sheet and a room of any length. A refused sheet's text has the rule in document 01's words; for
-// a refusal of the sheet as a whole the byte of the word that it is about and the header; for a step's refusal the bytes of its directory entry and its body, and
-// the whole step as it is. Used by the program sheet_show.
+// The text is fixed byte by byte by specs/Show.antt, for every sheet and a room of any length. A
+// refused sheet's text has the rule in document 01's words. For a refusal of the sheet as a whole
+// it has the byte of the word that the refusal is about, and the header, as far as the sheet has
+// it. For a step's refusal it has the bytes of the directory entry and of the body, and the whole
+// step as it is. Used by the program sheet_show.
 ghost use mathlib.Core.Path.{_≡_};
-ghost use Prim.Native.Nat.{_+_, _-_, _<_};
+ghost use Prim.Native.Nat.{_+_, _-_, _<_, _≤_};
 ghost use lib.ListN.{length};
 ghost use Rattle.text.specs.Text.{text, appended};
 ghost use Rattle.text.specs.Digits.{decimalOf};
-ghost use Rattle.show.specs.Show.{lineOf, headerText, headText, entryText, stepText, stepsText, acceptedText, ruleText, answerText, wordPlace, sheetPlace, stepPlace, refusedText, showText};
-
-fn wide(x: u32) -> usize
-    ensures { λ r. ⌜ (r ≡ x) × (r < 4294967296) ⌝ }
-{
-    x as usize
-}
-
-fn long(x: usize) -> u64
-    ensures { λ r. ⌜ r ≡ x ⌝ }
-{
-    x as u64
-}
+ghost use Rattle.show.specs.Show.{lineOf, headLine, headText, entryText, stepText, stepsText, acceptedText, ruleText, answerText, wordPlace, sheetPlace, stepPlace, refusedText, showText};
 
 fn put_count(room: &mut [u8], at: usize, n: usize) -> usize
     ensures { λ r. ⌜ text (now (room .exit)) r ≡ appended (text (now (room .entry)) at) (decimalOf n) ⌝ }
 {
-    text::put_decimal(room, at, long(n))
+    text::put_decimal(room, at, words::long(n))
 }
 
 fn put_line(room: &mut [u8], at: usize, name: &[u8], n: usize) -> usize
@@ -39,28 +30,30 @@ fn put_line(room: &mut [u8], at: usize, name: &[u8], n: usize) -> usize
 fn put_word(room: &mut [u8], at: usize, name: &[u8], n: u32) -> usize
     ensures { λ r. ⌜ text (now (room .exit)) r ≡ appended (text (now (room .entry)) at) (lineOf (now (name .entry)) n) ⌝ }
 {
-    put_line(room, at, name, wide(n))
+    put_line(room, at, name, words::wide(n))
 }
 
 // ----- the header -------------------------------------------------------------------------
 
-fn put_header(room: &mut [u8], at: usize, form: u32, total: u32, count: u32, offset: u32) -> usize
-    ensures { λ r. ⌜ text (now (room .exit)) r ≡ appended (text (now (room .entry)) at) (headerText form total count offset) ⌝ }
+// The word at an offset; of a sheet that is too short to have it, that it is missing.
+fn put_head_word(room: &mut [u8], at: usize, name: &[u8], s: &[u8], offset: usize) -> usize
+    requires { ⌜ offset ≤ 12 ⌝ }
+    ensures { λ r. ⌜ text (now (room .exit)) r ≡ appended (text (now (room .entry)) at) (headLine (now (name .entry)) (now (s .entry)) offset) ⌝ }
 {
-    let p = put_word(room, at, b"form: ", form);
-    let q = put_word(room, p, b"total length: ", total);
-    let r = put_word(room, q, b"step count: ", count);
-    put_word(room, r, b"directory offset: ", offset)
+    if s.len() < offset + 4 {
+        let p = text::put_bytes(room, at, name);
+        return text::put_bytes(room, p, b"missing\n");
+    }
+    put_word(room, at, name, words::read32(s, offset))
 }
 
 fn put_head(room: &mut [u8], at: usize, s: &[u8]) -> usize
     ensures { λ r. ⌜ text (now (room .exit)) r ≡ appended (text (now (room .entry)) at) (headText (now (s .entry))) ⌝ }
 {
-    let form = words::read32(s, 0);
-    let total = words::read32(s, 4);
-    let count = words::read32(s, 8);
-    let offset = words::read32(s, 12);
-    put_header(room, at, form, total, count, offset)
+    let p = put_head_word(room, at, b"form: ", s, 0);
+    let q = put_head_word(room, p, b"total length: ", s, 4);
+    let r = put_head_word(room, q, b"step count: ", s, 8);
+    put_head_word(room, r, b"directory offset: ", s, 12)
 }
 
 // ----- a step -----------------------------------------------------------------------------
@@ -85,11 +78,10 @@ fn put_step(room: &mut [u8], at: usize, s: &[u8], i: usize) -> usize
     requires { ⌜ i < 4294967296 ⌝ }
     ensures { λ r. ⌜ text (now (room .exit)) r ≡ appended (text (now (room .entry)) at) (stepText (now (s .entry)) i) ⌝ }
 {
-    let place = 16 + 16 * i;
-    let kind = words::read32(s, place);
-    let inverted = words::read32(s, place + 4);
-    let offset = words::read32(s, place + 8);
-    let length = words::read32(s, place + 12);
+    let kind = sheet::kind_at(s, i);
+    let inverted = sheet::inverted_at(s, i);
+    let offset = sheet::offset_at(s, i);
+    let length = sheet::length_at(s, i);
     let p = put_line(room, at, b"step ", i + 1);
     let q = put_entry(room, p, kind, inverted, offset, length);
     fields::put_fields(room, q, kind, s, offset)
@@ -170,7 +162,7 @@ fn put_answer(room: &mut [u8], at: usize, number: u32, step: u32) -> usize
 fn put_number(room: &mut [u8], at: usize, n: u32) -> usize
     ensures { λ r. ⌜ text (now (room .exit)) r ≡ appended (text (now (room .entry)) at) (decimalOf n) ⌝ }
 {
-    put_count(room, at, wide(n))
+    put_count(room, at, words::wide(n))
 }
 
 // The byte of the word that a refusal of the sheet as a whole is about.
@@ -198,15 +190,15 @@ fn put_sheet_place(room: &mut [u8], at: usize, s: &[u8], number: u32) -> usize
     put_head(room, q, s)
 }
 
-fn put_step_place(room: &mut [u8], at: usize, s: &[u8], i: usize) -> usize
-    requires { ⌜ i < 4294967296 ⌝ }
+fn put_step_place(room: &mut [u8], at: usize, s: &[u8], i: u32) -> usize
     ensures { λ r. ⌜ text (now (room .exit)) r ≡ appended (text (now (room .entry)) at) (stepPlace (now (s .entry)) i) ⌝ }
 {
-    let place = 16 + 16 * i;
-    let offset = words::read32(s, place + 8);
-    let p = put_line(room, at, b"place: directory entry at byte ", place);
-    let q = put_word(room, p, b"place: body at byte ", offset);
-    put_step(room, q, s, i)
+    let index = words::wide(i);
+    let entry = sheet::entry_offset(i);
+    let body = sheet::offset_at(s, index);
+    let p = put_line(room, at, b"place: directory entry at byte ", entry);
+    let q = put_word(room, p, b"place: body at byte ", body);
+    put_step(room, q, s, index)
 }
 
 fn put_refused(room: &mut [u8], at: usize, s: &[u8], number: u32, step: u32) -> usize
@@ -216,7 +208,7 @@ fn put_refused(room: &mut [u8], at: usize, s: &[u8], number: u32, step: u32) -> 
     if step == 0 {
         return put_sheet_place(room, p, s, number);
     }
-    put_step_place(room, p, s, wide(step - 1))
+    put_step_place(room, p, s, step - 1)
 }
 
 // ----- a sheet ------------------------------------------------------------------------------

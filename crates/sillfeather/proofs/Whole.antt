@@ -1,5 +1,6 @@
--- A result tells the whole refusal: its number and its step can be taken out of it again, whatever a call was given. Assumes nothing.
-use Prim.Native.Nat.{ℕ, zero, suc, _+_, _/_, _%_, _<_, _≤_}
+-- A result tells the whole refusal: its number and its step can be taken out of it again, whatever
+-- a call was given. Working definition, which no promise cites: `Whole`. Assumes nothing.
+use Prim.Native.Nat.{ℕ, zero, suc, _+_, _<_, _≤_}
 use native.Mathlib.Omega.{arith}
 use mathlib.Core.Path.{_≡_, refl}
 use mathlib.Core.Bool.{Bool, true, false, cond}
@@ -13,7 +14,7 @@ use Rattle.sheet.specs.declared.Sheet.{Sheet}
 use Rattle.sheet.specs.declared.Entry.{Entry}
 use Rattle.sheet.specs.declared.Refusal.{Refusal}
 use Rattle.sheet.specs.Layout.{stepCountOf, kindAt, entryAt, stepAt, blankSheet, stepIn, kindIn}
-use Rattle.sheet.specs.Rules.{Rule, accepted, ofSheet, ofStep, refusal1, refusal2, refusal3, refusal4, refusal5At, rulesOfStep, fiveToEight, elevens, readerOrder, deformationBefore, firstBroken, refusalOf, readingOf}
+use Rattle.sheet.specs.Rules.{Rule, accepted, ofCall, ofStep, refusal1, refusal2, refusal3, refusal4, refusal5At, rulesOfStep, fiveToEight, elevens, readerOrder, hasDeformation, firstBroken, refusalOf, readingOf}
 use Rattle.sheet_writer.specs.Rules.{recordRefusal4, recordRefusal5, writerOrder, writerRefusalOf}
 use Rattle.sheet.proofs.Order.{count-kept}
 use Rattle.chain.specs.Chain.{entriesOf}
@@ -21,17 +22,12 @@ use Rattle.chain.specs.Rules.{shiftRefusalOf, outcomeOf, shiftOf}
 use Rattle.stretch.specs.Kept.{Kept}
 use Rattle.kept.specs.Entries.{keepRefusalOf, correctRefusalOf, correctOf}
 use Rattle.making.specs.Adding.{readingAs, standingOf, withStepOf, writtenAs, addedOf}
-use Rattle.sillfeather.specs.Codes.{codeOf}
+use Rattle.sillfeather.specs.Told.{Told}
 
 -- a refusal whose parts have each their half of the word
 pub record Whole (r : Refusal) : Type 0 where
   pub low : r .number < 65536
   pub high : r .step < 65536
-
--- what a caller takes out of a result: the number is the low half, the step the high one
-pub record Told (r : Refusal) : Type 0 where
-  pub number : codeOf r % 65536 ≡ r .number
-  pub step : codeOf r / 65536 ≡ r .step
 
 told : (r : Refusal) → Whole r → Told r
 told r w = let low = w .low in let high = w .high in record { number = omega arith; step = omega arith }
@@ -73,11 +69,11 @@ each-elevens kind (suc k) i h =
     let eleven : Whole (ofStep 11 i) = record { low = omega arith; high = omega arith } in
     next eleven (each-elevens kind k (i + 1) (omega arith))
 
-of-sheet : (n : ℕ) → n < 65536 → Whole (ofSheet n)
+of-sheet : (n : ℕ) → n < 65536 → Whole (ofCall n)
 of-sheet n h = record { low = h; high = omega arith }
 
 -- 3 comes before all that counts steps
-after-three : (three : Bool) (rest : Refusal) → (three ≡ false → Whole rest) → Whole (cond three (ofSheet 3) rest)
+after-three : (three : Bool) (rest : Refusal) → (three ≡ false → Whole rest) → Whole (cond three (ofCall 3) rest)
 after-three true rest h = of-sheet 3 (omega arith)
 after-three false rest h = h refl
 
@@ -123,7 +119,7 @@ whole-outcome own deforms inverse es l velocities marks h false e = rw e (whole-
 pub shift-tells : (inverse : Bool) (s : List ℕ) (l velocities : List Float) (marks : List ℕ) → Told (shiftOf inverse s l velocities marks .answer .refusal)
 unfolding shiftOf
 shift-tells inverse s l velocities marks =
-    told _ (whole-outcome (refusalOf s) (deformationBefore (kindAt s) (stepCountOf s)) inverse (entriesOf (entryAt s) (stepCountOf s) 0) l velocities marks (whole-reader s) _ refl)
+    told _ (whole-outcome (refusalOf s) (hasDeformation (kindAt s) (stepCountOf s)) inverse (entriesOf (entryAt s) (stepCountOf s) 0) l velocities marks (whole-reader s) _ refl)
 
 pub keep-tells : (s : List ℕ) (old : Kept) → Told (keepRefusalOf s old)
 unfolding keepRefusalOf
@@ -146,7 +142,7 @@ pub correct-tells : (inverse : Bool) (s : List ℕ) (old : Kept) (index : ℕ) (
 correct-tells inverse s old index fix = told _ (correct-refusal inverse s old index fix _ refl)
 
 whole-standing : (room : List ℕ) (len : ℕ) (none past : Bool)
-    → Whole (cond none (readingAs accepted blankSheet) (cond past (readingAs (ofSheet 1) blankSheet) (readingOf (take len room))) .refusal)
+    → Whole (cond none (readingAs accepted blankSheet) (cond past (readingAs (ofCall 1) blankSheet) (readingOf (take len room))) .refusal)
 unfolding readingOf
 whole-standing room len true past = whole-accepted
 whole-standing room len false true = of-sheet 1 (omega arith)

@@ -1,4 +1,5 @@
--- How an answer is handed to C: a refusal as one word, and what each call leaves in what it was lent.
+-- How an answer is handed to C: a refusal as one word, and what each call leaves in what it was
+-- lent.
 use Prim.Native.Nat.{ℕ, _+_, _*_, _%_, _<_}
 use mathlib.Core.Bool.{Bool, not}
 use mathlib.Core.List.{List}
@@ -8,8 +9,8 @@ use lib.Ieee.{Float}
 use Rattle.sheet.specs.declared.Refusal.{Refusal}
 use Rattle.chain.specs.Rules.{Outcome}
 use Rattle.stretch.specs.Kept.{Kept}
-use Rattle.kept.specs.Entries.{Outcome as CorrectOutcome}
-use Rattle.making.specs.Adding.{Outcome as AddOutcome}
+use Rattle.kept.specs.Entries.{CorrectOutcome}
+use Rattle.making.specs.Adding.{AddOutcome}
 
 -- 0 is done; otherwise the refusal's number plus 65536 times the step
 abbrev pub codeOf : Refusal → ℕ

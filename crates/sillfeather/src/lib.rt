@@ -1,9 +1,12 @@
-// The library as C and Rust link it: each exported function only hands over to a proved entry, and keeps its contract.
+// The library as C and Rust link it: each exported function only hands over to a proved entry, and
+// keeps its contract.
 //
-// A sheet is checked, run over a list, run and kept to be corrected later, or made step by step in lent room. A result of 0 is done; otherwise it is the
-// refusal's number plus 65536 times the step, and nothing was written but zeros where counts are asked for. include/sillfeather.h says of each function what it
-// reads, writes, refuses and leaves alone.
-// The kernels, on any binary64 numbers: nothing is refused, and what each gives for a NaN, an infinity or a zero is its crate's law.
+// A sheet is checked, run over a list, run and kept to be corrected later, or made step by step in
+// lent room. A result of 0 is done; otherwise it is the refusal's number plus 65536 times the step,
+// and nothing was written but zeros where counts are asked for. include/sillfeather.h says of each
+// function what it reads, writes, refuses and leaves alone.
+// The kernels, on any binary64 numbers: nothing is refused, and what each gives for a NaN, an
+// infinity or a zero is its crate's law.
 ghost use mathlib.Core.Path.{_≡_};
 ghost use Rattle.sheet.specs.Rules.{refusalOf};
 ghost use Rattle.chain.specs.Rules.{shiftOf};
@@ -97,7 +100,8 @@ fn narrow(counts: [usize; 16]) -> [u32; 16]
     out
 }
 
-// A sheet over a list, in place: forward where inverse is 0, else inverse. `counts` gets each step's count in the sheet's order, 0 in the other places.
+// A sheet over a list, in place: forward where inverse is 0, else inverse. `counts` gets each
+// step's count in the sheet's order, 0 in the other places.
 #[no_mangle]
 pub extern "C" fn sillfeather_shift(
     inverse: u32,
@@ -132,7 +136,8 @@ pub extern "C" fn sillfeather_keep(
     code(kept::keep(inverse != 0, s, list, results, track))
 }
 
-// Corrects one fix of a kept run: writes it into the list and redoes from there; `redone` gets how many fixes were, 0 on refusal.
+// Corrects one fix of a kept run: writes it into the list and redoes from there; `redone` gets how
+// many fixes were, 0 on refusal.
 #[no_mangle]
 pub extern "C" fn sillfeather_correct(
     inverse: u32,

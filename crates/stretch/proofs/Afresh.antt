@@ -1,4 +1,5 @@
--- The loops of a fresh run, turn by turn: the list copied, and the track, which needs the states alone. Assumes nothing.
+-- The loops of a fresh run, turn by turn: the list copied, and the track, which needs the states
+-- alone. Working definitions, which no promise cites: `Copied`, `Tracking`. Assumes nothing.
 use Prim.Native.Nat.{ℕ, suc, _+_, _-_, _/_, _%_, _≤_, _<_}
 use native.Mathlib.Omega.{arith}
 use native.Mathlib.Numerals.{add-one}
@@ -16,7 +17,7 @@ use Rattle.lists.specs.Flat.{fourOf, numbersOf, tupleAt, putAt}
 use Rattle.lists.specs.Run.{Turns, ranOf, trackOf}
 use Rattle.lists.proofs.Places.{put-length}
 use Rattle.lists.proofs.Laws.{tracked-again}
-use Rattle.helmert_turns.specs.Turns.{helmertTurns}
+use Rattle.helmert.specs.Turns.{helmertTurns}
 use Rattle.stretch.specs.Kept.{trackedOf, keptOf, freshOf, stateTurns}
 
 -- ---- the list copied

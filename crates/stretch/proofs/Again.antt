@@ -1,4 +1,6 @@
--- Redoing, turn by turn over what is left of the three lists: the form in which the loop is proved. Assumes nothing.
+-- Redoing, turn by turn over what is left of the three lists: the form in which the loop is proved.
+-- Working definitions, which no promise cites: `Again`, `againOf`, `joined`, `Redoing`. Assumes
+-- nothing.
 use Prim.Native.Nat.{ℕ, suc, _+_, _-_, _/_, _≤_, _<_}
 use native.Mathlib.Omega.{arith}
 use native.Mathlib.Nat.{add-zero, add-assoc, add-comm}
@@ -14,7 +16,7 @@ use Rattle.lists.specs.Flat.{fourOf, numbersOf, tupleAt, putAt}
 use Rattle.lists.specs.Run.{Turn, Turns}
 use Rattle.lists.proofs.Places.{from-place, put-there, put-take, put-drop, put-length}
 use Rattle.stretch.specs.Same.{alikeOf}
-use Rattle.stretch.proofs.Flat.{tuple-beyond}
+use Rattle.lists.proofs.Results.{tuple-beyond}
 use Rattle.stretch.specs.Kept.{trackedOf}
 
 -- how many fixes, and what is left of the results and the track afterwards

@@ -1,4 +1,5 @@
--- Sameness as data is equality: the test says yes exactly where two numbers, and two tuples, are equal. Assumes nothing.
+-- Sameness as data is equality: the test says yes exactly where two numbers, and two tuples, are
+-- equal. Assumes nothing.
 use mathlib.Core.Path.{_≡_, refl, sym, ap, subst}
 use mathlib.Core.Bool.{Bool, true, false, _&&_, Bool·beq}
 use lib.Dec.{T, eqb}

@@ -1,4 +1,5 @@
--- What the public functions do where the three lists fit together, and where they do not. Assumes nothing.
+-- What the public functions do where the three lists fit together, and where they do not. Working
+-- definition, which no promise cites: `Fit`. Assumes nothing.
 use Prim.Native.Nat.{ℕ, _+_, _*_, _/_, _%_, _≤_, _<_}
 use native.Mathlib.Omega.{arith}
 use mathlib.Core.Bool.{Bool, true, false, _&&_}

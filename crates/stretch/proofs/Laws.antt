@@ -19,11 +19,13 @@ use Rattle.lists.specs.Flat.{numbersOf, tupleAt, putAt}
 use Rattle.lists.specs.Run.{Turns, ranOf, trackOf, stateAfterOf}
 use Rattle.lists.proofs.Places.{from-place, put-there, put-none, put-length, put-drop}
 use Rattle.lists.proofs.Laws.{ran-length}
-use Rattle.stretch.specs.Kept.{trackedOf, heldOf, Kept, keptOf, freshOf, writtenOf, carriedAt, keptAt, Stretch, Redone, redoOf, beforeOf, putFix, correctedOf}
-use Rattle.helmert_turns.specs.Turns.{helmertTurns}
+use Rattle.lists.proofs.Results.{track-at}
+use Rattle.stretch.specs.Kept.{trackedOf, heldOf, Kept, keptOf, freshOf, splicedOf, carriedAt, keptAt, Stretch, Redone, redoOf, beforeOf, putFix, correctedOf}
+use Rattle.stretch.specs.Unwritten.{Unwritten}
+use Rattle.helmert.specs.Turns.{helmertTurns}
 use Rattle.stretch.proofs.Again.{Again, againOf, again-short}
 use Rattle.stretch.proofs.Stretch.{redo-is-again}
-use Rattle.stretch.proofs.Meeting.{track-at, state-stays, Renewed, again-first, whole-take, ran-append, track-append, track-length}
+use Rattle.stretch.proofs.Meeting.{state-stays, Renewed, again-first, whole-take, ran-append, track-append, track-length}
 use Rattle.stretch.proofs.Words.{stretch-by-states, stretch-is-unique}
 use Rattle.stretch.proofs.Start.{before-first, before-running, before-else}
 
@@ -57,7 +59,7 @@ module _ (shift : Shift) (inverse : Bool) (l : List Float) where
       let d : suc k - 1 ≡ k = omega arith in
       before-running shift (freshOf shift inverse l .track) (suc k) (λ z. omega arith) e
       ∙ ap (λ (j : ℕ). heldOf (tupleAt (freshOf shift inverse l .track) (4 * j))) d
-      ∙ ap heldOf (track-at (helmertTurns inverse shift) 0 (startOf shift) l k (omega arith))
+      ∙ ap heldOf (track-at trackedOf (helmertTurns inverse shift) 0 (startOf shift) l k (omega arith))
 
   by-mode : (running : Bool) → isRunningOf shift ≡ running → (index : ℕ) → 4 * index ≤ length l → beforeOf shift (freshOf shift inverse l .track) index ≡ carried index
   by-mode true e index h = before-running-is index h e
@@ -68,7 +70,8 @@ module _ (shift : Shift) (inverse : Bool) (l : List Float) where
 
 -- ---- a corrected run is a fresh one
 
--- for any step: redoing from the state that the run carried, over what the run left, makes the run of the list with the fix in it
+-- for any step: redoing from the state that the run carried, over what the run left, makes the run
+-- of the list with the fix in it
 module _ (f : Turns State) (start : State) (l : List Float) (index : ℕ) (fix : Tuple) (h : 4 * index + 4 ≤ length l) where
   abbrev at : ℕ
   at = 4 * index
@@ -173,8 +176,8 @@ module _ (f : Turns State) (state : State) (old : Kept) (index : ℕ) (h : lengt
       ∙ ap (λ (rs : List Float). keptOf (old .list) rs (take at (old .track) ++ drop at (old .track))) (take-append-drop at (old .results))
       ∙ ap (λ (ts : List Float). keptOf (old .list) (old .results) ts) (take-append-drop at (old .track))
 
--- If results and track came from a fresh run, then after a correction they equal a fresh run of the corrected list: for every sheet's shift,
--- direction, list, index and fix.
+-- If results and track came from a fresh run, then after a correction they equal a fresh run of the
+-- corrected list: for every sheet's shift, direction, list, index and fix.
 module _ (shift : Shift) (inverse : Bool) (l : List Float) (index : ℕ) (fix : Tuple) where
   there : 4 * index + 4 ≤ length l → correctedOf shift inverse (freshOf shift inverse l) index fix .kept ≡ freshOf shift inverse (putAt l (4 * index) fix)
   unfolding correctedOf freshOf
@@ -210,13 +213,7 @@ redone-is-the-stretch shift inverse old index fix h =
     let long : length (putAt (old .list) at fix) ≡ length (old .list) = put-length (old .list) at fix h in
     rw long at (stretch-by-states (helmertTurns inverse shift) (beforeOf shift (old .track) index) (putAt (old .list) at fix) (old .track) index (rw long h))
 
--- a list is as it was before a place and from another on
-pub record Unwritten (old new : List Float) (start end : ℕ) : Type 0 where
-  pub before : take start new ≡ take start old
-  pub after : drop end new ≡ drop end old
-  pub long : length new ≡ length old
-
-written-between : (old new : List Float) (at n : ℕ) → at + n ≤ length old → n ≤ length new → Unwritten old (writtenOf old at new n) at (at + n)
+written-between : (old new : List Float) (at n : ℕ) → at + n ≤ length old → n ≤ length new → Unwritten old (splicedOf old at new n) at (at + n)
 written-between old new at n h k =
     record {
       before =
@@ -226,7 +223,8 @@ written-between old new at n h k =
       long = length-paste old at new n h k;
     }
 
--- Nothing outside the stretch is written, in results and track, whatever they held; and nothing of the list but the fix.
+-- Nothing outside the stretch is written, in results and track, whatever they held; and nothing of
+-- the list but the fix.
 module _ (shift : Shift) (inverse : Bool) (old : Kept) (index : ℕ) (fix : Tuple) (h : 4 * index + 4 ≤ length (old .list))
     (er : length (old .results) ≡ length (old .list)) (et : length (old .track) ≡ length (old .list)) where
   abbrev done : Redone
@@ -277,7 +275,7 @@ module _ (shift : Shift) (inverse : Bool) (l : List Float) (still : isRunningOf 
   pub still-track : (j : ℕ) → 4 * j + 4 ≤ length l → keptAt (freshOf shift inverse l .track) j ≡ startOf shift
   unfolding freshOf
   still-track j h =
-      ap heldOf (track-at (helmertTurns inverse shift) 0 (startOf shift) l j h)
+      ap heldOf (track-at trackedOf (helmertTurns inverse shift) 0 (startOf shift) l j h)
       ∙ state-stays (helmertTurns inverse shift) stays 0 (startOf shift) (take (4 * suc j) l)
 
   -- and a correction redoes one fix

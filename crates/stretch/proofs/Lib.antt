@@ -1,5 +1,4 @@
 pub mod Data
-pub mod Flat
 pub mod Again
 pub mod Stretch
 pub mod Meeting

@@ -1,7 +1,9 @@
--- Two runs over the same fixes agree from where their states meet: the redoing of what a run left is the run itself. For any step. Assumes nothing.
+-- Two runs over the same fixes agree from where their states meet: the redoing of what a run left
+-- is the run itself. For any step. Working definitions, which no promise cites: `Renewed`, `Whole`.
+-- Assumes nothing.
 use Prim.Native.Nat.{ℕ, zero, suc, _+_, _*_, _≤_}
 use native.Mathlib.Omega.{arith}
-use native.Mathlib.Nat.{zero-add, add-zero}
+use native.Mathlib.Nat.{zero-add}
 use mathlib.Core.Bool.{Bool, true, false}
 use mathlib.Core.Path.{_≡_, refl, sym, ap, _∙_}
 use mathlib.Core.List.{List, [], _∷_, _++_}
@@ -9,66 +11,19 @@ use lib.ListN.{length, take}
 use lib.Ieee.{Float}
 use Rattle.tuple.specs.declared.Tuple.{Tuple}
 use Rattle.helmert.specs.declared.State.{State}
-use Rattle.lists.specs.Flat.{fourOf, numbersOf, tupleAt}
+use Rattle.lists.specs.Flat.{fourOf, numbersOf}
 use Rattle.lists.specs.Run.{Turn, Turns, ranOf, trackOf, stateAfterOf}
+use Rattle.lists.proofs.Results.{tuple-first, state-keeps}
 use Rattle.stretch.specs.Same.{alikeOf}
 use Rattle.stretch.specs.Kept.{trackedOf, heldOf}
 use Rattle.stretch.proofs.Data.{alike-are-equal}
-use Rattle.stretch.proofs.Flat.{tuple-beyond}
 use Rattle.stretch.proofs.Again.{Again, oneOf, againOf}
-use Rattle.stretch.proofs.Stretch.{tuple-first}
 
--- ---- the state after each fix
+-- ---- a step that hands its state on as it is carries the one that it started with
 
--- what the track holds after fix j is the state that the run carries there
-pub track-at : (f : Turns State) (k : ℕ) (state : State) (l : List Float) (j : ℕ) → 4 * j + 4 ≤ length l
-    → tupleAt (trackOf trackedOf f k state l) (4 * j) ≡ trackedOf (stateAfterOf f k state (take (4 * suc j) l))
-track-at f k state (x ∷ y ∷ z ∷ t ∷ rest) zero h = tuple-first _ _
-track-at f k state (x ∷ y ∷ z ∷ t ∷ rest) (suc j) h =
-    let turn = f k state (fourOf x y z t) in
-    let new = trackOf trackedOf f (suc k) (turn .state) rest in
-    let e : 4 * suc j ≡ 4 + 4 * j = omega arith in
-    let d : 4 * suc (suc j) ≡ suc (suc (suc (suc (4 * suc j)))) = omega arith in
-    ap (tupleAt (numbersOf (trackedOf (turn .state)) ++ new)) e
-    ∙ sym (tuple-beyond (numbersOf (trackedOf (turn .state)) ++ new) 4 (4 * j))
-    ∙ track-at f (suc k) (turn .state) rest j (omega arith)
-    ∙ ap (λ (m : ℕ). trackedOf (stateAfterOf f k state (take m (x ∷ y ∷ z ∷ t ∷ rest)))) (sym d)
-track-at f k state (x ∷ y ∷ z ∷ []) j h = absurd (omega arith)
-track-at f k state (x ∷ y ∷ []) j h = absurd (omega arith)
-track-at f k state (x ∷ []) j h = absurd (omega arith)
-track-at f k state [] j h = absurd (omega arith)
-
--- the result of fix j: its turn, in the state that the run carries to it
-pub result-at : (f : Turns State) (k : ℕ) (state : State) (l : List Float) (j : ℕ) → 4 * j + 4 ≤ length l
-    → tupleAt (ranOf f k state l) (4 * j) ≡ f (k + j) (stateAfterOf f k state (take (4 * j) l)) (tupleAt l (4 * j)) .tuple
-result-at f k state (x ∷ y ∷ z ∷ t ∷ rest) zero h =
-    tuple-first _ _ ∙ rw (add-zero k) (ap (λ (v : Tuple). f k state v .tuple) (sym (tuple-first (fourOf x y z t) rest)))
-result-at f k state (x ∷ y ∷ z ∷ t ∷ rest) (suc j) h =
-    let turn = f k state (fourOf x y z t) in
-    let new = ranOf f (suc k) (turn .state) rest in
-    let e : 4 * suc j ≡ 4 + 4 * j = omega arith in
-    let d : 4 * suc j ≡ suc (suc (suc (suc (4 * j)))) = omega arith in
-    let n : suc k + j ≡ k + suc j = omega arith in
-    ap (tupleAt (numbersOf (turn .tuple) ++ new)) e
-    ∙ sym (tuple-beyond (numbersOf (turn .tuple) ++ new) 4 (4 * j))
-    ∙ result-at f (suc k) (turn .state) rest j (omega arith)
-    ∙ ap (λ (m : ℕ). f m (stateAfterOf f (suc k) (turn .state) (take (4 * j) rest)) (tupleAt rest (4 * j)) .tuple) n
-    ∙ ap (λ (v : Tuple). f (k + suc j) (stateAfterOf f (suc k) (turn .state) (take (4 * j) rest)) v .tuple) (tuple-beyond (x ∷ y ∷ z ∷ t ∷ rest) 4 (4 * j))
-    ∙ ap (λ (m : ℕ). f (k + suc j) (stateAfterOf f (suc k) (turn .state) (take (4 * j) rest)) (tupleAt (x ∷ y ∷ z ∷ t ∷ rest) m) .tuple) (sym e)
-    ∙ ap (λ (m : ℕ). f (k + suc j) (stateAfterOf f k state (take m (x ∷ y ∷ z ∷ t ∷ rest))) (tupleAt (x ∷ y ∷ z ∷ t ∷ rest) (4 * suc j)) .tuple) (sym d)
-result-at f k state (x ∷ y ∷ z ∷ []) j h = absurd (omega arith)
-result-at f k state (x ∷ y ∷ []) j h = absurd (omega arith)
-result-at f k state (x ∷ []) j h = absurd (omega arith)
-result-at f k state [] j h = absurd (omega arith)
-
--- a step that hands its state on as it is carries the one that it started with
 pub state-stays : (f : Turns State) → ((k : ℕ) (state : State) (v : Tuple) → f k state v .state ≡ state)
     → (k : ℕ) (state : State) (l : List Float) → stateAfterOf f k state l ≡ state
-state-stays f stays k state (x ∷ y ∷ z ∷ t ∷ rest) = state-stays f stays (suc k) (f k state (fourOf x y z t) .state) rest ∙ stays k state (fourOf x y z t)
-state-stays f stays k state (x ∷ y ∷ z ∷ []) = refl
-state-stays f stays k state (x ∷ y ∷ []) = refl
-state-stays f stays k state (x ∷ []) = refl
-state-stays f stays k state [] = refl
+state-stays f stays k state l = state-keeps f (λ (now : State). now ≡ state) (λ i now v e. stays i now v ∙ e) k state l refl
 
 -- ---- the redoing over what another run left
 

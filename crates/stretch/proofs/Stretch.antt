@@ -8,21 +8,16 @@ use mathlib.Core.List.{List, [], _∷_, _++_, append-assoc}
 use lib.ListN.{length, take, drop}
 use lib.Seq.{drop-drop}
 use lib.Ieee.{Float}
-use borrow.Author.Tests.{le-leb}
 use Rattle.tuple.specs.declared.Tuple.{Tuple}
 use Rattle.helmert.specs.declared.State.{State}
 use Rattle.lists.specs.Flat.{fourOf, numbersOf, tupleAt}
 use Rattle.lists.specs.Run.{Turn, Turns, ranOf, trackOf}
 use Rattle.stretch.specs.Same.{alikeOf}
 use Rattle.stretch.specs.Kept.{trackedOf, keptOf, meetsOf, stretchFrom, stretchOf, redoneOf, redoOf}
-use Rattle.stretch.proofs.Flat.{tuple-beyond}
+use Rattle.lists.proofs.Results.{tuple-first, tuple-beyond}
 use Rattle.stretch.proofs.Again.{Again, again, oneOf, againOf, joined}
 
 -- ---- the stretch, fix by fix
-
-pub tuple-first : (v : Tuple) (l : List Float) → tupleAt (numbersOf v ++ l) 0 ≡ v
-unfolding tupleAt
-tuple-first v l = rw (le-leb (0 + 4) (length (numbersOf v ++ l)) (omega arith))
 
 stretch-shift : (p q : ℕ → Bool) (j : ℕ) → ((m : ℕ) → p (suc m) ≡ q m) → (k : ℕ) → stretchFrom p (suc j) k ≡ stretchFrom q j k
 unfolding stretchFrom

@@ -1,4 +1,5 @@
--- The stretch is the one that the words define, and there is no other. Assumes nothing.
+-- The stretch is the one that the words define, and there is no other. Working definition, which no
+-- promise cites: `First`. Assumes nothing.
 use Prim.Native.Nat.{ℕ, zero, suc, _+_, _-_, _*_, _/_, _≤_, _<_}
 use native.Mathlib.Omega.{arith}
 use native.Mathlib.Nat.{add-zero, zero-add}
@@ -16,12 +17,13 @@ use Rattle.lists.specs.Run.{Turns, trackOf}
 use Rattle.stretch.specs.Same.{alikeOf}
 use Rattle.stretch.specs.Kept.{trackedOf, heldOf, meetsOf, stretchFrom, stretchOf, carriedAt, keptAt, Stretch}
 use Rattle.stretch.proofs.Data.{alike-are-equal, equal-are-alike}
-use Rattle.stretch.proofs.Flat.{tuple-beyond}
-use Rattle.stretch.proofs.Meeting.{track-at, track-length}
+use Rattle.lists.proofs.Results.{tuple-beyond, track-at}
+use Rattle.stretch.proofs.Meeting.{track-length}
 
 -- ---- a stretch by a test
 
--- n of k fixes from fix j on: the test fails before the last of them, and holds there unless they are all
+-- n of k fixes from fix j on: the test fails before the last of them, and holds there unless they
+-- are all
 pub record First (p : ℕ → Bool) (j k n : ℕ) : Type 0 where
   pub some : 0 < k → 0 < n
   pub within : n ≤ k
@@ -81,7 +83,7 @@ module _ (f : Turns State) (state : State) (l ts : List Float) (index : ℕ) (h 
       let e : suc (index + m) - index ≡ suc m = omega arith in
       let d : 4 * index + 4 * m ≡ 4 * (index + m) = omega arith in
       let there : 4 * m + 4 ≤ length (drop (4 * index) l) = rw (length-drop (4 * index) l) k in
-      rw (e, track-at f index state (drop (4 * index) l) m there, tuple-beyond ts (4 * index) (4 * m), d)
+      rw (e, track-at trackedOf f index state (drop (4 * index) l) m there, tuple-beyond ts (4 * index) (4 * m), d)
 
   meet-equal : (m : ℕ) → 4 * m + 4 ≤ length l - 4 * index → meetsOf new old m ≡ true → carriedAt f index state l (index + m) ≡ keptAt ts (index + m)
   meet-equal m k e = ap heldOf (alike-are-equal (trackedOf (carriedAt f index state l (index + m))) (tupleAt ts (4 * (index + m))) (sym (test-is m k) ∙ e))

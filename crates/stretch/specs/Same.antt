@@ -1,4 +1,5 @@
--- Sameness of states as data, which is what a correction compares by: every NaN is the same as every other, and -0 is not +0.
+-- Sameness of states as data, which is what a correction compares by: every NaN is the same as
+-- every other, and -0 is not +0.
 use mathlib.Core.Bool.{Bool, true, false, _&&_, Bool·beq}
 use lib.Dec.{eqb}
 use lib.IntN.{ℤ, pos, negsuc}

@@ -1,13 +1,18 @@
-// The kept run under one Helmert step: a list, its results and its track, kept apart; and the stretch of fixes that the correction of one redoes.
+// The kept run under one Helmert step: a list, its results and its track, kept apart; and the
+// stretch of fixes that the correction of one redoes.
 //
-// Document 01, "Kept run"; the Rust has none. `fresh` runs the list as the chain does and writes, after each fix, the state that the step carries on: last
-// time, T. `put_right` writes a new fix into the list and redoes from there, in running mode from the track before it, up to the first fix after which the
-// carried state is the kept one, else to the list's end. States are compared as data: every NaN is every other, and zeros differ by sign.
+// Document 01, "Kept run"; the Rust has none. `fresh` runs the list as the chain does and writes,
+// after each fix, the state that the step carries on: last time, T. `put_right` writes a new fix
+// into the list and redoes from there, in running mode from the track before it, up to the first
+// fix after which the carried state is the kept one, else to the list's end. States are compared as
+// data: every NaN is every other, and zeros differ by sign.
 //
-// No rounding but the step's own. Proved for every shift, direction, list, index and fix (proofs/Laws.antt): a run in which a fix is corrected equals, in every
-// bit, a fresh run of the list as it stands; the count is the stretch's length, one where the mode is not running; nothing outside the stretch is written,
-// whatever the three lists held. Where the three lists do not fit together, or no fix stands at the index, nothing is written. Used by `kept`, whose entries
-// read the step from a sheet.
+// No rounding but the step's own. Proved for every shift, direction, list, index and fix
+// (proofs/Laws.antt): a run in which a fix is corrected equals, in every bit, a fresh run of the
+// list as it stands; the count is the stretch's length, one where the mode is not running; nothing
+// outside the stretch is written, whatever the three lists held. Where the three lists do not fit
+// together, or no fix stands at the index, nothing is written. Used by `kept`, whose entries read
+// the step from a sheet.
 ghost use mathlib.Core.Path.{_≡_};
 ghost use mathlib.Core.Bool.{true, false};
 ghost use Prim.Native.Nat.{_+_, _*_, _%_, _≤_};
@@ -16,7 +21,7 @@ ghost use Rattle.stretch.specs.Same.{alikeNumberOf, alikeOf};
 ghost use Rattle.stretch.specs.Kept.{trackedOf, heldOf, keptOf, freshOf, redoneOf, redoOf, beforeOf, correctedOf, stateTurns, fitOf, freshRunOf, putRightOf};
 ghost use Rattle.helmert.specs.Modes.{prepareOf, startOf, isRunningOf};
 ghost use Rattle.lists.specs.Run.{trackOf};
-ghost use Rattle.helmert_turns.specs.Turns.{helmertTurns};
+ghost use Rattle.helmert.specs.Turns.{helmertTurns};
 use helmert::Helmert;
 use helmert::Shift;
 use helmert::State;
@@ -122,8 +127,8 @@ fn write_track(shift: Shift, list: &[f64], track: &mut [f64])
     }
 }
 
-// Reads the list, writes results and track. The results are made by the chain's own loops, each of which decides mode, convention and direction once; the
-// track needs the states alone.
+// Reads the list, writes results and track. The results are made by the chain's own loops, each of
+// which decides mode, convention and direction once; the track needs the states alone.
 fn run(step: Helmert, inverse: bool, list: &[f64], results: &mut [f64], track: &mut [f64])
     requires { ⌜ (length (now list) % 4 ≡ 0) × (length (now results) ≡ length (now list)) × (length (now track) ≡ length (now list)) ⌝ }
     ensures { λ _. ⌜ keptOf (now (list .entry)) (now (results .exit)) (now (track .exit)) ≡ freshOf (prepareOf step) inverse (now (list .entry)) ⌝ }
@@ -211,7 +216,8 @@ fn put_and_redo(
     redo(shift, inverse, list, results, track, index, start)
 }
 
-// Corrects a fix, and counts the fixes redone; 0, and nothing is written, where the three lists do not fit together or no fix stands at the index.
+// Corrects a fix, and counts the fixes redone; 0, and nothing is written, where the three lists do
+// not fit together or no fix stands at the index.
 pub fn put_right(
     step: Helmert,
     inverse: bool,

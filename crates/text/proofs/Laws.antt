@@ -1,4 +1,5 @@
--- What is true of text in a room, for callers to cite: pieces one after another are one piece. Assumes nothing.
+-- What is true of text in a room, for callers to cite: pieces one after another are one piece.
+-- Assumes nothing.
 use mathlib.Core.Path.{_≡_, refl, sym, ap, _∙_}
 use Prim.Native.Nat.{ℕ, zero, suc, _+_, _-_, _^_, _<_, _≤_, min}
 use mathlib.Core.Bool.{Bool, true, false, cond}
@@ -100,7 +101,8 @@ place-within t bs {u} p =
     let b : u .place ≡ min (t .place + length bs) (length (t .room)) = ap (λ (w : Text). w .place) p in
     omega arith
 
--- where the bytes fit, the room is what stood before the place, the bytes, and what stood after them
+-- where the bytes fit, the room is what stood before the place, the bytes, and what stood after
+-- them
 pub fits : (l : List ℕ) (at : ℕ) (bs : List ℕ) → at + length bs ≤ length l → appended (text l at) bs ≡ text (take at l ++ bs ++ drop (at + length bs) l) (at + length bs)
 unfolding appended
 fits l at bs h =

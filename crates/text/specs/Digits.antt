@@ -8,7 +8,8 @@ use lib.Dec.{ltb, leb}
 abbrev pub digit : ℕ → ℕ
 digit d = cond (ltb d 10) (48 + d) (87 + d)
 
--- the last k digits of n in a base, the highest first: the digit worth base^(k - 1), then those below it
+-- the last k digits of n in a base, the highest first: the digit worth base^(k - 1), then those
+-- below it
 unfoldable pub digitsOf : ℕ → ℕ → ℕ → List ℕ
 digitsOf base zero n = []
 digitsOf base (suc k) n = digit (n / base ^ k % base) ∷ digitsOf base k n

@@ -10,8 +10,9 @@ pub record Text : Type 0 where
 abbrev pub text : List ℕ → ℕ → Text
 text room place = record { room = room; place = place }
 
--- The room afterwards is what stood before the place, the bytes, and what stood after them; the new place is past them. Where they do not all fit, those
--- that fit are written and the new place is the room's end.
+-- The room afterwards is what stood before the place, the bytes, and what stood after them; the new
+-- place is past them. Where they do not all fit, those that fit are written and the new place is
+-- the room's end.
 unfoldable pub appended : Text → List ℕ → Text
 appended t bs =
     let l = t .room in

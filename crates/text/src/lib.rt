@@ -1,8 +1,9 @@
 // Text written into a lent room: bytes, numbers in decimal and in hexadecimal, one after another.
 //
-// Every function takes a room and a place, writes from the place on and answers the place past what it wrote. Past the room's end nothing is written: the
-// place then is the room's end, and stays there. So a text written in pieces is the text written at once, in a room of any length (`appended-twice`). Used by
-// the program's report and by whoever writes a text for people.
+// Every function takes a room and a place, writes from the place on and answers the place past what
+// it wrote. Past the room's end nothing is written: the place then is the room's end, and stays
+// there. So a text written in pieces is the text written at once, in a room of any length
+// (`appended-twice`). Used by the program's report and by whoever writes a text for people.
 ghost use mathlib.Core.Path.{_≡_};
 ghost use mathlib.Core.List.{[], _∷_};
 ghost use Prim.Native.Nat.{_+_, _-_, _/_, _^_, _<_, _≤_, min};
@@ -49,7 +50,8 @@ fn digit(d: u64) -> u8
     if d < 10 { 48 + d as u8 } else { 87 + d as u8 }
 }
 
-// The last k digits of n in a base. `above` is what the digit before them would be worth, over the base.
+// The last k digits of n in a base. `above` is what the digit before them would be worth, over the
+// base.
 fn put_digits(room: &mut [u8], at: usize, base: u64, above: u64, k: usize, n: u64) -> usize
     requires { ⌜ (1 < base) × (base ≤ 16) × (above ≡ base ^ k / base) ⌝ }
     ensures { λ r. ⌜ text (now (room .exit)) r ≡ appended (text (now (room .entry)) at) (digitsOf base k n) ⌝ }

@@ -1,5 +1,8 @@
--- What several walks by hand share. A test that came out true or false; and a step: once a call has returned, what the callee's contract says of the result is learned, with the result's relation to its machine value.
--- The callee is any function whose result is plain data. Its tokens come back, and stand at the head of the context. Assumes `Given`.
+-- What several walks by hand share. A test that came out true or false; and a step: once a call has
+-- returned, what the callee's contract says of the result is learned, with the result's relation to
+-- its machine value.
+-- The callee is any function whose result is plain data. Its tokens come back, and stand at the
+-- head of the context. Assumes `Given`.
 use mathlib.Core.Path.{_≡_, refl}
 use mathlib.Core.Bool.{Bool, true, false, not}
 use mathlib.Core.List.{List, [], _∷_}
@@ -27,7 +30,8 @@ pub either : {X : Type 1} (t : Bool) → (T t → X) → (T (not t) → X) → X
 either true a b = a tt
 either false a b = b tt
 
--- what a call has left: its tokens, the result at the machine value v, and what the contract ensures
+-- what a call has left: its tokens, the result at the machine value v, and what the contract
+-- ensures
 abbrev pub Left : {M : Type 1} {𝓤 : URA M} (R : RattleType) (tokens : Item 𝓤) (ensures : R .Denot → SProp 𝓤) → Val → Item 𝓤
 Left R tokens ensures v = later (some (λ (r : R .Denot). (tokens ⊛ ‵ (R .own r (v ∷ []))) ⊛ raw (ensures r)))
 

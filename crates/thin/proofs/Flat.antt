@@ -1,4 +1,5 @@
--- What the thin entries answer is what the flat entries answer on the same numbers; and a contract of theirs has one answer. Assumes nothing.
+-- What the thin entries answer is what the flat entries answer on the same numbers; and a contract
+-- of theirs has one answer. Assumes nothing.
 use Prim.Native.Nat.{ℕ}
 use mathlib.Core.Path.{_≡_, sym, ap, _∙_}
 use mathlib.Core.Bool.{Bool}
@@ -11,10 +12,10 @@ use Rattle.helmert.specs.Modes.{prepareOf, startOf}
 use Rattle.bodies.specs.declared.Step.the-variants.{Cart as cartStep, Helmert as helmertStep}
 use Rattle.sheet.specs.declared.Entry.{Entry}
 use Rattle.lists.specs.Run.{ranOf, countOf}
-use Rattle.helmert_turns.specs.Turns.{noState, helmertTurns}
+use Rattle.helmert.specs.Turns.{noState, helmertTurns}
 use Rattle.runs.specs.Turns.{cartTurns}
 use Rattle.chain.specs.declared.Answer.{Answer}
-use Rattle.chain.specs.Chain.{turnedOf, turnsOf, stateOf, stepListOf, stepCountOf}
+use Rattle.chain.specs.Chain.{reversedOf, turnsOf, stateOf, stepListOf, tuplesCountedOf}
 use Rattle.chain.specs.Rules.{Outcome, outcome}
 use Rattle.thin.specs.Tuples.{flatOf, stepTuplesOf, stepTallyOf}
 use Rattle.thin.proofs.Laws.{flat-tuples, flat-tally, flat-injective}
@@ -23,11 +24,11 @@ module _ (inverse : Bool) (velocities : List Float) (marks : List ℕ) (us : Lis
   -- ---- a step of any kind: `chain`'s step over the flat list
 
   pub step-is-flat : (e : Entry)
-      → (flatOf (stepTuplesOf (turnedOf inverse e) velocities marks (e .step) us) ≡ stepListOf inverse velocities marks e (flatOf us))
-      × (stepTallyOf (turnedOf inverse e) velocities marks (e .step) us ≡ stepCountOf inverse velocities marks e (flatOf us))
-  unfolding stepListOf stepCountOf
+      → (flatOf (stepTuplesOf (reversedOf inverse e) velocities marks (e .step) us) ≡ stepListOf inverse velocities marks e (flatOf us))
+      × (stepTallyOf (reversedOf inverse e) velocities marks (e .step) us ≡ tuplesCountedOf inverse velocities marks e (flatOf us))
+  unfolding stepListOf tuplesCountedOf
   step-is-flat e =
-      let turns = turnsOf (turnedOf inverse e) velocities marks (e .step) in
+      let turns = turnsOf (reversedOf inverse e) velocities marks (e .step) in
       (flat-tuples turns 0 (stateOf (e .step)) us, flat-tally turns 0 (stateOf (e .step)) us)
 
   -- ---- Helmert in every mode, with its carried state: `helmert_runs::run_helmert`'s list and count

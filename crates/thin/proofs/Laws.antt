@@ -1,5 +1,6 @@
--- A step over a list of tuple records is the step over the same numbers as a flat list; and the law by which the loop over the records is proved: what one
--- turn makes carries the loop's invariant from a tuple to the next. Assumes nothing.
+-- A step over a list of tuple records is the step over the same numbers as a flat list; and the law
+-- by which the loop over the records is proved: what one turn makes carries the loop's invariant
+-- from a tuple to the next. Assumes nothing.
 use Prim.Native.Nat.{ℕ, zero, suc, _+_, _*_, _-_, _%_, _≤_, _<_}
 use native.Mathlib.Omega.{arith}
 use native.Mathlib.Nat.{add-assoc, add-zero, zero-add}
@@ -12,6 +13,7 @@ use lib.Seq.{take-suc-set, drop-set-lt, drop-cons, take-all}
 use lib.Dec.{eqb, ltb}
 use lib.Ieee.{Float, nan}
 use borrow.Author.Tests.{eq-eqb, ne-eqb, eqb-true, lt-ltb, le-ltb, ltb-true, ltb-false}
+use Rattle.blocks.proofs.Counts.{at-most-one}
 use Rattle.tuple.specs.declared.Tuple.{Tuple}
 use Rattle.tuple.specs.Sums.{nanTuple}
 use Rattle.helmert.specs.declared.State.{State}
@@ -22,10 +24,10 @@ use Rattle.lists.specs.Run.{Turns, ranOf, countOf}
 use Rattle.sheet.specs.declared.Entry.{Entry}
 use Rattle.sheet.specs.declared.Refusal.{Refusal}
 use Rattle.sheet.specs.Layout.{stepCountOf, kindAt, entryAt}
-use Rattle.sheet.specs.Rules.{accepted, ofSheet, firstBroken, deformationBefore, refusalOf}
+use Rattle.sheet.specs.Rules.{accepted, ofCall, firstBroken, hasDeformation, refusalOf}
 use Rattle.sheet.proofs.Order.{not-zero, accepted-count}
 use Rattle.chain.specs.declared.Answer.{Answer}
-use Rattle.chain.specs.Chain.{turnsOf, stateOf, stepListOf, stepCountOf as stepCountAt, forwardOf, inverseOf, chainOf, placesOf, entriesOf}
+use Rattle.chain.specs.Chain.{turnsOf, stateOf, stepListOf, tuplesCountedOf, chainForwardOf, chainInverseOf, chainOf, placesOf, entriesOf}
 use Rattle.chain.specs.Rules.{refusal9, refusal10, shiftRefusalOf, outcome, refusedAnswer, ranOutcome, outcomeOf, shiftOf}
 use Rattle.chain.proofs.Laws.{Forward, Backward, forward-start, forward-again, forward-end, backward-start, backward-again, backward-end}
 use Rattle.thin.specs.declared.Plan.{Plan}
@@ -34,7 +36,7 @@ use Rattle.thin.specs.declared.Turned.{Turned}
 use Rattle.thin.specs.declared.Todo.{Todo}
 use Rattle.thin.specs.Tuples.{tuplesOf, tallyOf, flatOf}
 use Rattle.thin.specs.Plans.{planOf, planTurnsOf, startsOf, tallied, turnOf}
-use Rattle.thin.specs.Sheets.{placeOf, todoOf, thinRefusalOf, stepsOf, notedOf}
+use Rattle.thin.specs.Sheets.{stepIndexOf, todoOf, thinRefusalOf, stepsOf, notedOf}
 
 -- ---- the same numbers as a flat list
 
@@ -92,7 +94,8 @@ turn-is velocities marks plan k at u = refl
 
 -- ---- the loop over the records
 
--- the invariant at index i: what stands before it and what the run makes from there on are the run of the whole list, and so are the counts
+-- the invariant at index i: what stands before it and what the run makes from there on are the run
+-- of the whole list, and so are the counts
 pub record Walked (f : Turns State) (start : State) (ys : List Tuple) (i : ℕ) (at : Carried) (zs : List Tuple) : Type 0 where
   pub within : i ≤ length ys
   pub long : length zs ≡ length ys
@@ -102,10 +105,6 @@ pub record Walked (f : Turns State) (start : State) (ys : List Tuple) (i : ℕ) 
 
 pub walk-start : (f : Turns State) (start : State) (ys : List Tuple) → Walked f start ys 0 (record { state = start; counted = 0 }) ys
 walk-start f start ys = record { within = omega arith; long = refl; run = refl; total = zero-add (tallyOf f 0 start ys); few = omega arith }
-
-at-most-one : (b : Bool) → cond b 1 0 ≤ 1
-at-most-one true = omega arith
-at-most-one false = omega arith
 
 pub walk-again : {f : Turns State} {start : State} {ys : List Tuple} {i : ℕ} {at : Carried} {zs : List Tuple} {r : Turned} → i < length zs
     → r ≡ tallied at (f i (at .state) (getD zs i nanTuple)) → Walked f start ys i at zs → Walked f start ys (i + 1) (r .carried) (set zs i (r .tuple))
@@ -137,7 +136,7 @@ unfolding shiftRefusalOf
 same-refusal own deforms l l′ velocities marks e = rw e
 
 pub refusal-is-flat : (s : List ℕ) (us : List Tuple) (velocities : List Float) (marks : List ℕ)
-    → thinRefusalOf s (length us) velocities marks ≡ shiftRefusalOf (refusalOf s) (deformationBefore (kindAt s) (stepCountOf s)) (flatOf us) velocities marks
+    → thinRefusalOf s (length us) velocities marks ≡ shiftRefusalOf (refusalOf s) (hasDeformation (kindAt s) (stepCountOf s)) (flatOf us) velocities marks
 unfolding thinRefusalOf
 refusal-is-flat s us velocities marks = same-refusal _ _ _ _ velocities marks (length-replicate (4 * length us) nan ∙ sym (flat-length us))
 
@@ -165,7 +164,7 @@ module _ (own : Refusal) (deforms : Bool) (l velocities : List Float) (marks : L
   own-accepted zero ek e = ek
   own-accepted (suc k) ek e = ap (λ (r : Refusal). r .number) (sym (own-first (λ z. not-zero k (sym ek ∙ z)))) ∙ e
 
-  by-lists : (nine ten : Bool) → cond nine (ofSheet 9) (cond ten (ofSheet 10) accepted) .number ≡ 0 → cond nine (ofSheet 9) (cond ten (ofSheet 10) accepted) ≡ accepted
+  by-lists : (nine ten : Bool) → cond nine (ofCall 9) (cond ten (ofCall 10) accepted) .number ≡ 0 → cond nine (ofCall 9) (cond ten (ofCall 10) accepted) ≡ accepted
   by-lists true ten e = absurd (not-zero 8 e)
   by-lists false true e = absurd (not-zero 9 e)
   by-lists false false e = refl
@@ -183,11 +182,11 @@ module _ (own : Refusal) (deforms : Bool) (tuples : ℕ) (velocities : List Floa
   abbrev given : Refusal
   given = shiftRefusalOf own deforms (replicate (4 * tuples) nan) velocities marks
 
-  pub too-many : 2048 < tuples → given ≡ ofSheet 9
+  pub too-many : 2048 < tuples → given ≡ ofCall 9
   unfolding shiftRefusalOf firstBroken
   too-many h = rw (eq-eqb (own .number) 0 none, length-replicate (4 * tuples) nan, nine-is tuples, lt-ltb 2048 tuples h)
 
-  pub lent-wrong : tuples ≤ 2048 → refusal10 deforms (4 * tuples) velocities marks ≡ true → given ≡ ofSheet 10
+  pub lent-wrong : tuples ≤ 2048 → refusal10 deforms (4 * tuples) velocities marks ≡ true → given ≡ ofCall 10
   unfolding shiftRefusalOf firstBroken
   lent-wrong h ten = rw (eq-eqb (own .number) 0 none, length-replicate (4 * tuples) nan, nine-is tuples, le-ltb 2048 tuples h, ten)
 
@@ -203,7 +202,7 @@ steps-at s refusal false e few = omega arith
 pub steps-few : (s : List ℕ) (tuples : ℕ) (velocities : List Float) (marks : List ℕ) → stepsOf s (thinRefusalOf s tuples velocities marks) ≤ 16
 unfolding stepsOf thinRefusalOf
 steps-few s tuples velocities marks =
-    steps-at s (shiftRefusalOf (refusalOf s) (deformationBefore (kindAt s) (stepCountOf s)) (replicate (4 * tuples) nan) velocities marks) _ refl
+    steps-at s (shiftRefusalOf (refusalOf s) (hasDeformation (kindAt s) (stepCountOf s)) (replicate (4 * tuples) nan) velocities marks) _ refl
     (λ e. accepted-count s (own-accepted (refusalOf s) _ _ velocities marks (refusalOf s .number) refl e))
 
 -- ---- the loop over the steps, either way: `chain`'s invariants, of the same numbers
@@ -219,8 +218,8 @@ module _ (velocities : List Float) (marks : List ℕ) (entry : ℕ → Entry) (n
 
   module _ (i : ℕ) (l : List Float) (counts : List ℕ) where
     pub ahead-again : (inverse : Bool) {l′ : List Float} {count : ℕ} → i < n
-        → l′ ≡ stepListOf inverse velocities marks (entry (placeOf inverse n i)) l → count ≡ stepCountAt inverse velocities marks (entry (placeOf inverse n i)) l
-        → Ahead inverse velocities marks entry n l₀ i l counts → Ahead inverse velocities marks entry n l₀ (i + 1) l′ (set counts (placeOf inverse n i) count)
+        → l′ ≡ stepListOf inverse velocities marks (entry (stepIndexOf inverse n i)) l → count ≡ tuplesCountedOf inverse velocities marks (entry (stepIndexOf inverse n i)) l
+        → Ahead inverse velocities marks entry n l₀ i l counts → Ahead inverse velocities marks entry n l₀ (i + 1) l′ (set counts (stepIndexOf inverse n i) count)
     ahead-again false h el ec now = forward-again most h refl el ec now
     ahead-again true h el ec now =
         let z : n - (i + 1) ≡ n - 1 - i = omega arith in
@@ -234,29 +233,29 @@ module _ (velocities : List Float) (marks : List ℕ) (entry : ℕ → Entry) (n
 -- one step over the records is the chain's step over the same numbers
 module _ (inverse : Bool) (s : List ℕ) (velocities : List Float) (marks : List ℕ) (n i : ℕ) (todo : Todo) (zs zs′ : List Tuple) (count : ℕ) (et : todo ≡ todoOf inverse s n i)
     (ez : zs′ ≡ tuplesOf (turnsOf (todo .inverse) velocities marks (todo .step)) 0 (stateOf (todo .step)) zs) (ec : count ≡ tallyOf (turnsOf (todo .inverse) velocities marks (todo .step)) 0 (stateOf (todo .step)) zs) where
-  pub todo-list : flatOf zs′ ≡ stepListOf inverse velocities marks (entryAt s (placeOf inverse n i)) (flatOf zs)
+  pub todo-list : flatOf zs′ ≡ stepListOf inverse velocities marks (entryAt s (stepIndexOf inverse n i)) (flatOf zs)
   unfolding todoOf stepListOf
   todo-list = ap flatOf ez ∙ flat-tuples (turnsOf (todo .inverse) velocities marks (todo .step)) 0 (stateOf (todo .step)) zs ∙ rw et
 
-  pub todo-count : count ≡ stepCountAt inverse velocities marks (entryAt s (placeOf inverse n i)) (flatOf zs)
-  unfolding todoOf stepCountAt
+  pub todo-count : count ≡ tuplesCountedOf inverse velocities marks (entryAt s (stepIndexOf inverse n i)) (flatOf zs)
+  unfolding todoOf tuplesCountedOf
   todo-count = ec ∙ flat-tally (turnsOf (todo .inverse) velocities marks (todo .step)) 0 (stateOf (todo .step)) zs ∙ rw et
 
 -- no step: the list as it was, and no counts
 no-counts : (inverse : Bool) (velocities : List Float) (marks : List ℕ) (l : List Float) → placesOf (chainOf inverse velocities marks [] l .counts) ≡ replicate 16 0
-unfolding forwardOf inverseOf
+unfolding chainForwardOf chainInverseOf
 no-counts true velocities marks l = refl
 no-counts false velocities marks l = refl
 
 same-list : (inverse : Bool) (velocities : List Float) (marks : List ℕ) (l : List Float) → chainOf inverse velocities marks [] l .list ≡ l
-unfolding forwardOf inverseOf
+unfolding chainForwardOf chainInverseOf
 same-list true velocities marks l = refl
 same-list false velocities marks l = refl
 
 -- the loop's end: what the flat entry answers, and its list
 module _ (inverse : Bool) (s : List ℕ) (velocities : List Float) (marks : List ℕ) (ys zs : List Tuple) (answer : Answer) where
   abbrev flat-refusal : Refusal
-  flat-refusal = shiftRefusalOf (refusalOf s) (deformationBefore (kindAt s) (stepCountOf s)) (flatOf ys) velocities marks
+  flat-refusal = shiftRefusalOf (refusalOf s) (hasDeformation (kindAt s) (stepCountOf s)) (flatOf ys) velocities marks
 
   by-refusal : (t : Bool) → eqb (flat-refusal .number) 0 ≡ t → answer .refusal ≡ flat-refusal
       → (flatOf zs ≡ chainOf inverse velocities marks (entriesOf (entryAt s) (cond t (stepCountOf s) 0) 0) (flatOf ys) .list)
@@ -277,11 +276,11 @@ module _ (inverse : Bool) (s : List ℕ) (velocities : List Float) (marks : List
 
 -- ---- the loop over the steps as the walk has it
 
-pub place-below : (inverse : Bool) (n i : ℕ) → i < n → placeOf inverse n i < n
+pub place-below : (inverse : Bool) (n i : ℕ) → i < n → stepIndexOf inverse n i < n
 place-below true n i h = omega arith
 place-below false n i h = h
 
-pub todo-place : (inverse : Bool) (s : List ℕ) (n i : ℕ) (todo : Todo) → todo ≡ todoOf inverse s n i → todo .place ≡ placeOf inverse n i
+pub todo-place : (inverse : Bool) (s : List ℕ) (n i : ℕ) (todo : Todo) → todo ≡ todoOf inverse s n i → todo .place ≡ stepIndexOf inverse n i
 unfolding todoOf
 todo-place inverse s n i todo et = ap (λ (t : Todo). t .place) et
 

@@ -1,11 +1,12 @@
--- A step made ready: what depends on the record alone is worked out once a list, and the direction is in the plan.
+-- A step made ready: what depends on the record alone is worked out once a list, and the direction
+-- is in the plan.
 use Prim.Native.Nat.{ℕ, _+_}
 use mathlib.Core.Bool.{Bool, cond}
 use mathlib.Core.List.{List}
 use lib.Ieee.{Float}
 use Rattle.tuple.specs.declared.Tuple.{Tuple}
 use Rattle.ellipsoid.specs.Figure.{namedOf}
-use Rattle.cart.specs.Step.{cartFwdOf, cartInvOf, inverseOf}
+use Rattle.cart.specs.Step.{cartFwdOf, cartInvOf, inverseFiguresOf}
 use Rattle.permtide.specs.Step.{tideOf, fwdOf, invOf}
 use Rattle.molodensky.specs.Step.{mopedOf, commonOf}
 use Rattle.deformation.specs.Step.{motionOf}
@@ -14,7 +15,7 @@ use Rattle.helmert.specs.Modes.{prepareOf, startOf}
 use Rattle.bodies.specs.declared.Step.{Step}
 use Rattle.bodies.specs.declared.Step.the-variants.{Cart, Permtide, Deformation, Molodensky, Helmert}
 use Rattle.lists.specs.Run.{Turn, Turns}
-use Rattle.helmert_turns.specs.Turns.{noState, allTurns, helmertTurns}
+use Rattle.helmert.specs.Turns.{noState, allTurns, helmertTurns}
 use Rattle.runs.specs.Turns.{plainTurns}
 use Rattle.deformation_runs.specs.Turns.{movedTurns}
 use Rattle.thin.specs.declared.Plan.{Plan}
@@ -24,7 +25,7 @@ use Rattle.thin.specs.declared.Turned.{Turned}
 
 -- the plan of a step in a direction
 unfoldable pub planOf : Bool → Step → Plan
-planOf inverse (Cart r) = cond inverse (CartInverse (inverseOf (namedOf (r .ellipsoid)))) (CartForward (namedOf (r .ellipsoid)))
+planOf inverse (Cart r) = cond inverse (CartInverse (inverseFiguresOf (namedOf (r .ellipsoid)))) (CartForward (namedOf (r .ellipsoid)))
 planOf inverse (Permtide r) = cond inverse (PermtideInverse (tideOf r)) (PermtideForward (tideOf r))
 planOf inverse (Deformation r) = DeformationEither (motionOf r) inverse
 planOf inverse (Molodensky r) = MolodenskyEither (mopedOf r) inverse

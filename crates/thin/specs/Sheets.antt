@@ -1,4 +1,5 @@
--- What the loop over a sheet's steps goes by: the rules, how many steps are run, which comes next and in which direction, and where its count stands.
+-- What the loop over a sheet's steps goes by: the rules, how many steps are run, which comes next
+-- and in which direction, and where its count stands.
 use Prim.Native.Nat.{ℕ, _*_, _-_}
 use mathlib.Core.Bool.{Bool, cond}
 use mathlib.Core.List.{List}
@@ -7,30 +8,31 @@ use lib.ListN.{set, replicate}
 use lib.Ieee.{Float, nan}
 use Rattle.sheet.specs.declared.Refusal.{Refusal}
 use Rattle.sheet.specs.Layout.{stepCountOf, kindAt, entryAt}
-use Rattle.sheet.specs.Rules.{deformationBefore, refusalOf}
+use Rattle.sheet.specs.Rules.{hasDeformation, refusalOf}
 use Rattle.chain.specs.declared.Answer.{Answer}
-use Rattle.chain.specs.Chain.{turnedOf}
+use Rattle.chain.specs.Chain.{reversedOf}
 use Rattle.chain.specs.Rules.{shiftRefusalOf}
 use Rattle.thin.specs.declared.Todo.{Todo}
 
--- the flat entry's refusal of as many tuples: the rules read the list's length and nothing else of it
+-- the flat entry's refusal of as many tuples: the rules read the list's length and nothing else of
+-- it
 unfoldable pub thinRefusalOf : List ℕ → ℕ → List Float → List ℕ → Refusal
 thinRefusalOf s tuples velocities marks =
-    shiftRefusalOf (refusalOf s) (deformationBefore (kindAt s) (stepCountOf s)) (replicate (4 * tuples) nan) velocities marks
+    shiftRefusalOf (refusalOf s) (hasDeformation (kindAt s) (stepCountOf s)) (replicate (4 * tuples) nan) velocities marks
 
 -- how many steps are run: none of a refused call
 unfoldable pub stepsOf : List ℕ → Refusal → ℕ
 stepsOf s refusal = cond (eqb (refusal .number) 0) (stepCountOf s) 0
 
 -- the place of the step that comes i-th of n: the first first, inverse the last first
-abbrev pub placeOf : Bool → ℕ → ℕ → ℕ
-placeOf inverse n i = cond inverse (n - 1 - i) i
+abbrev pub stepIndexOf : Bool → ℕ → ℕ → ℕ
+stepIndexOf inverse n i = cond inverse (n - 1 - i) i
 
 -- that step, in the chain's direction, turned round where its inverted word is 1
 unfoldable pub todoOf : Bool → List ℕ → ℕ → ℕ → Todo
 todoOf inverse s n i =
-    let entry = entryAt s (placeOf inverse n i) in
-    record { place = placeOf inverse n i; inverse = turnedOf inverse entry; step = entry .step }
+    let entry = entryAt s (stepIndexOf inverse n i) in
+    record { place = stepIndexOf inverse n i; inverse = reversedOf inverse entry; step = entry .step }
 
 -- a step's count in its place
 unfoldable pub notedOf : Answer → ℕ → ℕ → Answer

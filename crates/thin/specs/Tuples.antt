@@ -1,5 +1,6 @@
--- A step over a list of tuple records, for any step: tuple after tuple from the front, a state handed on from each to the next. `Turns` is that of the flat
--- lists, so that a step is said once for both; proofs/Flat.antt has the theorem that both say the same.
+-- A step over a list of tuple records, for any step: tuple after tuple from the front, a state
+-- handed on from each to the next. `Turns` is that of the flat lists, so that a step is said once
+-- for both; proofs/Flat.antt has the theorem that both say the same.
 use Prim.Native.Nat.{ℕ, suc, _+_}
 use mathlib.Core.Bool.{Bool, cond}
 use mathlib.Core.List.{List, [], _∷_, _++_}

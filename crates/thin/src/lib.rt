@@ -1,21 +1,25 @@
-// The thin entries: a step of any kind, or a whole sheet, over a lent list of tuple records, where the list stands.
+// The thin entries: a step of any kind, or a whole sheet, over a lent list of tuple records, where
+// the list stands.
 //
-// Document 01: "a lent flat list; afterwards also a thin entry over a lent list of tuple records". The flat entries are the core. What is here walks a
-// `&mut [Tuple]` and hands each tuple to the step that the core is made of: `run_step` has the one loop over tuples, for all five kinds, either way, Helmert
-// in every mode with its carried state; `shift` runs a sheet's steps one after another by it, with `chain::shift`'s refusals in their order, 2,048 tuples at
-// most. Proved for every input: the list and the count of `run_step` are the step's own definition from tuple to tuple, and what `shift` answers and leaves
-// are, number for number, what `chain::shift` answers and leaves on the same numbers as a flat list (proofs/Flat.antt). No rounding but the steps' own. The
-// two walks are proved by hand; a further kind of step is a case of Plan, with a line each in `plan_of`, `start_of` and `turn`, and no walk. For callers who
-// hold their fixes as records.
+// Document 01: "a lent flat list; afterwards also a thin entry over a lent list of tuple records".
+// The flat entries are the core. What is here walks a `&mut [Tuple]` and hands each tuple to the
+// step that the core is made of: `run_step` has the one loop over tuples, for all five kinds,
+// either way, Helmert in every mode with its carried state; `shift` runs a sheet's steps one after
+// another by it, with `chain::shift`'s refusals in their order, 2,048 tuples at most. Proved for
+// every input: the list and the count of `run_step` are the step's own definition from tuple to
+// tuple, and what `shift` answers and leaves are, number for number, what `chain::shift` answers
+// and leaves on the same numbers as a flat list (proofs/Flat.antt). No rounding but the steps' own.
+// The two walks are proved by hand; a further kind of step is a case of Plan, with a line each in
+// `plan_of`, `start_of` and `turn`, and no walk. For callers who hold their fixes as records.
 ghost use mathlib.Core.Path.{_≡_};
-ghost use mathlib.Core.Bool.{true, false, cond};
-ghost use Prim.Native.Nat.{_+_, _<_};
-ghost use Rattle.helmert_turns.specs.Turns.{noState};
-ghost use Rattle.sheet.specs.Rules.{ofSheet};
+ghost use mathlib.Core.Bool.{true, false};
+ghost use Prim.Native.Nat.{_<_};
+ghost use Rattle.helmert.specs.Turns.{noState};
 ghost use Rattle.chain.specs.Rules.{refusedAnswer, outcome, shiftOf};
 ghost use Rattle.thin.specs.Tuples.{stepTuplesOf, stepTallyOf, flatOf};
 ghost use Rattle.thin.specs.Plans.{planOf, startsOf, beginOf, tallied, turnOf};
-ghost use Rattle.thin.specs.Sheets.{placeOf, todoOf, thinRefusalOf, stepsOf, notedOf};
+ghost use Rattle.thin.specs.Sheets.{stepIndexOf, todoOf, thinRefusalOf, stepsOf, notedOf};
+use blocks::one_if;
 use bodies::Step;
 use cart::Inverse;
 use chain::Answer;
@@ -123,19 +127,11 @@ fn begin(plan: Plan) -> Carried
 
 // ----- one tuple -------------------------------------------------------------------------
 
-// One more where a tuple counts.
-fn tally(n: usize, counted: bool) -> usize
-    requires { ⌜ n < 18446744073709551615 ⌝ }
-    ensures { λ r. ⌜ r ≡ n + cond counted 1 0 ⌝ }
-{
-    if counted { n + 1 } else { n }
-}
-
 fn carried_on(at: Carried, state: State, tuple: Tuple, counted: bool) -> Turned
     requires { ⌜ at .counted < 18446744073709551615 ⌝ }
     ensures { λ r. ⌜ r ≡ tallied at (record { state = state; tuple = tuple; counted = counted }) ⌝ }
 {
-    let n = tally(at.counted, counted);
+    let n = at.counted + one_if(counted);
     let carried = Carried {
         state: state,
         counted: n,
@@ -186,7 +182,8 @@ fn turn(plan: Plan, at: Carried, k: usize, u: Tuple, velocities: &[f64], marks: 
 
 // ----- a step over the list --------------------------------------------------------------
 
-// One step over a list, either way: Helmert in every mode with its carried state, and the four that have none.
+// One step over a list, either way: Helmert in every mode with its carried state, and the four that
+// have none.
 pub fn run_step(
     list: &mut [Tuple],
     inverse: bool,
@@ -221,7 +218,7 @@ pub struct Todo {
 // The place of the step that comes i-th of n: the first first, inverse the last first.
 fn place_of(inverse: bool, n: usize, i: usize) -> usize
     requires { ⌜ i < n ⌝ }
-    ensures { λ r. ⌜ r ≡ placeOf inverse n i ⌝ }
+    ensures { λ r. ⌜ r ≡ stepIndexOf inverse n i ⌝ }
 {
     if inverse { n - 1 - i } else { i }
 }
@@ -234,21 +231,11 @@ fn next_step(inverse: bool, s: &[u8], n: usize, i: usize) -> Todo
     let place = place_of(inverse, n, i);
     let entry = sheet::entry_at(s, place);
     let step = entry.step;
-    let turned = chain::turned(inverse, entry);
+    let reversed = chain::reversed(inverse, entry);
     Todo {
         place: place,
-        inverse: turned,
+        inverse: reversed,
         step: step,
-    }
-}
-
-// A refusal of the lent lists carries no step.
-fn of_lists(number: u32) -> Refusal
-    ensures { λ r. ⌜ r ≡ ofSheet number ⌝ }
-{
-    Refusal {
-        number: number,
-        step: 0,
     }
 }
 
@@ -261,10 +248,10 @@ fn refusal_of(s: &[u8], tuples: usize, velocities: &[f64], marks: &[u8]) -> Refu
         return own;
     }
     if 2048 < tuples {
-        return of_lists(9);
+        return Refusal::of_call(9);
     }
     if chain::lent_broken(chain::has_deformation(s), 4 * tuples, velocities, marks) {
-        return of_lists(10);
+        return Refusal::of_call(10);
     }
     Refusal::none()
 }

@@ -1,5 +1,6 @@
--- Known values of the definitions: sine and cosine of angles whose values are in every table, by their bits. Each is the binary64 number nearest to the
--- exact sine or cosine of the binary64 angle, but for the sine of 1024, which is the next one. Assumes nothing.
+-- Known values of the definitions: sine and cosine of angles whose values are in every table, by
+-- their bits. Each is the binary64 number nearest to the exact sine or cosine of the binary64
+-- angle, but for the sine of 1024, which is the next one. Assumes nothing.
 use Prim.Native.Nat.{ℕ}
 use mathlib.Core.Path.{_≡_, refl}
 use lib.Ieee.{ofBits, toBits, neg, add, sub, mul, eq, lt, le, sum, round, size}

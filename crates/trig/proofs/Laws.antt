@@ -1,4 +1,5 @@
--- What is true of sine and cosine, at every binary64 number unless it says otherwise, for callers to cite. Assumes nothing.
+-- What is true of sine and cosine, at every binary64 number unless it says otherwise, for callers
+-- to cite. Assumes nothing.
 use mathlib.Core.Path.{_≡_, refl, sym, _∙_, ap}
 use Prim.Native.Nat.{ℕ, zero, suc, _+_, _*_, _<_}
 use native.Mathlib.Nat.{add-comm, zero-mul, mul-pos, zero-lt-suc}
@@ -6,12 +7,13 @@ use native.Mathlib.Omega.{arith}
 use mathlib.Core.Bool.{Bool, true, false, not, cond, true≢false}
 use borrow.Author.Tests.{lt-ltb}
 use lib.IntN.{ℤ, pos}
-use lib.Ieee.{Float, nan, inf, fin, binary64, ofBits, isNan, neg, eq, lt, le, up, down}
+use lib.Ieee.{Float, nan, inf, fin, ofBits, isNan, neg, eq, lt, le, up, down}
 use lib.Ieee.Fits.{up-pos, down-pos}
 use Rattle.floats.specs.Binary64.{bits}
 use Rattle.floats.specs.Number.{signOf, absOf}
 use Rattle.floats.proofs.Zero.{equals-zero, differs-from-zero}
 use Rattle.floats.proofs.Laws.{neg-neg, abs-of-neg}
+use Rattle.trig.specs.WithinOne.{WithinOne}
 use Rattle.trig.specs.Trig.{one, reach, atMostOne, clampOf, sumOf, sineOf, cosineOf, signedOf, sinOf, cosOf, sinCosOf}
 
 -- ---- zeros, either way round
@@ -45,9 +47,6 @@ zero-is-less false e n d =
     lt-ltb (0 * up e * down d) (suc n * up d * down e) (rw (zero-mul (up e), zero-mul (down d)) (positive e n d))
 
 -- ---- within -1 to 1
-
-abbrev pub WithinOne : Float → Type 0
-WithinOne r = (le (neg one) r ≡ true) × (le r one ≡ true)
 
 less-is-at-most : (x y : Float) → lt x y ≡ true → le x y ≡ true
 unfolding le

@@ -1,4 +1,5 @@
--- Rows from the first half of the circle: the sine is odd and the cosine even, so that row i is that of the step as far from 0, its sine turned where i is past the half.
+-- Rows from the first half of the circle: the sine is odd and the cosine even, so that row i is
+-- that of the step as far from 0, its sine turned where i is past the half.
 -- The checker computes each of the 64. Assumes nothing.
 use Prim.Native.Nat.{ℕ, zero, suc, _+_, _-_, _*_, _/_, _<_, _≤_}
 use native.Mathlib.Nat.{not-suc-le-zero, le-of-suc-le-suc, eq-or-lt-of-le}

@@ -1,4 +1,5 @@
--- The one table of sine and cosine: a quarter of the circle, from which the whole circle in 64 steps follows by its symmetries.
+-- The one table of sine and cosine: a quarter of the circle, from which the whole circle in 64
+-- steps follows by its symmetries.
 use Prim.Native.Nat.{ℕ, _+_, _-_, _%_}
 use mathlib.Core.Bool.{cond}
 use mathlib.Core.List.{List, [], _∷_}
@@ -8,7 +9,8 @@ use lib.Ieee.{Float, neg}
 use Rattle.floats.specs.Binary64.{bits}
 use Rattle.trig.specs.declared.Row.{Row}
 
--- a value in two parts: the binary64 number nearest to it, and the number nearest to what that leaves
+-- a value in two parts: the binary64 number nearest to it, and the number nearest to what that
+-- leaves
 pub record Entry : Type 0 where
   pub high : Float
   pub low : Float

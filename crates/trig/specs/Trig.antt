@@ -1,5 +1,6 @@
--- Sine and cosine, each a sequence of single roundings. An angle's magnitude a is k·π/32 + r with a whole k and a small r; the table has sine and cosine
--- of k·π/32, two short polynomials those of r, and the theorems of addition join them.
+-- Sine and cosine, each a sequence of single roundings. An angle's magnitude a is k·π/32 + r with a
+-- whole k and a small r; the table has sine and cosine of k·π/32, two short polynomials those of r,
+-- and the theorems of addition join them.
 use Prim.Native.Nat.{ℕ}
 use mathlib.Core.Bool.{Bool, cond}
 use lib.Ieee.{Float, nan, binary64, toBits, neg, eq, lt, le}
@@ -39,7 +40,8 @@ step₂ = bits 0xbd32_e7b9_6767_4000
 abbrev pub step₃ : Float
 step₃ = bits 0x3aa8_a2e0_3707_344a
 
--- The reduction: k, the steps in a to the nearest, in the last bits of `step`; a less k steps; and what rounding took from that.
+-- The reduction: k, the steps in a to the nearest, in the last bits of `step`; a less k steps; and
+-- what rounding took from that.
 unfoldable pub reducedOf : Float → Reduced
 reducedOf a =
     let t = a ⊗ steps ⊕ whole in
@@ -87,12 +89,13 @@ atMostOne r = cond (lt r one) r one
 unfoldable pub clampOf : Float → Float
 clampOf r = cond (lt (neg one) (atMostOne r)) (atMostOne r) (neg one)
 
--- The theorems of addition for both: f(A + r) = f(A)·cos r + f'(A)·sin r, where f(A) is high + low, f'(A) is slope, and b is what sine and cosine of r
--- have beyond r and beyond 1.
+-- The theorems of addition for both: f(A + r) = f(A)·cos r + f'(A)·sin r, where f(A) is high + low,
+-- f'(A) is slope, and b is what sine and cosine of r have beyond r and beyond 1.
 unfoldable pub sumOf : Float → Float → Float → Float → Bends → Float
 sumOf high low slope r b = clampOf (high ⊕ (slope ⊗ r ⊕ (slope ⊗ b .sine ⊕ (high ⊗ b .cosine ⊕ low))))
 
--- sine and cosine of a magnitude in reach: the slope of the sine is the cosine, that of the cosine the sine turned
+-- sine and cosine of a magnitude in reach: the slope of the sine is the cosine, that of the cosine
+-- the sine turned
 unfoldable pub sineOf : Float → Float
 sineOf a =
     let g = reducedOf a in
@@ -114,10 +117,11 @@ unfoldable pub signedOf : Float → Float → Float
 signedOf s x = cond (signOf x) (neg s) s
 
 -- s, turned where x is below zero
-unfoldable pub turnedOf : Float → Float → Float
-turnedOf s x = cond (lt x zero) (neg s) s
+unfoldable pub mirroredOf : Float → Float → Float
+mirroredOf s x = cond (lt x zero) (neg s) s
 
--- The sine of x: a zero is its own; out of reach, and of NaN, it is NaN; else that of |x|, with the sign of x.
+-- The sine of x: a zero is its own; out of reach, and of NaN, it is NaN; else that of |x|, with the
+-- sign of x.
 unfoldable pub sinOf : Float → Float
 sinOf x = cond (eq x zero) x (cond (le (absOf x) reach) (signedOf (sineOf (absOf x)) x) nan)
 

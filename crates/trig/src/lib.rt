@@ -1,17 +1,21 @@
 // Sine and cosine of an angle in radians, as a pair and one by one.
 //
-// The method is Tang's: sine and cosine at the steps of a circle from a table, each in two parts, and short polynomials between the steps. The angle's
-// magnitude is taken apart as k·π/32 + r with |r| ≤ π/64, after Cody and Waite with π/32 in three parts, so that r is right to its last place near every
-// multiple of π/2. Where we depart: the table goes round the whole circle, so that there are no quadrants to tell apart; what rounding took from r is
-// kept as `tail`; and one sum serves sine and cosine, in which only the last addition rounds a number of the result's size.
+// The method is Tang's: sine and cosine at the steps of a circle from a table, each in two parts,
+// and short polynomials between the steps. The angle's magnitude is taken apart as k·π/32 + r with
+// |r| ≤ π/64, after Cody and Waite with π/32 in three parts, so that r is right to its last place
+// near every multiple of π/2. Where we depart: the table goes round the whole circle, so that there
+// are no quadrants to tell apart; what rounding took from r is kept as `tail`; and one sum serves
+// sine and cosine, in which only the last addition rounds a number of the result's size.
 //
-// Proved: the answer is the definition's for every angle; within -1 to 1; sine odd, cosine even; sine of a zero is that zero, cosine of a zero is 1; NaN
-// exactly where the angle is NaN or beyond ±1024. Measured: within 0.59·2^-53 for |x| up to 8, and within 1.35 units in the last place for every
-// angle in reach. Every step of a shift that meets a latitude or an exact rotation uses the pair.
+// Proved: the answer is the definition's for every angle; within -1 to 1; sine odd, cosine even;
+// sine of a zero is that zero, cosine of a zero is 1; NaN exactly where the angle is NaN or beyond
+// ±1024. Measured: within 0.59·2^-53 for |x| up to 8, and within 1.35 units in the last place for
+// every angle in reach. Every step of a shift that meets a latitude or an exact rotation uses the
+// pair.
 ghost use mathlib.Core.Path.{_≡_};
 ghost use Prim.Native.Nat.{_%_};
 ghost use Rattle.trig.specs.Table.{rowOf, asideOf, halfOf};
-ghost use Rattle.trig.specs.Trig.{reducedOf, bendOf, atMostOne, clampOf, sumOf, sineOf, cosineOf, pairOf, turnedOf, sinOf, cosOf, sinCosOf};
+ghost use Rattle.trig.specs.Trig.{reducedOf, bendOf, atMostOne, clampOf, sumOf, sineOf, cosineOf, pairOf, mirroredOf, sinOf, cosOf, sinCosOf};
 use floats::abs;
 use floats::of_bits;
 use floats::to_bits;
@@ -21,7 +25,8 @@ pub struct SinCos {
     pub c: f64,
 }
 
-// Sine and cosine. One branch for the zeros keeps the sign of -0; one for NaN comes before the magnitude, which of a number is a single instruction.
+// Sine and cosine. One branch for the zeros keeps the sign of -0; one for NaN comes before the
+// magnitude, which of a number is a single instruction.
 pub fn sin_cos(x: f64) -> SinCos
     ensures { λ r. ⌜ r ≡ sinCosOf x ⌝ }
 {
@@ -78,14 +83,16 @@ pub fn cos(x: f64) -> f64
     if size <= 1024.0 { cosine(size) } else { none }
 }
 
-// s, turned where x is below zero: the sine is odd. Of a number that is not zero this is its sign, and costs no branch.
+// s, turned where x is below zero: the sine is odd. Of a number that is not zero this is its sign,
+// and costs no branch.
 pub fn signed(s: f64, x: f64) -> f64
-    ensures { λ r. ⌜ r ≡ turnedOf s x ⌝ }
+    ensures { λ r. ⌜ r ≡ mirroredOf s x ⌝ }
 {
     if x < 0.0 { -s } else { s }
 }
 
-// Sine and cosine of a magnitude in reach. The slope of the sine is the cosine, that of the cosine the sine turned.
+// Sine and cosine of a magnitude in reach. The slope of the sine is the cosine, that of the cosine
+// the sine turned.
 fn pair(a: f64) -> SinCos
     ensures { λ q. ⌜ q ≡ pairOf a ⌝ }
 {
@@ -118,7 +125,8 @@ fn cosine(a: f64) -> f64
     sum(w.2, w.3, -w.0, g.rest, b)
 }
 
-// An angle as a step of the circle, counted in the last six bits, a small rest, and what rounding took from the rest.
+// An angle as a step of the circle, counted in the last six bits, a small rest, and what rounding
+// took from the rest.
 pub struct Reduced {
     pub step: u64,
     pub rest: f64,
@@ -129,7 +137,8 @@ pub struct Reduced {
 const STEPS: f64 = 10.185916357881302;
 // 3·2^51: a sum with it is a whole number, which stands in the sum's last bits
 const WHOLE: f64 = 6755399441055744.0;
-// π/32 in three parts; the product of either of the first two with a whole number up to 2^14 is exact
+// π/32 in three parts; the product of either of the first two with a whole number up to 2^14 is
+// exact
 const STEP_1: f64 = 0.0981747704247482;
 
 const STEP_2: f64 = -6.716466596861444e-14;
@@ -157,7 +166,8 @@ pub struct Bends {
     pub cosine: f64,
 }
 
-// sin r = r + r³·(S1 + S2·r² + S3·r⁴) and cos r = 1 + r²·(C1 + C2·r² + C3·r⁴ + C4·r⁶), fitted to |r| ≤ π/64
+// sin r = r + r³·(S1 + S2·r² + S3·r⁴) and cos r = 1 + r²·(C1 + C2·r² + C3·r⁴ + C4·r⁶), fitted to
+// |r| ≤ π/64
 const S1: f64 = -0.166666666666657;
 
 const S2: f64 = 0.00833333331241848;
@@ -196,17 +206,20 @@ fn clamp(r: f64) -> f64
     if -1.0 < u { u } else { -1.0 }
 }
 
-// f(A + r) = f(A)·cos r + f'(A)·sin r for sine and cosine alike, summed from the smallest part to the largest
+// f(A + r) = f(A)·cos r + f'(A)·sin r for sine and cosine alike, summed from the smallest part to
+// the largest
 pub fn sum(high: f64, low: f64, slope: f64, r: f64, b: Bends) -> f64
     ensures { λ q. ⌜ q ≡ sumOf high low slope r b ⌝ }
 {
     clamp(high + (slope * r + (slope * b.sine + (high * b.cosine + low))))
 }
 
-// Sine and cosine of a step of the circle, each as the number nearest to it and what that leaves: sine, its rest, cosine, its rest.
+// Sine and cosine of a step of the circle, each as the number nearest to it and what that leaves:
+// sine, its rest, cosine, its rest.
 pub struct Row(pub f64, pub f64, pub f64, pub f64);
 
-// The row of a step: that of the step as far from 0 on the first half of the circle, the sine turned on the second half.
+// The row of a step: that of the step as far from 0 on the first half of the circle, the sine
+// turned on the second half.
 pub fn look_up(k: u64) -> Row
     ensures { λ r. ⌜ r ≡ rowOf k ⌝ }
 {
@@ -224,8 +237,9 @@ fn aside(k: u64) -> u64
     if i < 32 { i } else { 64 - i }
 }
 
-// The rows of the first half, 0 to 32. One `match` with constants becomes a table in read-only memory, where an array would be built anew at each call; with an arm for each of the 64 steps
-// it would count as too large to be put in the place of more than one call.
+// The rows of the first half, 0 to 32. One `match` with constants becomes a table in read-only
+// memory, where an array would be built anew at each call; with an arm for each of the 64 steps it
+// would count as too large to be put in the place of more than one call.
 pub fn half(d: u64) -> Row
     ensures { λ r. ⌜ r ≡ halfOf d ⌝ }
 {

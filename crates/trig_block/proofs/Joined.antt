@@ -1,4 +1,5 @@
--- What the loops over a block hand to one another gives the sine and the cosine of each angle. Assumes nothing.
+-- What the loops over a block hand to one another gives the sine and the cosine of each angle.
+-- Assumes nothing.
 use Prim.Native.Nat.{ℕ}
 use mathlib.Core.Path.{_≡_, refl, sym, _∙_}
 use mathlib.Core.Bool.{Bool, true, false, cond, true≢false}
@@ -9,7 +10,7 @@ use Rattle.floats.proofs.Nan.{differs-exactly-if-nan}
 use Rattle.floats.proofs.Zero.{sign-of-other}
 use Rattle.trig.specs.declared.Row.{Row}
 use Rattle.trig.specs.Table.{rowOf}
-use Rattle.trig.specs.Trig.{one, reach, sineOf, cosineOf, signedOf, turnedOf, sinOf, cosOf, sinCosOf}
+use Rattle.trig.specs.Trig.{one, reach, sineOf, cosineOf, signedOf, mirroredOf, sinOf, cosOf, sinCosOf}
 use Rattle.trig_block.specs.Block.{numberOf, stepOf, restOf, tailOf, usualOf, sinFrom, cosFrom, usualFrom, bothFrom}
 
 -- ---- any angle
@@ -58,7 +59,7 @@ usual-parts x h = go (eq x (bits 0)) h
 
 -- its choices are made: it is not zero, so that being below zero tells its sign, and it is in reach
 usual-is-both : (x r tail : Float) (w : Row) → usualOf x ≡ true → usualFrom x r tail w ≡ bothFrom x r tail w
-unfolding sinFrom cosFrom signedOf turnedOf
+unfolding sinFrom cosFrom signedOf mirroredOf
 usual-is-both x r tail w h =
     let p = usual-parts x h in
     rw (sign-of-other x (p .0), p .0, p .1)

@@ -1,13 +1,13 @@
--- What the loops over a block hand to one another: the parts of a sine and a cosine, as functions of the angle, and how they are joined.
-use Prim.Native.Nat.{ℕ, zero, suc, _≤_}
-use mathlib.Core.Path.{_≡_}
-use mathlib.Core.Bool.{Bool, true, false, cond}
+-- What the loops over a block hand to one another: the parts of a sine and a cosine, as functions
+-- of the angle, and how they are joined.
+use Prim.Native.Nat.{ℕ}
+use mathlib.Core.Bool.{Bool, false, cond}
 use lib.Ieee.{Float, nan, neg, eq, ne, le}
 use Rattle.floats.specs.Binary64.{bits}
 use Rattle.floats.specs.Number.{absOf}
 use Rattle.trig.specs.declared.SinCos.{SinCos}
 use Rattle.trig.specs.declared.Row.{Row}
-use Rattle.trig.specs.Trig.{one, reach, reducedOf, bendOf, sumOf, signedOf, turnedOf}
+use Rattle.trig.specs.Trig.{one, reach, reducedOf, bendOf, sumOf, signedOf, mirroredOf}
 
 -- x, or 0 in the place of a NaN
 unfoldable pub numberOf : Float → Float
@@ -27,16 +27,6 @@ tailOf x = reducedOf (absOf (numberOf x)) .tail
 unfoldable pub usualOf : Float → Bool
 usualOf x = cond (eq x (bits 0)) false (le (absOf x) reach)
 
--- whether each of the first n places has the property
-abbrev pub allTo : ℕ → (ℕ → Bool) → Bool
-allTo zero f = true
-allTo (suc n) f = cond (f n) (allTo n f) false
-
--- b tells just that of the first n places of a block
-pub record Tells (n : ℕ) (f : ℕ → Bool) (b : Bool) : Type 0 where
-  pub all : b ≡ allTo n f
-  pub block : n ≤ 16
-
 -- the sine of x from s, that of |x|
 unfoldable pub sinFrom : Float → Float → Float
 sinFrom x s = cond (eq x (bits 0)) x (cond (le (absOf x) reach) (signedOf s x) nan)
@@ -53,7 +43,7 @@ pairFrom r tail w =
 
 -- both of a usual x
 abbrev pub usualFrom : Float → Float → Float → Row → SinCos
-usualFrom x r tail w = record { s = turnedOf (pairFrom r tail w .s) x; c = pairFrom r tail w .c }
+usualFrom x r tail w = record { s = mirroredOf (pairFrom r tail w .s) x; c = pairFrom r tail w .c }
 
 -- both of any x
 abbrev pub bothFrom : Float → Float → Float → Row → SinCos

@@ -1,16 +1,19 @@
 // Sine and cosine of a block of angles in radians, each as `trig::sin_cos` gives them.
 //
-// The method is that of `trig`, in three loops over the block: the reductions, the rows of the table, and the sums. The first and the last have no branch and become vector
-// instructions; only the table is looked up number by number. A block in which no angle is zero, NaN or out of reach has sums of its own, without the choices for such angles.
+// The method is that of `trig`, in three loops over the block: the reductions, the rows of the
+// table, and the sums. The first and the last have no branch and become vector instructions; only
+// the table is looked up number by number. A block in which no angle is zero, NaN or out of reach
+// has sums of its own, without the choices for such angles.
 //
-// Proved: place by place the answers are the definitions' of `trig`, so that its laws and its error hold here too. Every step of a shift that meets latitudes by the block uses it.
+// Proved: place by place the answers are the definitions' of `trig`, so that its laws and its error
+// hold here too. Every step of a shift that meets latitudes by the block uses it.
 ghost use mathlib.Core.Path.{_≡_};
 ghost use mathlib.Core.Bool.{false, cond};
 ghost use Prim.Native.Nat.{ℕ};
-ghost use Rattle.blocks.specs.Each.{at, wholeAt, Each, EachWhole};
+ghost use Rattle.blocks.specs.Each.{at, wholeAt, Each, EachWhole, Tells};
 ghost use Rattle.trig.specs.Table.{rowOf};
 ghost use Rattle.trig.specs.Trig.{sinOf, cosOf};
-ghost use Rattle.trig_block.specs.Block.{numberOf, stepOf, restOf, tailOf, usualOf, Tells, sinFrom, cosFrom, pairFrom, usualFrom, bothFrom};
+ghost use Rattle.trig_block.specs.Block.{numberOf, stepOf, restOf, tailOf, usualOf, sinFrom, cosFrom, pairFrom, usualFrom, bothFrom};
 use blocks::WIDTH;
 use floats::abs;
 use trig::Row;
@@ -64,14 +67,16 @@ fn smalls(
     }
 }
 
-// x, or 0 in the place of a NaN. The magnitude of what is no NaN is a single instruction, and so are the bits of what comes of it.
+// x, or 0 in the place of a NaN. The magnitude of what is no NaN is a single instruction, and so
+// are the bits of what comes of it.
 fn number(x: f64) -> f64
     ensures { λ r. ⌜ r ≡ numberOf x ⌝ }
 {
     if x != x { 0.0 } else { x }
 }
 
-// The table's rows for a block of steps: the loop that is not turned into vector instructions has nothing else to do.
+// The table's rows for a block of steps: the loop that is not turned into vector instructions has
+// nothing else to do.
 fn rows(
     step: &[u64; WIDTH],
     sh: &mut [f64; WIDTH],
@@ -96,7 +101,8 @@ fn rows(
     }
 }
 
-// The row of a step. Latitudes, and longitudes from -π to π, stay on the first half of the circle, where the table has the row as it is.
+// The row of a step. Latitudes, and longitudes from -π to π, stay on the first half of the circle,
+// where the table has the row as it is.
 fn row(k: u64) -> Row
     ensures { λ r. ⌜ r ≡ rowOf k ⌝ }
 {
@@ -193,7 +199,8 @@ fn usual_both(x: f64, r: f64, tail: f64, sh: f64, sl: f64, ch: f64, cl: f64) -> 
     }
 }
 
-// Sine and cosine of any angle. Each `if` chooses between two numbers that are there already, which is no branch.
+// Sine and cosine of any angle. Each `if` chooses between two numbers that are there already, which
+// is no branch.
 fn both(x: f64, r: f64, tail: f64, sh: f64, sl: f64, ch: f64, cl: f64) -> SinCos
     ensures { λ q. ⌜ q ≡ bothFrom x r tail (record { 0 = sh; 1 = sl; 2 = ch; 3 = cl }) ⌝ }
 {

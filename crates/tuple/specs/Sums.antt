@@ -1,4 +1,5 @@
--- A tuple's sums and products, which the Rust files lean on and do not contain: each works on all four numbers, from the left, one rounding after another.
+-- A tuple's sums and products, which the Rust files lean on and do not contain: each works on all
+-- four numbers, from the left, one rounding after another.
 use mathlib.Core.Bool.{Bool, _||_}
 use lib.Ieee.{Float, nan, isNan}
 use Rattle.floats.specs.Binary64.{_⊕_, _⊗_}

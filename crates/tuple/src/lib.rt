@@ -1,7 +1,10 @@
-// A tuple: one fix as four binary64 numbers, two angles and a height or three lengths, then the time in years. Any bits are allowed.
+// A tuple: one fix as four binary64 numbers, two angles and a height or three lengths, then the
+// time in years. Any bits are allowed.
 //
-// The Rust's Coor4D with what its files use of it: the sum, the product with a number, the inner product, the tuple of NaNs. Those files do not contain
-// these, so their sequences are ours and stand in specs/Sums.antt: all four numbers take part, from the left. Every step reads and gives one Tuple.
+// The Rust's Coor4D with what its files use of it: the sum, the product with a number, the inner
+// product, the tuple of NaNs. Those files do not contain these, so their sequences are ours and
+// stand in specs/Sums.antt: all four numbers take part, from the left. Every step reads and gives
+// one Tuple.
 ghost use mathlib.Core.Path.{_≡_};
 ghost use Rattle.tuple.specs.Sums.{nanTuple, anyNanOf, addOf, scaleOf, dotOf};
 

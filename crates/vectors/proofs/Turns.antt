@@ -1,4 +1,5 @@
--- What the loops of `vectors` owe from one turn to the next, and what a record's layout says. Assumes nothing.
+-- What the loops of `vectors` owe from one turn to the next, and what a record's layout says.
+-- Assumes nothing.
 use Prim.Native.Nat.{ℕ, zero, suc, _+_, _*_, _-_, _≤_}
 use native.Mathlib.Omega.{arith}
 use native.Mathlib.Numerals.{add-one}

@@ -1,4 +1,5 @@
--- A record of the fixed answers, told beside what the library's definitions make of its job. README.md has the layout of both files.
+-- A record of the fixed answers, told beside what the library's definitions make of its job.
+-- README.md has the layout of both files.
 use Prim.Native.Nat.{ℕ, zero, suc, _+_, _*_}
 use mathlib.Core.Bool.{Bool, not, cond, _&&_}
 use mathlib.Core.List.{List, [], _∷_}
@@ -22,7 +23,8 @@ unfoldable pub differingOf : (ℕ → ℕ) → (ℕ → ℕ) → ℕ → ℕ
 differingOf found told zero = 0
 differingOf found told (suc n) = differingOf found told n + differ (found n) (told n)
 
--- Sixteen counts are told as words of 32 bits, numbers by their 64 bits: a zero's sign counts, and every NaN is 7ff8000000000000.
+-- Sixteen counts are told as words of 32 bits, numbers by their 64 bits: a zero's sign counts, and
+-- every NaN is 7ff8000000000000.
 abbrev pub differingCounts : List ℕ → ℕ → List ℕ → ℕ
 differingCounts s at counts = differingOf (λ i. getD counts i 0) (λ i. word32 s (at + 4 * i)) 16
 
@@ -75,7 +77,8 @@ shiftedOf job =
     (numbersOf job (velocitiesAt job) (3 * velocityCount job))
     (take (velocityCount job) (drop (marksAt job) job))
 
--- in how many words an outcome differs from the answer told: the refusal, its step, the counts, the list
+-- in how many words an outcome differs from the answer told: the refusal, its step, the counts, the
+-- list
 unfoldable pub comparedOf : List ℕ → Outcome → ℕ
 comparedOf told o =
     differ (o .answer .refusal .number) (word32 told 0)
@@ -96,5 +99,5 @@ four v = v .x ∷ v .y ∷ v .z ∷ v .t ∷ []
 abbrev pub tupleIn : List ℕ → ℕ → Tuple
 tupleIn s at = record { x = numberAt s at; y = numberAt s (at + 8); z = numberAt s (at + 16); t = numberAt s (at + 24) }
 
-unfoldable pub placeOf : List ℕ → ℕ
-placeOf s = differingNumbers s 40 (four (geographicOf (namedOf (word32 s 0)) (tupleIn s 8)))
+unfoldable pub geographicDifferingOf : List ℕ → ℕ
+geographicDifferingOf s = differingNumbers s 40 (four (geographicOf (namedOf (word32 s 0)) (tupleIn s 8)))

@@ -1,9 +1,11 @@
-// Replays the fixed answers of the published Rust over our kernels (data/answers.bin, data/geographic.bin; README.md has their layout and how they were made),
-// so that the library is held to them wherever it is checked, with no Rust.
+// Replays the fixed answers of the published Rust over our kernels (data/answers.bin,
+// data/geographic.bin; README.md has their layout and how they were made), so that the library is
+// held to them wherever it is checked, with no Rust.
 //
-// Every word is compared, with no tolerance: refusals, counts and the bits of every number, a NaN's as 7ff8000000000000. A record that differs is told by its
-// number, from 0; then come the totals, a line a kind and direction of the jobs with one step, and one for the longer chains. That the files are read whole is
-// seen by the totals.
+// Every word is compared, with no tolerance: refusals, counts and the bits of every number, a NaN's
+// as 7ff8000000000000. A record that differs is told by its number, from 0; then come the totals, a
+// line a kind and direction of the jobs with one step, and one for the longer chains. That the
+// files are read whole is seen by the totals.
 mod record;
 
 ghost use Prim.Native.Nat.{_<_, _≤_};
@@ -11,7 +13,8 @@ ghost use lib.ListN.{length};
 
 const OUT: i32 = 1;
 
-// What a record was: its line of the report, its tuples, and in how many words it differed; or that the file ended too soon.
+// What a record was: its line of the report, its tuples, and in how many words it differed; or that
+// the file ended too soon.
 struct Found {
     whole: bool,
     line: usize,

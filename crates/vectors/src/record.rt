@@ -1,43 +1,27 @@
-// One record of the fixed answers beside the library: in how many words the answer told differs from the one found.
+// One record of the fixed answers beside the library: in how many words the answer told differs
+// from the one found.
 //
-// Each contract is that number by specs/Replay.antt, which is made of the library's own definitions: a record's difference is between the file and what was
-// proved, and not an error in the reading of the file.
+// Each contract is that number by specs/Replay.antt, which is made of the library's own
+// definitions: a record's difference is between the file and what was proved, and not an error in
+// the reading of the file.
 ghost use mathlib.Core.Path.{_≡_};
 ghost use Prim.Native.Nat.{_+_, _*_, _≤_, _<_};
 ghost use lib.ListN.{length};
 ghost use Rattle.words.specs.Words.{word32};
 ghost use Rattle.chain.specs.Rules.{outcome};
-ghost use Rattle.vectors.specs.Replay.{differ, differingCounts, differingNumbers, numbersOf, sheetLength, tupleCount, velocityCount, marksAt, laidOut, shiftedOf, comparedOf, replayOf, placeOf};
+ghost use Rattle.vectors.specs.Replay.{differ, differingCounts, differingNumbers, numbersOf, sheetLength, tupleCount, velocityCount, marksAt, laidOut, shiftedOf, comparedOf, replayOf, geographicDifferingOf};
 use chain::Answer;
 use ellipsoid::Ellipsoid;
 use tuple::Tuple;
-
-fn wide(x: u32) -> usize
-    ensures { λ r. ⌜ (r ≡ x) × (r < 4294967296) ⌝ }
-{
-    x as usize
-}
 
 // The sheet's, the tuples' and the velocities' lengths as the job's head tells them.
 fn length_at(job: &[u8], at: usize) -> usize
     ensures { λ r. ⌜ (r ≡ word32 (now (job .entry)) at) × (r < 4294967296) ⌝ }
 {
-    wide(words::read32(job, at))
+    words::wide(words::read32(job, at))
 }
 
 // ----- words told and words found ---------------------------------------------------------
-
-fn of_word(x: u32) -> u64
-    ensures { λ r. ⌜ r ≡ x ⌝ }
-{
-    x as u64
-}
-
-fn of_count(n: usize) -> u64
-    ensures { λ r. ⌜ r ≡ n ⌝ }
-{
-    n as u64
-}
 
 fn differing(found: u64, told: u64) -> usize
     ensures { λ r. ⌜ (r ≡ differ found told) × (r ≤ 1) ⌝ }
@@ -52,7 +36,10 @@ fn differing_counts(s: &[u8], at: usize, counts: &[usize; 16]) -> usize
     let mut n = 0;
     let mut i = 0;
     while i < 16 {
-        n += differing(of_count(counts[i]), of_word(words::read32(s, at + 4 * i)));
+        n += differing(
+            words::long(counts[i]),
+            words::wide64(words::read32(s, at + 4 * i)),
+        );
         i += 1;
     }
     n
@@ -111,8 +98,14 @@ fn compared(told: &[u8], answer: Answer, list: &[f64]) -> usize
 {
     let refusal = answer.refusal;
     let counts = answer.counts;
-    differing(of_word(refusal.number), of_word(words::read32(told, 0)))
-        + differing(of_word(refusal.step), of_word(words::read32(told, 4)))
+    differing(
+        words::wide64(refusal.number),
+        words::wide64(words::read32(told, 0)),
+    )
+        + differing(
+            words::wide64(refusal.step),
+            words::wide64(words::read32(told, 4)),
+        )
         + differing_counts(told, 8, &counts)
         + differing_numbers(told, 72, list)
 }
@@ -159,7 +152,7 @@ pub fn replay(job: &[u8], told: &[u8]) -> usize
 
 // A place as told beside `geographic` of its tuple.
 pub fn place(s: &[u8]) -> usize
-    ensures { λ r. ⌜ r ≡ placeOf (now (s .entry)) ⌝ }
+    ensures { λ r. ⌜ r ≡ geographicDifferingOf (now (s .entry)) ⌝ }
 {
     let there = Tuple {
         x: words::number(s, 8),

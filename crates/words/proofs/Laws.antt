@@ -1,4 +1,5 @@
--- What is true of words and numbers in a list of bytes, for callers to cite: what was put is read, what was read is put, and a run of puts is one. Assumes nothing.
+-- What is true of words and numbers in a list of bytes, for callers to cite: what was put is read,
+-- what was read is put, and a run of puts is one. Assumes nothing.
 use mathlib.Core.Path.{_≡_, refl, sym, ap, _∙_, subst}
 use Prim.Native.Nat.{ℕ, suc, _+_, _-_, _*_, _/_, _%_, _^_, _<_, _≤_}
 use mathlib.Core.Bool.{Bool, true, false, not, cond}
@@ -16,6 +17,15 @@ use Rattle.words.specs.Words.{Bytes, word32, word64, numberAt, oneNanAt,
 -- past the end a byte reads as 0
 pub past-end : (s : List ℕ) (i : ℕ) → length s ≤ i → getD s i 0 ≡ 0
 past-end s i h = List·getD-eq-default s 0 h
+
+-- and so does a word
+pub word32-past-end : (s : List ℕ) (at : ℕ) → length s ≤ at → word32 s at ≡ 0
+unfolding word32
+word32-past-end s at h =
+    let h1 : length s ≤ at + 1 = omega arith in
+    let h2 : length s ≤ at + 2 = omega arith in
+    let h3 : length s ≤ at + 3 = omega arith in
+    rw (past-end s at h, past-end s (at + 1) h1, past-end s (at + 2) h2, past-end s (at + 3) h3)
 
 -- ---- lengths
 
@@ -94,6 +104,11 @@ unfolding oneNanAt
 number-in-rule x h = rw (number-back x h, bits-of-number x h) (nan-in-rule x)
 
 -- ---- a part of a list
+
+-- a word is read in the rest of a list as in the whole
+pub word32-in-rest : (s : List ℕ) (at k : ℕ) → word32 (drop at s) k ≡ word32 s (at + k)
+unfolding word32
+word32-in-rest s at k = simp (getD-drop, add-assoc)
 
 -- a word is read in a part as in the whole
 pub word32-in-part : (s : List ℕ) (at k n : ℕ) → k + 4 ≤ n → word32 (take n (drop at s)) k ≡ word32 s (at + k)

@@ -1,4 +1,5 @@
--- Little-endian words and numbers in a list of bytes, read and put. A byte past the end of a list reads as 0.
+-- Little-endian words and numbers in a list of bytes, read and put. A byte past the end of a list
+-- reads as 0.
 use Prim.Native.Nat.{ℕ, _+_, _*_, _/_, _%_, _<_}
 use mathlib.Core.Bool.{Bool, true, cond}
 use mathlib.Core.List.{List, [], _∷_, _++_}

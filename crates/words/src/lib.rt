@@ -1,26 +1,42 @@
 // Little-endian words and binary64 numbers in lent bytes, as the sheet has them.
 //
-// Every function takes every place: what lies past the end reads as 0, and nothing is written where it does not fit. Exact: no number changes on its way but
-// that every NaN is written 7ff8000000000000. Where the length is known, as in a body whose length was tested, the compiler drops the tests and a word is one
-// load or store. Used by the sheet's bodies, its header and directory.
+// Every function takes every place: what lies past the end reads as 0, and nothing is written where
+// it does not fit. Exact: no number changes on its way but that every NaN is written
+// 7ff8000000000000. Where the length is known, as in a body whose length was tested, the compiler
+// drops the tests and a word is one load or store. Used by the sheet's bodies, its header and
+// directory.
 ghost use mathlib.Core.Path.{_≡_};
 ghost use Prim.Native.Nat.{_+_, _<_, _≤_};
 ghost use lib.ListN.{length, getD};
 ghost use Rattle.words.specs.Words.{word32, word64, numberAt, oneNanAt, le32, le64, leNumber, putOf, put};
 
-// ----- reading ---------------------------------------------------------------------------
+// ----- the same number in a wider type -----------------------------------------------------
 
-fn wide(x: u8) -> u32
+pub fn wide(x: u32) -> usize
+    ensures { λ r. ⌜ (r ≡ x) × (r < 4294967296) ⌝ }
+{
+    x as usize
+}
+
+pub fn wide64(x: u32) -> u64
+    ensures { λ r. ⌜ (r ≡ x) × (r < 4294967296) ⌝ }
+{
+    x as u64
+}
+
+pub fn long(x: usize) -> u64
+    ensures { λ r. ⌜ r ≡ x ⌝ }
+{
+    x as u64
+}
+
+fn of_byte(x: u8) -> u32
     ensures { λ r. ⌜ (r ≡ x) × (r < 256) ⌝ }
 {
     x as u32
 }
 
-fn wide64(x: u32) -> u64
-    ensures { λ r. ⌜ (r ≡ x) × (r < 4294967296) ⌝ }
-{
-    x as u64
-}
+// ----- reading ---------------------------------------------------------------------------
 
 // The byte k places after `at`.
 fn byte(s: &[u8], at: usize, k: usize) -> u32
@@ -28,7 +44,7 @@ fn byte(s: &[u8], at: usize, k: usize) -> u32
 {
     if at < s.len() {
         if k < s.len() - at {
-            return wide(s[at + k]);
+            return of_byte(s[at + k]);
         }
     }
     0

@@ -1,7 +1,9 @@
-// The worked examples of IOGP 373-7-2, run through the steps and printed beside the published figures.
+// The worked examples of IOGP 373-7-2, run through the steps and printed beside the published
+// figures.
 //
-// Lengths are printed to the millimetre, angles in degrees, minutes and seconds to a thousandth. The inputs are the document's own; the last digits of a
-// published figure are its rounding, up to 6 mm where it was worked with rounded parameters.
+// Lengths are printed to the millimetre, angles in degrees, minutes and seconds to a thousandth.
+// The inputs are the document's own; the last digits of a published figure are its rounding, up to
+// 6 mm where it was worked with rounded parameters.
 use ellipsoid::Ellipsoid;
 use helmert::Helmert;
 use molodensky::Molodensky;

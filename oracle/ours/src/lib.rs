@@ -21,6 +21,31 @@ unsafe extern "C" {
         marks_len: usize,
         counts: *mut u32,
     ) -> u32;
+    fn sillfeather_keep(
+        inverse: u32,
+        sheet: *const u8,
+        sheet_len: usize,
+        list: *const f64,
+        list_len: usize,
+        results: *mut f64,
+        results_len: usize,
+        track: *mut f64,
+        track_len: usize,
+    ) -> u32;
+    fn sillfeather_correct(
+        inverse: u32,
+        sheet: *const u8,
+        sheet_len: usize,
+        list: *mut f64,
+        list_len: usize,
+        results: *mut f64,
+        results_len: usize,
+        track: *mut f64,
+        track_len: usize,
+        index: usize,
+        fix: *const f64,
+        redone: *mut u64,
+    ) -> u32;
 }
 
 pub fn sqrt(x: f64) -> f64 {
@@ -78,6 +103,51 @@ pub fn shift_bytes(inverse: bool, sheet: &[u8], list: &[f64], velocities: &[f64]
     };
     let (refusal, step) = apart(told);
     Answer { refusal, step, counts, list }
+}
+
+/// A fresh kept run; the refusal's number and step.
+pub fn keep(inverse: bool, sheet: &[u8], list: &[f64], results: &mut [f64], track: &mut [f64]) -> (u32, u32) {
+    apart(unsafe {
+        sillfeather_keep(
+            inverse as u32,
+            sheet.as_ptr(),
+            sheet.len(),
+            list.as_ptr(),
+            list.len(),
+            results.as_mut_ptr(),
+            results.len(),
+            track.as_mut_ptr(),
+            track.len(),
+        )
+    })
+}
+
+/// A correction of one fix; the refusal's number and step, and the count.
+pub fn correct(
+    inverse: bool,
+    sheet: &[u8],
+    [list, results, track]: [&mut [f64]; 3],
+    index: u64,
+    fix: [f64; 4],
+) -> ((u32, u32), u64) {
+    let mut redone = u64::MAX; // written, refused or not
+    let told = unsafe {
+        sillfeather_correct(
+            inverse as u32,
+            sheet.as_ptr(),
+            sheet.len(),
+            list.as_mut_ptr(),
+            list.len(),
+            results.as_mut_ptr(),
+            results.len(),
+            track.as_mut_ptr(),
+            track.len(),
+            index as usize,
+            fix.as_ptr(),
+            &mut redone,
+        )
+    };
+    (apart(told), redone)
 }
 
 /// A result is the number plus 65536 times the step.

@@ -1,4 +1,5 @@
-//! Second oracle: the six files of docs/src with their outside calls sent to our kernels.
+//! The same-bits oracle (document 01's second): the six files of docs/src with their outside calls sent
+//! to our kernels.
 //!
 //! The build script copies the files and renames the calls, nothing else; the methods by the new names stand in `Kernels`.
 #![allow(unused_doc_comments)]

@@ -1,4 +1,4 @@
-//! First oracle: the six files of docs/src as published, with the C library's kernels.
+//! The near oracle (document 01's first): the six files of docs/src as published, with the C library's kernels.
 #![allow(unused_doc_comments)]
 
 /// The kernels of the shim's ellipsoids and of the listed difference.

@@ -1,4 +1,5 @@
--- `answer::answer` meets its contract. Assumes nothing.
+-- One case for each way through the tests. Each by `good-job`, from what the calls ensure.
+-- Assumes nothing.
 use mathlib.Core.Path.{sym, _∙_}
 use Prim.Native.Nat.{_*_}
 use native.Mathlib.Omega.{arith}

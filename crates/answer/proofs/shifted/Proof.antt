@@ -1,4 +1,4 @@
--- `answer::shifted` meets its contract. Assumes nothing.
+-- By `parts`, from what the calls ensure. Assumes nothing.
 use mathlib.Core.Path.{ap, _∙_}
 use lib.ListN.{length}
 use Rattle.text.specs.Text.{text, appended}

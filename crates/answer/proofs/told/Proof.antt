@@ -1,4 +1,5 @@
--- `answer::told` meets its contract. Assumes nothing.
+-- One case for each way through the tests. Calls are replaced by what they ensure; the definition
+-- is left. Assumes nothing.
 use borrow.Author.Tests.{eq-eqb, ne-eqb}
 use Rattle.answer.specs.Answer.{toldOf}
 use borrow.Author.Needs.{needs}

@@ -1,4 +1,5 @@
--- `arctan::along` meets its contract. Assumes nothing.
+-- One case for each way through the tests. The test's outcome picks the definition's case.
+-- Assumes nothing.
 use Rattle.arctan.specs.Arctan.{alongOf}
 use Rattle.arctan.proofs.along.Statement.{statement}
 use Rattle.arctan.proofs.along.Tie as tie

@@ -1,4 +1,5 @@
--- `arctan::angle` meets its contract. Assumes nothing.
+-- One case for each way through the tests. Each by `one-over-zero`, from what the calls ensure.
+-- Assumes nothing.
 use borrow.Author.Needs.{needs}
 use Rattle.arctan.specs.Arctan.{angleOf}
 use Rattle.arctan.proofs.Parts.{one-over-zero}

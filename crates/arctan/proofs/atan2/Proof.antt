@@ -1,4 +1,5 @@
--- `arctan::atan2` meets its contract: magnitudes that are moderate have no NaN, zero or infinity among them, so that the code may take them first. Assumes nothing.
+-- Magnitudes that are moderate have no NaN, zero or infinity among them, so that the code may take
+-- them first. Assumes nothing.
 use mathlib.Core.Path.{sym, _∙_}
 use borrow.Author.Needs.{needs}
 use Rattle.arctan.proofs.Parts.{usual-point, nan-first, nan-second, below-the-axis, above-the-axis}

@@ -1,4 +1,4 @@
--- `arctan::cell_at` meets its contract. Assumes nothing.
+-- One case for each return. Each by `beyond`. Assumes nothing.
 use native.Mathlib.Nat.{le-trans, le-suc}
 use lib.ListN.{List·getD-eq-default}
 use lib.Ieee.{ofBits, neg}

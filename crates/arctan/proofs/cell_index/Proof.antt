@@ -1,4 +1,5 @@
--- `arctan::cell_index` meets its contract. Assumes nothing.
+-- One case for each return. Calls are replaced by what they ensure; the definition is left.
+-- Assumes nothing.
 use native.Mathlib.Omega.{arith}
 use borrow.Author.Needs.{needs}
 use Rattle.arctan.specs.Arctan.{cellIndexOf}

@@ -1,4 +1,5 @@
--- `arctan::choose` meets its contract. Assumes nothing.
+-- One case for each way through the tests. The test's outcome picks the definition's case.
+-- Assumes nothing.
 use Rattle.arctan.proofs.choose.Statement.{statement}
 use Rattle.arctan.proofs.choose.Tie as tie
 

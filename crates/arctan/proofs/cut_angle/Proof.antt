@@ -1,4 +1,4 @@
--- `arctan::cut_angle` meets its contract. Assumes nothing.
+-- Calls are replaced by what they ensure; the definition is left. Assumes nothing.
 use borrow.Author.Needs.{needs}
 use Rattle.arctan.specs.Arctan.{cutAngleOf}
 use Rattle.arctan.proofs.cut_angle.Statement.{statement}

@@ -1,4 +1,5 @@
--- `arctan::diagonal` meets its contract. Assumes nothing.
+-- One case for each way through the tests. The test's outcome picks the definition's case.
+-- Assumes nothing.
 use Rattle.arctan.specs.Arctan.{diagonalOf}
 use Rattle.arctan.proofs.diagonal.Statement.{statement}
 use Rattle.arctan.proofs.diagonal.Tie as tie

@@ -1,4 +1,4 @@
--- `arctan::head` meets its contract. Assumes nothing.
+-- By computation: the body's operations are the definition's, in its order. Assumes nothing.
 use mathlib.Core.Path.{refl}
 use Rattle.arctan.specs.Arctan.{headOf}
 use Rattle.arctan.proofs.head.Statement.{statement}

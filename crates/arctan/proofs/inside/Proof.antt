@@ -1,4 +1,5 @@
--- `arctan::inside` meets its contract. Assumes nothing.
+-- One case for each way through the tests. Calls are replaced by what they ensure; the definition
+-- is left. Assumes nothing.
 use borrow.Author.Needs.{needs}
 use Rattle.arctan.specs.Arctan.{insideOf}
 use Rattle.arctan.proofs.inside.Statement.{statement}

@@ -1,4 +1,5 @@
--- `arctan::is_moderate` meets its contract. Assumes nothing.
+-- One case for each way through the tests. The test's outcome picks the definition's case.
+-- Assumes nothing.
 use Rattle.arctan.specs.Arctan.{moderate}
 use Rattle.arctan.proofs.is_moderate.Statement.{statement}
 use Rattle.arctan.proofs.is_moderate.Tie as tie

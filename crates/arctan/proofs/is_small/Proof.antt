@@ -1,4 +1,5 @@
--- `arctan::is_small` meets its contract. Assumes nothing.
+-- One case for each way through the tests. The test's outcome picks the definition's case.
+-- Assumes nothing.
 use borrow.Author.Tests.{ne-eqb}
 use Rattle.arctan.specs.Arctan.{small}
 use Rattle.arctan.proofs.is_small.Statement.{statement}

@@ -1,4 +1,4 @@
--- `arctan::octant_at` meets its contract. Assumes nothing.
+-- One case for each return. Each by `beyond`. Assumes nothing.
 use lib.ListN.{List·getD-eq-default}
 use lib.Ieee.{ofBits, neg}
 use Rattle.arctan.proofs.Match.{beyond}

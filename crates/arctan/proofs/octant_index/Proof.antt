@@ -1,4 +1,5 @@
--- `arctan::octant_index` meets its contract. Assumes nothing.
+-- One case for each way through the tests. The test's outcome picks the definition's case.
+-- Assumes nothing.
 use Rattle.arctan.specs.Arctan.{octantIndexOf}
 use Rattle.arctan.proofs.octant_index.Statement.{statement}
 use Rattle.arctan.proofs.octant_index.Tie as tie

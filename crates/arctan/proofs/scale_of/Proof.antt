@@ -1,4 +1,5 @@
--- `arctan::scale_of` meets its contract. Assumes nothing.
+-- One case for each way through the tests. The test's outcome picks the definition's case.
+-- Assumes nothing.
 use Rattle.arctan.specs.Arctan.{scaleOf}
 use Rattle.arctan.proofs.scale_of.Statement.{statement}
 use Rattle.arctan.proofs.scale_of.Tie as tie

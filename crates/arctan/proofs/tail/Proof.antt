@@ -1,4 +1,4 @@
--- `arctan::tail` meets its contract. Assumes nothing.
+-- By computation: the body's operations are the definition's, in its order. Assumes nothing.
 use mathlib.Core.Path.{refl}
 use Rattle.arctan.specs.Arctan.{tailOf}
 use Rattle.arctan.proofs.tail.Statement.{statement}

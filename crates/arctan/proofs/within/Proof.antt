@@ -1,4 +1,5 @@
--- `arctan::within` meets its contract. Assumes nothing.
+-- One case for each way through the tests. The test's outcome picks the definition's case.
+-- Assumes nothing.
 use Rattle.arctan.specs.Arctan.{withinOf}
 use Rattle.arctan.proofs.within.Statement.{statement}
 use Rattle.arctan.proofs.within.Tie as tie

@@ -1,4 +1,6 @@
--- `arctan_block::any_block` meets its contract. Assumes nothing.
+-- Invariant: the first i numbers of r are the angles of the first i points (`UpTo`, `atan2Of`). A
+-- turn writes the angle that `atan2` gives for point i (`one-more`). At i = 16 the whole block is
+-- filled (`all-filled`). The measure is 16 - i. Assumes nothing.
 use Prim.Native.Nat.{ℕ, _-_}
 use borrow.Author.Needs.{needs}
 use mathlib.Core.Path.{refl}

@@ -1,4 +1,5 @@
--- `arctan_block::at_least` meets its contract. Assumes nothing.
+-- One case for each way through the tests. The test's outcome picks the definition's case.
+-- Assumes nothing.
 use Rattle.arctan_block.proofs.at_least.Statement.{statement}
 use Rattle.arctan_block.proofs.at_least.Tie as tie
 

@@ -1,4 +1,5 @@
--- `arctan_block::at_most` meets its contract. Assumes nothing.
+-- One case for each way through the tests. The test's outcome picks the definition's case.
+-- Assumes nothing.
 use Rattle.arctan_block.proofs.at_most.Statement.{statement}
 use Rattle.arctan_block.proofs.at_most.Tie as tie
 

@@ -1,4 +1,4 @@
--- `arctan_block::atan2_block` meets its contract: by either way each angle is `atan2`'s. Assumes nothing.
+-- By either way each angle is `atan2`'s. Assumes nothing.
 use borrow.Author.Needs.{needs}
 use Rattle.arctan_block.proofs.Blocks.{block-angles}
 use Rattle.arctan_block.proofs.atan2_block.Statement.{statement}

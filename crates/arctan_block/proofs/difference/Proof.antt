@@ -1,4 +1,5 @@
--- `arctan_block::difference` meets its contract. Assumes nothing.
+-- One case for each way through the tests. The test's outcome picks the definition's case.
+-- Assumes nothing.
 use borrow.Author.Needs.{needs}
 use borrow.Author.Tests.{le-leb, lt-leb}
 use Rattle.arctan_block.proofs.difference.Statement.{statement}

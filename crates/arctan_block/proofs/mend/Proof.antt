@@ -1,21 +1,23 @@
--- `arctan_block::mend` meets its contract. Assumes nothing.
+-- Invariant: the first i numbers of r are mended (`mendedAt`), and the others are still the angles
+-- that r came with. So the angle that a turn reads at i is the one that came there; it writes what
+-- `mended` makes of it, and the numbers after i stay. At i = 16 the whole block is mended. The
+-- measure is 16 - i. Assumes nothing.
 use borrow.Author.Needs.{needs}
 use Prim.Native.Nat.{ℕ, _-_}
 use mathlib.Core.Path.{_∙_}
-use Rattle.blocks.proofs.Laws.{all-filled}
+use Rattle.blocks.proofs.Over.{Over, none-over, still, one-more-over, all-over}
 use Rattle.arctan_block.specs.Block.{mendedAt}
-use Rattle.arctan_block.proofs.Blocks.{MendedUpTo, none-mended, one-more-mended}
 use Rattle.arctan_block.proofs.mend.Statement.{statement}
 use Rattle.arctan_block.proofs.mend.Tie as tie
 
 abbrev Inv-loop : tie.InvT-loop
-Inv-loop y x quarters octants r₀ i₀ r i = MendedUpTo i r₀ r (λ (j : ℕ). mendedAt y x quarters octants r₀ j)
+Inv-loop y x quarters octants r₀ i₀ r i = Over i r₀ r (λ (j : ℕ). mendedAt y x quarters octants r₀ j)
 
 abbrev μ-loop : tie.MeasureT-loop
 μ-loop y x quarters octants r₀ i₀ r i = 16 - i
 
 loop-holds : tie.Need-loop-holds Inv-loop μ-loop
-loop-holds c = none-mended (c .pre)
+loop-holds c = none-over (c .pre)
 
 mul-mended : tie.Need-mul-mended Inv-loop μ-loop
 mul-mended c = search needs
@@ -63,10 +65,12 @@ loop-less : tie.Need-loop-less Inv-loop μ-loop
 loop-less c = search needs
 
 loop-again : tie.Need-loop-again Inv-loop μ-loop
-loop-again c = one-more-mended (search needs) (λ e. c .mended .ensures ∙ rw e) (c .before .before .before .before .before .before .before .loop .inv)
+loop-again c =
+    let o = c .before .before .before .before .before .before .before .loop .inv in
+    one-more-over (search needs) (c .mended .ensures ∙ rw (still o)) o
 
 returns : tie.Need-returns Inv-loop μ-loop
-returns c = all-filled (search needs) (c .before .loop .inv .mended)
+returns c = all-over (search needs) (c .before .loop .inv)
 
 pub mend-spec : {M : Type 1} → statement M
 mend-spec =

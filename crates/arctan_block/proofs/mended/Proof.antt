@@ -1,4 +1,5 @@
--- `arctan_block::mended` meets its contract. Assumes nothing.
+-- One case for each way through the tests. Calls are replaced by what they ensure; the definition
+-- is left. Assumes nothing.
 use borrow.Author.Needs.{needs}
 use borrow.Author.Tests.{lt-ltb, le-ltb}
 use Rattle.arctan_block.proofs.mended.Statement.{statement}

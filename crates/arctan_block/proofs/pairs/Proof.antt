@@ -1,4 +1,7 @@
--- `arctan_block::pairs` meets its contract. Assumes nothing.
+-- Invariant: the first 2h numbers of r are the angles that the rows of the tables give (`UpTo`,
+-- `quickAt`). A turn looks up the cells and octants of the points 2h and 2h + 1, takes their angles
+-- by `quick` and writes both (`two-more`). At h = 8 the whole block is filled (`all-filled`). The
+-- measure is 8 - h. Assumes nothing.
 use borrow.Author.Needs.{needs}
 use Prim.Native.Nat.{ℕ, _-_, _*_}
 use mathlib.Core.Path.{refl}

@@ -1,4 +1,5 @@
--- `arctan_block::quick` meets its contract. Assumes nothing.
+-- One case for each way through the tests. Calls are replaced by what they ensure; the definition
+-- is left. Assumes nothing.
 use borrow.Author.Needs.{needs}
 use Rattle.arctan_block.specs.Block.{quickOf}
 use Rattle.arctan_block.proofs.quick.Statement.{statement}

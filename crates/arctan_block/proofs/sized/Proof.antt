@@ -1,4 +1,5 @@
--- `arctan_block::sized` meets its contract. Assumes nothing.
+-- By `at-most-is-a-number`, `at-least-is-a-number` and `sized-point`, from what the calls ensure.
+-- Assumes nothing.
 use borrow.Author.Needs.{needs}
 use mathlib.Core.Path.{sym, subst, _∙_, refl}
 use mathlib.Core.Bool.{not}

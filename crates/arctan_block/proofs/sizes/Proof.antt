@@ -1,4 +1,8 @@
--- `arctan_block::sizes` meets its contract. Assumes nothing.
+-- Invariant (`SizedUpTo`): the first i numbers of the four columns are what `sized` gives for the
+-- first i points, n is at most 16384·i, and if n is below 256 the tables serve each of these points
+-- (`Usual`). A turn adds point i (`one-more-sized`), whose share of n is at most 16384, so n does
+-- not overflow. As i is never above 16, the loop ends at 16 with the whole block sized
+-- (`all-sized`). The measure is 16 - i. Assumes nothing.
 use borrow.Author.Needs.{needs}
 use Prim.Native.Nat.{_-_, _≤_}
 use native.Mathlib.Omega.{arith}

@@ -1,4 +1,4 @@
--- `arrays::helmert_of` meets its contract. Assumes nothing.
+-- Calls are replaced by what they ensure; the definition is left. Assumes nothing.
 use Rattle.arrays.specs.Arrays.{helmertOf}
 use borrow.Author.Needs.{needs}
 use Rattle.arrays.proofs.helmert_of.Statement.{statement}

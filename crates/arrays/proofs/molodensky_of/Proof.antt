@@ -1,4 +1,4 @@
--- `arrays::molodensky_of` meets its contract. Assumes nothing.
+-- By computation: the body's operations are the definition's, in its order. Assumes nothing.
 use mathlib.Core.Path.{refl}
 use Rattle.arrays.specs.Arrays.{molodenskyOf}
 use borrow.Author.Needs.{needs}

@@ -1,4 +1,4 @@
--- `bodies::body_in_rule` meets its contract. Assumes nothing.
+-- By `five-lowest`, from what the calls ensure. Assumes nothing.
 use mathlib.Core.Path.{sym}
 use Rattle.bodies.proofs.Laws.{five-lowest}
 use borrow.Author.Needs.{needs}

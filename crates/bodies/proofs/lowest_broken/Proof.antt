@@ -1,4 +1,5 @@
--- `bodies::lowest_broken` meets its contract. Assumes nothing.
+-- One case for each way through the tests. Each by `no-kind-lowest`, from what the calls ensure.
+-- Assumes nothing.
 use mathlib.Core.Path.{sym}
 use borrow.Author.Tests.{ne-eqb}
 use Rattle.bodies.proofs.Laws.{no-kind-lowest}

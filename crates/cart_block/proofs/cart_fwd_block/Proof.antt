@@ -1,6 +1,6 @@
--- `cart_block::cart_fwd_block` meets its contract. Assumes nothing.
+-- By `count-told` and `counted-forward`, from what the calls ensure. Assumes nothing.
 use mathlib.Core.Path.{_∙_}
-use Rattle.cart_block.proofs.Counts.{count-told}
+use Rattle.blocks.proofs.Counts.{count-told}
 use Rattle.cart_block.proofs.Parts.{counted-forward}
 use borrow.Author.Needs.{needs}
 use Rattle.cart_block.proofs.cart_fwd_block.Statement.{statement}
@@ -18,7 +18,7 @@ returns c =
       all .0,
       all .1,
       all .2,
-      c .count-block .ensures ∙ count-told 16 (λ j k. counted-forward _ _ (all .0 .held j k) (all .1 .held j k) (all .2 .held j k)),
+      c .count-block .ensures ∙ count-told 16 _ _ (λ j k. counted-forward _ _ (all .0 .held j k) (all .1 .held j k) (all .2 .held j k)),
     )
 
 pub cart-fwd-block-spec : {M : Type 1} → statement M

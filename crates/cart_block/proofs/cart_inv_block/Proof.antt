@@ -1,7 +1,8 @@
--- `cart_block::cart_inv_block` meets its contract. Assumes nothing.
+-- By `told`, `count-told`, `longitude-is` and `latitude-is`, from what the calls ensure.
+-- Assumes nothing.
 use mathlib.Core.Path.{_∙_}
 use Rattle.blocks.proofs.Laws.{told}
-use Rattle.cart_block.proofs.Counts.{count-told}
+use Rattle.blocks.proofs.Counts.{count-told}
 use Rattle.cart_block.proofs.Parts.{longitude-is, latitude-is, height-is, counted-inverse}
 use borrow.Author.Needs.{needs}
 use Rattle.cart_block.proofs.cart_inv_block.Statement.{statement}
@@ -40,7 +41,7 @@ returns c =
       x,
       y,
       z,
-      c .count-off-axis-block .ensures ∙ count-told 16 (λ j k. counted-inverse _ _ (length .held j k) (x .held j k) (y .held j k) (z .held j k)),
+      c .count-off-axis-block .ensures ∙ count-told 16 _ _ (λ j k. counted-inverse _ _ (length .held j k) (x .held j k) (y .held j k) (z .held j k)),
     )
 
 pub cart-inv-block-spec : {M : Type 1} → statement M

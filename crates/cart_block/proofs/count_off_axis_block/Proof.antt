@@ -1,18 +1,20 @@
--- `cart_block::count_off_axis_block` meets its contract. Assumes nothing.
+-- Invariant: n is how many of the first i tuples have no NaN and a distance p from the axis that is
+-- not below the cutoff (`countTo`, `countsOf`); n is at most i, and i at most 16, so n does not
+-- overflow. A turn asks `counts_at` about tuple i and adds 1 or 0 (`one-counted`). At i = 16 n is
+-- the count of the block (`all-counted`). The measure is 16 - i. Assumes nothing.
 use Prim.Native.Nat.{ℕ, _-_}
-use native.Mathlib.Omega.{arith}
 use mathlib.Core.Path.{ap, _∙_}
 use mathlib.Core.Bool.{Bool, cond}
 use Rattle.blocks.specs.Each.{at}
 use Rattle.cart_block.specs.Blocks.{countsOf}
-use Rattle.cart_block.proofs.Counts.{Counted, none-counted, turn-fits, one-counted, all-counted}
+use Rattle.blocks.proofs.Counts.{CountedBefore, none-counted, one-counted, all-counted}
 use Rattle.tuple.specs.Columns.{rowOf}
 use borrow.Author.Needs.{needs}
 use Rattle.cart_block.proofs.count_off_axis_block.Statement.{statement}
 use Rattle.cart_block.proofs.count_off_axis_block.Tie as tie
 
 abbrev Inv-loop : tie.InvT-loop
-Inv-loop k p x y z t n₀ i₀ n i = Counted i (λ (j : ℕ). countsOf k (at p j) (rowOf x y z t j)) n
+Inv-loop k p x y z t n₀ i₀ n i = CountedBefore i (λ (j : ℕ). countsOf k (at p j) (rowOf x y z t j)) n
 
 abbrev μ-loop : tie.MeasureT-loop
 μ-loop k p x y z t n₀ i₀ n i = 16 - i
@@ -57,7 +59,7 @@ one-if-requires : tie.Need-one-if-requires Inv-loop μ-loop
 one-if-requires c κs = search needs
 
 add-n : tie.Need-add-n Inv-loop μ-loop
-add-n c = let h = turn-fits (c .one-if .ensures ∙ ap (λ (b : Bool). cond b 1 0) (c .before .counts-at .ensures)) (c .before .before .before .before .before .before .before .before .loop .inv) in omega arith
+add-n c = search needs
 
 add-i : tie.Need-add-i Inv-loop μ-loop
 add-i c = search needs
@@ -66,7 +68,7 @@ loop-less : tie.Need-loop-less Inv-loop μ-loop
 loop-less c = search needs
 
 loop-again : tie.Need-loop-again Inv-loop μ-loop
-loop-again c = one-counted (search needs) (c .one-if .ensures ∙ ap (λ (b : Bool). cond b 1 0) (c .before .counts-at .ensures)) (c .before .before .before .before .before .before .before .before .loop .inv)
+loop-again c = one-counted (search needs) (c .one-if .ensures .0 ∙ ap (λ (b : Bool). cond b 1 0) (c .before .counts-at .ensures)) (c .before .before .before .before .before .before .before .before .loop .inv)
 
 returns : tie.Need-returns Inv-loop μ-loop
 returns c = all-counted (search needs) (c .before .loop .inv)

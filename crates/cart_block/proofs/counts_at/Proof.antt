@@ -1,4 +1,5 @@
--- `cart_block::counts_at` meets its contract. Assumes nothing.
+-- One case for each way through the tests. Calls are replaced by what they ensure; the definition
+-- is left. Assumes nothing.
 use borrow.Author.Needs.{needs}
 use Rattle.cart_block.proofs.counts_at.Statement.{statement}
 use Rattle.cart_block.proofs.counts_at.Tie as tie

@@ -1,12 +1,12 @@
--- `cart_block::height_block` meets its contract. Assumes nothing.
+-- By `told` and `height-from`, from what the calls ensure. Assumes nothing.
 use Rattle.blocks.proofs.Laws.{told}
 use Rattle.cart_block.proofs.Parts.{height-from}
 use borrow.Author.Needs.{needs}
 use Rattle.cart_block.proofs.height_block.Statement.{statement}
 use Rattle.cart_block.proofs.height_block.Tie as tie
 
-product-block-requires : tie.Need-product-block-requires
-product-block-requires c κs = search needs
+scaled-requires : tie.Need-scaled-requires
+scaled-requires c κs = search needs
 
 hypot-block-requires : tie.Need-hypot-block-requires
 hypot-block-requires c κs = search needs
@@ -19,7 +19,7 @@ level-block-requires c κs = search needs
 
 returns : tie.Need-returns
 returns c =
-    let reduced = c .before .before .before .before .before .before .before .before .before .product-block .ensures in
+    let reduced = c .before .before .before .before .before .before .before .before .before .scaled .ensures in
     let inner = c .before .before .before .before .before .before .hypot-block .ensures in
     let outer = c .before .before .before .before .hypot-block2 .ensures in
     told (λ j k. height-from _ _ _ _ _ (reduced .held j k) (inner .held j k) (outer .held j k)) (c .level-block .ensures)
@@ -28,7 +28,7 @@ pub height-block-spec : {M : Type 1} → statement M
 height-block-spec =
     tie.close
     (tie.spec
-    product-block-requires
+    scaled-requires
     hypot-block-requires
     hypot-block-requires-2
     level-block-requires

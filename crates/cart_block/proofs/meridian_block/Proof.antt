@@ -1,18 +1,21 @@
--- `cart_block::meridian_block` meets its contract. Assumes nothing.
+-- Invariant: the first i numbers of s1 and of cc are S1 and CC of the first i points, from p, Z and
+-- the hypotenuse in a (`UpTo`, once for each column). A turn calls `meridian` once for point i and
+-- writes both numbers (`one-more`). At i = 16 both columns are filled (`all-filled`). The measure
+-- is 16 - i. Assumes nothing.
 use Prim.Native.Nat.{ℕ, _-_}
 use mathlib.Core.Path.{refl, ap}
 use Rattle.blocks.specs.Each.{at, UpTo}
 use Rattle.blocks.proofs.Laws.{none-filled, one-more, all-filled}
 use Rattle.cart.specs.declared.Legs.{Legs}
-use Rattle.cart_block.specs.Blocks.{reducedLegsOf}
+use Rattle.cart.specs.Step.{legsWith}
 use borrow.Author.Needs.{needs}
 use Rattle.cart_block.proofs.meridian_block.Statement.{statement}
 use Rattle.cart_block.proofs.meridian_block.Tie as tie
 
 abbrev Inv-loop : tie.InvT-loop
 Inv-loop k p z a s1₀ cc₀ i₀ s1 cc i =
-    UpTo i s1 (λ (j : ℕ). reducedLegsOf k (at p j) (at z j) (at a j) .s1)
-    × UpTo i cc (λ (j : ℕ). reducedLegsOf k (at p j) (at z j) (at a j) .cc)
+    UpTo i s1 (λ (j : ℕ). legsWith k (at p j) (at z j) (at a j) .s1)
+    × UpTo i cc (λ (j : ℕ). legsWith k (at p j) (at z j) (at a j) .cc)
 
 abbrev μ-loop : tie.MeasureT-loop
 μ-loop k p z a s1₀ cc₀ i₀ s1 cc i = 16 - i

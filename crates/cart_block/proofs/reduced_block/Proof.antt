@@ -1,17 +1,20 @@
--- `cart_block::reduced_block` meets its contract. Assumes nothing.
+-- Invariant: the first i numbers of s0 are S0 = ra·Z of the first i points, and those of c0 are
+-- C0 = ar·(ra·p), each product rounded (`UpTo`, once for each column). A turn writes both numbers
+-- at i (`one-more`). At i = 16 both columns are filled (`all-filled`). The measure is 16 - i.
+-- Assumes nothing.
 use Prim.Native.Nat.{ℕ, _-_}
 use mathlib.Core.Path.{refl}
 use Rattle.blocks.specs.Each.{at, UpTo}
 use Rattle.blocks.proofs.Laws.{none-filled, one-more, all-filled}
-use Rattle.floats.specs.Binary64.{_⊗_}
+use Rattle.cart.specs.Step.{s0Of, c0Of}
 use borrow.Author.Needs.{needs}
 use Rattle.cart_block.proofs.reduced_block.Statement.{statement}
 use Rattle.cart_block.proofs.reduced_block.Tie as tie
 
 abbrev Inv-loop : tie.InvT-loop
 Inv-loop k p z s0₀ c0₀ i₀ s0 c0 i =
-    UpTo i s0 (λ (j : ℕ). k .ra ⊗ at z j)
-    × UpTo i c0 (λ (j : ℕ). k .ar ⊗ (k .ra ⊗ at p j))
+    UpTo i s0 (λ (j : ℕ). s0Of k (at z j))
+    × UpTo i c0 (λ (j : ℕ). c0Of k (at p j))
 
 abbrev μ-loop : tie.MeasureT-loop
 μ-loop k p z s0₀ c0₀ i₀ s0 c0 i = 16 - i

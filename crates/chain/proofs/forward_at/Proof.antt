@@ -1,50 +1,23 @@
--- `chain::forward_at` meets its contract. Assumes nothing.
-use mathlib.Core.Path.{_≡_, sym, _∙_}
+-- What the body runs as is what the step runs as (`at-index`), by whichever of the two functions it
+-- runs. Assumes nothing.
+use mathlib.Core.Path.{sym, _∙_}
 use borrow.Author.Needs.{needs}
-use borrow.Author.Tests.{lt-ltb}
-use Rattle.sheet.specs.Layout.{bodyAt, entryAt}
-use Rattle.chain.specs.Chain.{bodyListOf, bodyCountOf, stepListOf, stepCountOf}
+use mathlib.Core.Bool.{false}
+use Rattle.chain.proofs.AtIndex.{at-index}
 use Rattle.chain.proofs.forward_at.Statement.{statement}
 use Rattle.chain.proofs.forward_at.Tie as tie
 
-mul-place : tie.Need-mul-place
-mul-place c = search needs
+inverted-at-requires : tie.Need-inverted-at-requires
+inverted-at-requires c κs = search needs
 
-add-place : tie.Need-add-place
-add-place c = search needs
+reversed-by-requires : tie.Need-reversed-by-requires
+reversed-by-requires c κs = search needs
 
-add-read32 : tie.Need-add-read32
-add-read32 c = search needs
+kind-at-requires : tie.Need-kind-at-requires
+kind-at-requires c κs = search needs
 
-read32-requires : tie.Need-read32-requires
-read32-requires c κs = search needs
-
-turned-by-requires : tie.Need-turned-by-requires
-turned-by-requires c κs = search needs
-
-read32-requires-2 : tie.Need-read32-requires-2
-read32-requires-2 c κs = search needs
-
-add-read32-2 : tie.Need-add-read32-2
-add-read32-2 c = search needs
-
-read32-requires-3 : tie.Need-read32-requires-3
-read32-requires-3 c κs = search needs
-
-wide-requires : tie.Need-wide-requires
-wide-requires c κs = search needs
-
-add-read32-3 : tie.Need-add-read32-3
-add-read32-3 c = search needs
-
-read32-requires-4 : tie.Need-read32-requires-4
-read32-requires-4 c κs = search needs
-
-wide-requires-2 : tie.Need-wide-requires-2
-wide-requires-2 c κs = search needs
-
-part-requires : tie.Need-part-requires
-part-requires c κs = search needs
+body-at-requires : tie.Need-body-at-requires
+body-at-requires c κs = search needs
 
 held-kind-requires : tie.Need-held-kind-requires
 held-kind-requires c κs = search needs
@@ -56,21 +29,11 @@ same-length : tie.Need-same-length
 same-length c = search needs
 
 returns : tie.Need-returns
-unfolding stepListOf stepCountOf entryAt bodyAt bodyListOf bodyCountOf
 returns c =
     let f = c .before .before .before .before .before .before in
-    rw (lt-ltb _ _ (f .before .before .before .before .before .before .before .before .before .before .before .before .pre .1))
-    (rw (
-      f .part .ensures,
-      f .before .wide2 .ensures,
-      f .before .before .read324 .ensures,
-      f .before .before .before .wide .ensures,
-      f .before .before .before .before .read323 .ensures,
-      f .before .before .before .before .before .read322 .ensures,
-      f .before .before .before .before .before .before .turned-by .ensures,
-      f .before .before .before .before .before .before .before .read32 .ensures,
-    )
-    at (c .before .before .run-helmert .ensures))
+    let t = f .before .before .before in
+    at-index false _ _ _ _ _ (t .before .before .before .before .before .pre) (t .inverted-at .ensures) (f .before .before .reversed-by .ensures)
+    (f .before .kind-at .ensures) (f .body-at .ensures) (c .before .before .run-helmert .ensures)
 
 run-other-requires : tie.Need-run-other-requires
 run-other-requires c κs = λ e. c .before .if1 .left (c .before .before .held-kind .ensures ∙ e)
@@ -79,39 +42,20 @@ same-length-2 : tie.Need-same-length-2
 same-length-2 c = search needs
 
 returns-2 : tie.Need-returns-2
-unfolding stepListOf stepCountOf entryAt bodyAt bodyListOf bodyCountOf
 returns-2 c =
     let f = c .before .before .before .before .before .before in
-    rw (lt-ltb _ _ (f .before .before .before .before .before .before .before .before .before .before .before .before .pre .1))
-    (rw (
-      f .part .ensures,
-      f .before .wide2 .ensures,
-      f .before .before .read324 .ensures,
-      f .before .before .before .wide .ensures,
-      f .before .before .before .before .read323 .ensures,
-      f .before .before .before .before .before .read322 .ensures,
-      f .before .before .before .before .before .before .turned-by .ensures,
-      f .before .before .before .before .before .before .before .read32 .ensures,
-    )
-    at (c .before .before .run-other .ensures))
+    let t = f .before .before .before in
+    at-index false _ _ _ _ _ (t .before .before .before .before .before .pre) (t .inverted-at .ensures) (f .before .before .reversed-by .ensures)
+    (f .before .kind-at .ensures) (f .body-at .ensures) (c .before .before .run-other .ensures)
 
 pub forward-at-spec : {M : Type 1} → statement M
 forward-at-spec =
     tie.close
     (tie.spec
-    mul-place
-    add-place
-    add-read32
-    read32-requires
-    turned-by-requires
-    read32-requires-2
-    add-read32-2
-    read32-requires-3
-    wide-requires
-    add-read32-3
-    read32-requires-4
-    wide-requires-2
-    part-requires
+    inverted-at-requires
+    reversed-by-requires
+    kind-at-requires
+    body-at-requires
     held-kind-requires
     run-helmert-requires
     same-length

@@ -1,4 +1,4 @@
--- `chain::run_helmert` meets its contract. Assumes nothing.
+-- By `holds-helmert`, from what the calls ensure. Assumes nothing.
 use Rattle.chain.specs.Chain.{bodyListOf, bodyCountOf}
 use Rattle.chain.proofs.Bodies.{holds-helmert}
 use borrow.Author.Needs.{needs}

@@ -1,4 +1,5 @@
--- `chain::run_other` meets its contract. Assumes nothing.
+-- One case for each way through the tests. Each by `holds-molodensky`, `holds-permtide`,
+-- `holds-deformation` and `holds-cart`, from what the calls ensure. Assumes nothing.
 use mathlib.Core.Path.{_≡_, sym, _∙_}
 use Rattle.chain.specs.Chain.{bodyListOf, bodyCountOf}
 use Rattle.chain.proofs.Bodies.{holds-molodensky, holds-permtide, holds-deformation, holds-cart}

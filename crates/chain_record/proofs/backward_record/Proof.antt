@@ -1,4 +1,8 @@
--- `chain_record::backward_record` meets its contract. Assumes nothing.
+-- Invariant (`Backward`): the list is what the steps from index i on make of the list at the start,
+-- the last step first, and the counts from i on are theirs, followed by zeros. A turn lowers i and
+-- runs the record's step there (`run_step`, `entryOf`), which adds that step to those that have run
+-- (`backward-again`). At i = 0 all steps have run, and list and counts are those of
+-- `chainInverseOf` (`backward-end`). The measure is i. Assumes nothing.
 use borrow.Author.Needs.{needs}
 use native.Mathlib.Omega.{arith}
 use Prim.Native.Nat.{_+_, _-_}

@@ -1,22 +1,25 @@
--- `chain_record::deforms_record` meets its contract. Assumes nothing.
+-- Invariant: found says whether one of the first i steps is a deformation step (`hasDeformation`),
+-- and i is at most n. A turn asks whether the kind of step i of the record (`kind_of`, `kindIn`) is
+-- 5, and found then speaks of one step more (`before-next`). The loop ends at i = n, so found is
+-- the answer for all n steps. The measure is n - i. Assumes nothing.
 use borrow.Author.Needs.{needs}
 use native.Mathlib.Omega.{arith}
 use Prim.Native.Nat.{_-_, _≤_}
 use mathlib.Core.Path.{_≡_, refl}
 use Rattle.sheet.specs.Layout.{kindIn}
-use Rattle.sheet.specs.Rules.{deformationBefore}
+use Rattle.sheet.specs.Rules.{hasDeformation}
 use Rattle.sheet.proofs.Order.{before-next}
 use Rattle.chain_record.proofs.deforms_record.Statement.{statement}
 use Rattle.chain_record.proofs.deforms_record.Tie as tie
 
 abbrev Inv-loop : tie.InvT-loop
-Inv-loop n kept found₀ i₀ found i = (i ≤ n) × (found ≡ deformationBefore (kindIn kept) i)
+Inv-loop n kept found₀ i₀ found i = (i ≤ n) × (found ≡ hasDeformation (kindIn kept) i)
 
 abbrev μ-loop : tie.MeasureT-loop
 μ-loop n kept found₀ i₀ found i = n - i
 
 loop-holds : tie.Need-loop-holds Inv-loop μ-loop
-unfolding deformationBefore
+unfolding hasDeformation
 loop-holds c = (search needs, refl)
 
 mul-entry : tie.Need-mul-entry Inv-loop μ-loop

@@ -1,4 +1,9 @@
--- `chain_record::forward_record` meets its contract. Assumes nothing.
+-- Invariant (`Forward`): the steps from index i on make of the list as it stands what all steps
+-- make of the list at the start; the counts before i, followed by the counts of those steps, are
+-- all the counts; and the counts from i on are still 0. A turn runs the record's step i
+-- (`run_step`, `entryOf`) and writes its count at i (`forward-again`). At i = n no step is left,
+-- and list and counts are those of `chainForwardOf` (`forward-end`). The measure is n - i.
+-- Assumes nothing.
 use borrow.Author.Needs.{needs}
 use Prim.Native.Nat.{_-_}
 use mathlib.Core.Path.{refl}

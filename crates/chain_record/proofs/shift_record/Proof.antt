@@ -1,4 +1,5 @@
--- `chain_record::shift_record` meets its contract. Assumes nothing.
+-- One case for each way through the tests. Each by `refused-own`, `refused-9`, `refused-10` and
+-- `run-through`, from what the calls ensure. Assumes nothing.
 use mathlib.Core.Path.{_≡_, sym, ap, _∙_}
 use mathlib.Core.Bool.{true, false}
 use Rattle.sheet.specs.declared.Refusal.{Refusal}
@@ -23,8 +24,8 @@ returns c =
 list-broken-requires : tie.Need-list-broken-requires
 list-broken-requires c κs = search needs
 
-of-lists-requires : tie.Need-of-lists-requires
-of-lists-requires c κs = search needs
+of-call-requires : tie.Need-of-call-requires
+of-call-requires c κs = search needs
 
 refused-requires-2 : tie.Need-refused-requires-2
 refused-requires-2 c κs = search needs
@@ -32,20 +33,20 @@ refused-requires-2 c κs = search needs
 returns-2 : tie.Need-returns-2
 unfolding shiftRecordOf
 returns-2 c =
-    rw (c .refused2 .ensures, c .before .of-lists .ensures, ← c .before .before .before .before .before .before .check-record .ensures)
+    rw (c .refused2 .ensures, c .before .of-call .ensures, ← c .before .before .before .before .before .before .check-record .ensures)
     (sym (refused-9 (c .before .before .before .before .before .before .check-record .result) _ _ _ _ _ _ (c .before .before .before .before .if1 .left) (sym (c .before .before .before .list-broken .ensures) ∙ c .before .before .if2 .taken)))
 
 wide-requires : tie.Need-wide-requires
 wide-requires c κs = search needs
 
 deforms-record-requires : tie.Need-deforms-record-requires
-deforms-record-requires c κs = rw (c .wide .ensures) (few-kept _ _ (ap (λ (r : Refusal). r .number) (sym (c .before .before .before .before .before .check-record .ensures)) ∙ c .before .before .before .if1 .left))
+deforms-record-requires c κs = rw (c .wide .ensures .0) (few-kept _ _ (ap (λ (r : Refusal). r .number) (sym (c .before .before .before .before .before .check-record .ensures)) ∙ c .before .before .before .if1 .left))
 
 lent-broken-requires : tie.Need-lent-broken-requires
 lent-broken-requires c κs = search needs
 
-of-lists-requires-2 : tie.Need-of-lists-requires-2
-of-lists-requires-2 c κs = search needs
+of-call-requires-2 : tie.Need-of-call-requires-2
+of-call-requires-2 c κs = search needs
 
 refused-requires-3 : tie.Need-refused-requires-3
 refused-requires-3 c κs = search needs
@@ -53,11 +54,11 @@ refused-requires-3 c κs = search needs
 returns-3 : tie.Need-returns-3
 unfolding shiftRecordOf
 returns-3 c =
-    rw (c .refused3 .ensures, c .before .of-lists2 .ensures, ← c .before .before .before .before .before .before .before .before .before .before .check-record .ensures)
-    (sym (refused-10 (c .before .before .before .before .before .before .before .before .before .before .check-record .result) _ _ _ _ _ _ (c .before .before .before .before .before .before .before .before .if1 .left) (sym (c .before .before .before .before .before .before .before .list-broken .ensures) ∙ c .before .before .before .before .before .before .if2 .left) (sym (rw (c .before .before .before .before .deforms-record .ensures, c .before .before .before .before .before .wide .ensures) at (c .before .before .before .lent-broken .ensures)) ∙ c .before .before .if3 .taken)))
+    rw (c .refused3 .ensures, c .before .of-call2 .ensures, ← c .before .before .before .before .before .before .before .before .before .before .check-record .ensures)
+    (sym (refused-10 (c .before .before .before .before .before .before .before .before .before .before .check-record .result) _ _ _ _ _ _ (c .before .before .before .before .before .before .before .before .if1 .left) (sym (c .before .before .before .before .before .before .before .list-broken .ensures) ∙ c .before .before .before .before .before .before .if2 .left) (sym (rw (c .before .before .before .before .deforms-record .ensures, c .before .before .before .before .before .wide .ensures .0) at (c .before .before .before .lent-broken .ensures)) ∙ c .before .before .if3 .taken)))
 
 backward-record-requires : tie.Need-backward-record-requires
-backward-record-requires c κs = rw (c .before .before .before .before .before .wide .ensures) (few-kept _ _ (ap (λ (r : Refusal). r .number) (sym (c .before .before .before .before .before .before .before .before .before .before .check-record .ensures)) ∙ c .before .before .before .before .before .before .before .before .if1 .left))
+backward-record-requires c κs = rw (c .before .before .before .before .before .wide .ensures .0) (few-kept _ _ (ap (λ (r : Refusal). r .number) (sym (c .before .before .before .before .before .before .before .before .before .before .check-record .ensures)) ∙ c .before .before .before .before .before .before .before .before .if1 .left))
 
 ran-requires : tie.Need-ran-requires
 ran-requires c κs = search needs
@@ -68,11 +69,11 @@ same-length c = search needs
 returns-4 : tie.Need-returns-4
 unfolding shiftRecordOf
 returns-4 c =
-    rw (c .ran .ensures, c .before .before .before .backward-record .ensures .0, c .before .before .before .backward-record .ensures .1, c .before .before .before .before .before .before .before .before .before .wide .ensures, c .before .before .before .before .before .if4 .taken, ← c .before .before .before .before .before .before .before .before .before .before .before .before .before .before .check-record .ensures)
-    (sym (run-through (c .before .before .before .before .before .before .before .before .before .before .before .before .before .before .check-record .result) _ true _ _ _ _ (c .before .before .before .before .before .before .before .before .before .before .before .before .if1 .left) (sym (c .before .before .before .before .before .before .before .before .before .before .before .list-broken .ensures) ∙ c .before .before .before .before .before .before .before .before .before .before .if2 .left) (sym (rw (c .before .before .before .before .before .before .before .before .deforms-record .ensures, c .before .before .before .before .before .before .before .before .before .wide .ensures) at (c .before .before .before .before .before .before .before .lent-broken .ensures)) ∙ c .before .before .before .before .before .before .if3 .left)))
+    rw (c .ran .ensures, c .before .before .before .backward-record .ensures .0, c .before .before .before .backward-record .ensures .1, c .before .before .before .before .before .before .before .before .before .wide .ensures .0, c .before .before .before .before .before .if4 .taken, ← c .before .before .before .before .before .before .before .before .before .before .before .before .before .before .check-record .ensures)
+    (sym (run-through (c .before .before .before .before .before .before .before .before .before .before .before .before .before .before .check-record .result) _ true _ _ _ _ (c .before .before .before .before .before .before .before .before .before .before .before .before .if1 .left) (sym (c .before .before .before .before .before .before .before .before .before .before .before .list-broken .ensures) ∙ c .before .before .before .before .before .before .before .before .before .before .if2 .left) (sym (rw (c .before .before .before .before .before .before .before .before .deforms-record .ensures, c .before .before .before .before .before .before .before .before .before .wide .ensures .0) at (c .before .before .before .before .before .before .before .lent-broken .ensures)) ∙ c .before .before .before .before .before .before .if3 .left)))
 
 forward-record-requires : tie.Need-forward-record-requires
-forward-record-requires c κs = rw (c .before .before .before .before .before .wide .ensures) (few-kept _ _ (ap (λ (r : Refusal). r .number) (sym (c .before .before .before .before .before .before .before .before .before .before .check-record .ensures)) ∙ c .before .before .before .before .before .before .before .before .if1 .left))
+forward-record-requires c κs = rw (c .before .before .before .before .before .wide .ensures .0) (few-kept _ _ (ap (λ (r : Refusal). r .number) (sym (c .before .before .before .before .before .before .before .before .before .before .check-record .ensures)) ∙ c .before .before .before .before .before .before .before .before .if1 .left))
 
 ran-requires-2 : tie.Need-ran-requires-2
 ran-requires-2 c κs = search needs
@@ -83,8 +84,8 @@ same-length-2 c = search needs
 returns-5 : tie.Need-returns-5
 unfolding shiftRecordOf
 returns-5 c =
-    rw (c .ran2 .ensures, c .before .before .before .forward-record .ensures .0, c .before .before .before .forward-record .ensures .1, c .before .before .before .before .before .before .before .before .before .wide .ensures, c .before .before .before .before .before .if4 .left, ← c .before .before .before .before .before .before .before .before .before .before .before .before .before .before .check-record .ensures)
-    (sym (run-through (c .before .before .before .before .before .before .before .before .before .before .before .before .before .before .check-record .result) _ false _ _ _ _ (c .before .before .before .before .before .before .before .before .before .before .before .before .if1 .left) (sym (c .before .before .before .before .before .before .before .before .before .before .before .list-broken .ensures) ∙ c .before .before .before .before .before .before .before .before .before .before .if2 .left) (sym (rw (c .before .before .before .before .before .before .before .before .deforms-record .ensures, c .before .before .before .before .before .before .before .before .before .wide .ensures) at (c .before .before .before .before .before .before .before .lent-broken .ensures)) ∙ c .before .before .before .before .before .before .if3 .left)))
+    rw (c .ran2 .ensures, c .before .before .before .forward-record .ensures .0, c .before .before .before .forward-record .ensures .1, c .before .before .before .before .before .before .before .before .before .wide .ensures .0, c .before .before .before .before .before .if4 .left, ← c .before .before .before .before .before .before .before .before .before .before .before .before .before .before .check-record .ensures)
+    (sym (run-through (c .before .before .before .before .before .before .before .before .before .before .before .before .before .before .check-record .result) _ false _ _ _ _ (c .before .before .before .before .before .before .before .before .before .before .before .before .if1 .left) (sym (c .before .before .before .before .before .before .before .before .before .before .before .list-broken .ensures) ∙ c .before .before .before .before .before .before .before .before .before .before .if2 .left) (sym (rw (c .before .before .before .before .before .before .before .before .deforms-record .ensures, c .before .before .before .before .before .before .before .before .before .wide .ensures .0) at (c .before .before .before .before .before .before .before .lent-broken .ensures)) ∙ c .before .before .before .before .before .before .if3 .left)))
 
 pub shift-record-spec : {M : Type 1} → statement M
 shift-record-spec =
@@ -94,13 +95,13 @@ shift-record-spec =
     refused-requires
     returns
     list-broken-requires
-    of-lists-requires
+    of-call-requires
     refused-requires-2
     returns-2
     wide-requires
     deforms-record-requires
     lent-broken-requires
-    of-lists-requires-2
+    of-call-requires-2
     refused-requires-3
     returns-3
     backward-record-requires

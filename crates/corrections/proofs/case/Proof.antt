@@ -1,4 +1,4 @@
--- `corrections::case` meets its contract. Assumes nothing.
+-- What the body does is, step by step, what the definition says. Assumes nothing.
 use borrow.Author.Needs.{needs}
 use native.Mathlib.Omega.{arith}
 use Rattle.corrections.proofs.case.Statement.{statement}

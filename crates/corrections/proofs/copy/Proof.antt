@@ -1,4 +1,7 @@
--- `corrections::copy` meets its contract. Assumes nothing.
+-- Invariant: i is at most the length of from, and to has the length that it came with. A turn runs
+-- only while four numbers are left, so from.len() - i and i + 4 stay in range; `read4` and `write4`
+-- ask nothing, and `write4` keeps the length. The measure is what is left of from. The function
+-- promises nothing of the numbers copied, so no more is proved. Assumes nothing.
 use Prim.Native.Nat.{_-_, _≤_}
 use borrow.Author.Needs.{needs}
 use mathlib.Core.Path.{_≡_}

@@ -1,4 +1,7 @@
--- `corrections::differing` meets its contract. Assumes nothing.
+-- Invariant: i is at most the length of a. A turn runs only while four numbers are left, so
+-- a.len() - i and i + 4 stay in range; `read4` asks nothing, and n wraps where it would overflow.
+-- The measure is what is left of a. The function promises nothing of its answer, so no more is
+-- proved. Assumes nothing.
 use Prim.Native.Nat.{_-_, _≤_}
 use borrow.Author.Needs.{needs}
 use lib.ListN.{length}

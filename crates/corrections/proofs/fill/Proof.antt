@@ -1,4 +1,7 @@
--- `corrections::fill` meets its contract. Assumes nothing.
+-- Invariant: i is at most the length of the list, which is the length that it came with. A turn
+-- runs only while four numbers are left, so list.len() - i and i + 4 stay in range; `write4` asks
+-- nothing and keeps the length. The measure is what is left of the list. The function promises
+-- nothing of the numbers written, so no more is proved. Assumes nothing.
 use Prim.Native.Nat.{_-_, _≤_}
 use borrow.Author.Needs.{needs}
 use mathlib.Core.Path.{_≡_}

@@ -1,4 +1,4 @@
--- `corrections::one` meets its contract. Assumes nothing.
+-- What the body does is, step by step, what the definition says. Assumes nothing.
 use borrow.Author.Needs.{needs}
 use Rattle.corrections.proofs.one.Statement.{statement}
 use Rattle.corrections.proofs.one.Tie as tie

@@ -1,4 +1,7 @@
--- `corrections::replayed` meets its contract. Assumes nothing.
+-- Invariant: k is at most 960, and the sheet and the seven buffers have the lengths that they came
+-- with. So at each turn there is the room that `cut` asks for (`Roomy`), and `cut` gives every
+-- slice back with its length. The measure is 960 - k. The function promises nothing of its answer,
+-- so no more is proved. Assumes nothing.
 use Prim.Native.Nat.{_-_, _≤_}
 use borrow.Author.Needs.{needs}
 use native.Mathlib.Omega.{arith}

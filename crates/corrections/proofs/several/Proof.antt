@@ -1,4 +1,6 @@
--- `corrections::several` meets its contract. Assumes nothing.
+-- Invariant: k is at most 6, and the seven lists have the lengths that they came with. A turn calls
+-- `one`, which asks nothing and gives every list back with its length. The measure is 6 - k. The
+-- function promises nothing of its answer, so no more is proved. Assumes nothing.
 use Prim.Native.Nat.{_-_, _≤_}
 use borrow.Author.Needs.{needs}
 use native.Mathlib.Omega.{arith}

@@ -1,4 +1,7 @@
--- `corrections::stretch` meets its contract. Assumes nothing.
+-- Invariant: i is at least index, so i - index does not underflow. A turn runs only while i is
+-- below the number of fixes, so 4·i and i + 1 do not overflow; `read4` asks nothing. The measure is
+-- the length of new less i. The function promises nothing of its answer, so no more is proved.
+-- Assumes nothing.
 use Prim.Native.Nat.{_-_, _≤_}
 use borrow.Author.Needs.{needs}
 use lib.ListN.{length}

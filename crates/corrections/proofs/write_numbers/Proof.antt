@@ -1,4 +1,6 @@
--- `corrections::write_numbers` meets its contract. Assumes nothing.
+-- Invariant: j is at most 30, and s has the length that it came with. So 40 + 8·j does not
+-- overflow, and `put_number` asks nothing and keeps the length. The measure is 30 - j. The function
+-- promises nothing of the bytes written, so no more is proved. Assumes nothing.
 use Prim.Native.Nat.{_-_, _≤_}
 use borrow.Author.Needs.{needs}
 use mathlib.Core.Path.{_≡_}

@@ -1,4 +1,7 @@
--- `corrections::write_words` meets its contract. Assumes nothing.
+-- Invariant: k is at most 10, and s has the length that it came with. So 4·k does not overflow,
+-- what `word` gives is below 281 and fits 32 bits, and `put32` asks nothing and keeps the length.
+-- The measure is 10 - k. The function promises nothing of the bytes written, so no more is proved.
+-- Assumes nothing.
 use Prim.Native.Nat.{_-_, _≤_}
 use borrow.Author.Needs.{needs}
 use mathlib.Core.Path.{_≡_}

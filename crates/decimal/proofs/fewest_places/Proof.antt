@@ -1,4 +1,8 @@
--- `decimal::fewest_places` meets its contract. The loop's invariant: ten is 10^k, and the search from no place on is the search from k on. Assumes nothing.
+-- Invariant: ten is 10^k as a binary64 number (`tenTo`), k is at most 23, and the search from no
+-- place on has the outcome of the search from k places on (`firstFrom`). If the digits at k places
+-- pass, they are the outcome (`stops`); if not, the search goes on at k + 1 places (`goes-on`),
+-- with ten times 10.0 for the next power (`next-ten`). After 22 places without a pass there is no
+-- such decimal (`ends`). The measure is 23 - k. Assumes nothing.
 use borrow.Author.Needs.{needs}
 use native.Mathlib.Omega.{arith}
 use mathlib.Core.Path.{_≡_, refl, sym, ap, _∙_}

@@ -1,4 +1,4 @@
--- `decimal::passes` meets its contract: a number below 2^52 is counted by binary64 without a gap. Assumes nothing.
+-- A number below 2^52 is counted by binary64 without a gap. Assumes nothing.
 use borrow.Author.Needs.{needs}
 use native.Mathlib.Omega.{arith}
 use mathlib.Core.Path.{sym}

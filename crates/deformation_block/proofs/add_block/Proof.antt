@@ -1,11 +1,14 @@
--- `deformation_block::add_block` meets its contract. Assumes nothing.
+-- Invariant (`Over`): the first i numbers of r are the sums v + r, NaN where the mark is not 1
+-- (`keptOf`), and the others are still the corrections that r came with. So the correction that a
+-- turn reads at i is the one that came there, and it writes what `kept` makes of the sum. At i = 16
+-- the whole block is written (`all-over`). The measure is 16 - i. Assumes nothing.
 use Prim.Native.Nat.{ℕ, _-_}
 use borrow.Author.Needs.{needs}
 use mathlib.Core.Path.{_∙_}
 use Rattle.floats.specs.Binary64.{_⊕_}
 use Rattle.blocks.specs.Each.{at, wholeAt}
 use Rattle.deformation_block.specs.Places.{keptOf}
-use Rattle.deformation_block.proofs.Over.{Over, none-over, one-over, all-over}
+use Rattle.blocks.proofs.Over.{Over, none-over, still, one-more-over, all-over}
 use Rattle.deformation_block.proofs.add_block.Statement.{statement}
 use Rattle.deformation_block.proofs.add_block.Tie as tie
 
@@ -49,7 +52,9 @@ loop-less : tie.Need-loop-less Inv-loop μ-loop
 loop-less c = search needs
 
 loop-again : tie.Need-loop-again Inv-loop μ-loop
-loop-again c = one-over (search needs) (λ e. c .kept .ensures ∙ rw e) (c .before .before .before .before .before .loop .inv)
+loop-again c =
+    let o = c .before .before .before .before .before .loop .inv in
+    one-more-over (search needs) (c .kept .ensures ∙ rw (still o)) o
 
 returns : tie.Need-returns Inv-loop μ-loop
 returns c = all-over (search needs) (c .before .loop .inv)

@@ -1,4 +1,4 @@
--- `deformation_block::correction_block` meets its contract. Assumes nothing.
+-- By `turned-all`, from what the calls ensure. Assumes nothing.
 use borrow.Author.Needs.{needs}
 use mathlib.Core.List.{[]}
 use Rattle.deformation_block.proofs.Laws.{turned-all}

@@ -1,27 +1,31 @@
--- `deformation_block::count_block` meets its contract. Assumes nothing.
-use Prim.Native.Nat.{ℕ, _-_, _≤_}
+-- Invariant: n is how many of the first i marks are 1 (`CountedBefore`), n is at most i, and i at
+-- most 16, so n does not overflow. A turn counts mark i (`one-counted`). At i = 16 n is the count
+-- of the block (`all-counted`). The measure is 16 - i. Assumes nothing.
+use Prim.Native.Nat.{ℕ, _-_}
 use borrow.Author.Needs.{needs}
-use mathlib.Core.Path.{refl}
 use lib.Dec.{eqb}
 use Rattle.blocks.specs.Each.{wholeAt}
-use Rattle.deformation_block.proofs.Laws.{CountedTo, none-counted, one-counted, all-counted}
+use Rattle.blocks.proofs.Counts.{CountedBefore, none-counted, one-counted, all-counted}
 use Rattle.deformation_block.proofs.count_block.Statement.{statement}
 use Rattle.deformation_block.proofs.count_block.Tie as tie
 
 abbrev Inv-loop : tie.InvT-loop
-Inv-loop marks n₀ i₀ n i = CountedTo n i (λ (j : ℕ). eqb (wholeAt marks j) 1) × (i ≤ 16)
+Inv-loop marks n₀ i₀ n i = CountedBefore i (λ (j : ℕ). eqb (wholeAt marks j) 1) n
 
 abbrev μ-loop : tie.MeasureT-loop
 μ-loop marks n₀ i₀ n i = 16 - i
 
 loop-holds : tie.Need-loop-holds Inv-loop μ-loop
-loop-holds c = (none-counted, search needs)
+loop-holds c = none-counted
 
-element-copy-out-tally : tie.Need-element-copy-out-tally Inv-loop μ-loop
-element-copy-out-tally c = search needs
+element-copy-out-one-if : tie.Need-element-copy-out-one-if Inv-loop μ-loop
+element-copy-out-one-if c = search needs
 
-tally-requires : tie.Need-tally-requires Inv-loop μ-loop
-tally-requires c κs = search needs
+one-if-requires : tie.Need-one-if-requires Inv-loop μ-loop
+one-if-requires c κs = search needs
+
+add-n : tie.Need-add-n Inv-loop μ-loop
+add-n c = search needs
 
 add-i : tie.Need-add-i Inv-loop μ-loop
 add-i c = search needs
@@ -30,10 +34,10 @@ loop-less : tie.Need-loop-less Inv-loop μ-loop
 loop-less c = search needs
 
 loop-again : tie.Need-loop-again Inv-loop μ-loop
-loop-again c = let inv = c .before .before .before .loop .inv in (one-counted (c .tally .ensures) refl (inv .0), search needs)
+loop-again c = one-counted (search needs) (c .one-if .ensures .0) (c .before .before .before .loop .inv)
 
 returns : tie.Need-returns Inv-loop μ-loop
-returns c = let inv = c .before .loop .inv in all-counted (search needs) (inv .1) (inv .0)
+returns c = all-counted (search needs) (c .before .loop .inv)
 
 pub count-block-spec : {M : Type 1} → statement M
 count-block-spec =
@@ -42,8 +46,9 @@ count-block-spec =
     Inv-loop
     μ-loop
     loop-holds
-    element-copy-out-tally
-    tally-requires
+    element-copy-out-one-if
+    one-if-requires
+    add-n
     add-i
     loop-less
     loop-again

@@ -1,4 +1,4 @@
--- `deformation_block::kept` meets its contract. Assumes nothing.
+-- One case for each way through the tests. Each by `zero-over-zero`. Assumes nothing.
 use borrow.Author.Needs.{needs}
 use Rattle.floats.proofs.Nan.{zero-over-zero}
 use borrow.Author.Tests.{eq-eqb, ne-eqb}

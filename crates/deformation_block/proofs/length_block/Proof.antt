@@ -1,4 +1,4 @@
--- `deformation_block::length_block` meets its contract. Assumes nothing.
+-- By `told`, from what the calls ensure. Assumes nothing.
 use borrow.Author.Needs.{needs}
 use mathlib.Core.Path.{ap}
 use Rattle.blocks.proofs.Laws.{told}

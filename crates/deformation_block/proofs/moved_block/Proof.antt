@@ -1,4 +1,5 @@
--- `deformation_block::moved_block` meets its contract. Assumes nothing.
+-- One case for each way through the tests. Each by `raw-all` and `sum-all`, from what the calls
+-- ensure. Assumes nothing.
 use borrow.Author.Needs.{needs}
 use Rattle.deformation_block.proofs.Laws.{raw-all, sum-all}
 use Rattle.deformation_block.proofs.moved_block.Statement.{statement}
@@ -43,9 +44,7 @@ returns c =
     (a .z .now)
     (a .t .now)
     (c .before .before .before .before .before .before .before .before .before .before .before .before .before .before .if1 .taken)
-    (d .0)
-    (d .1)
-    (d .2)
+    d
     (c .before .before .before .before .before .before .before .before .before .length-block .ensures)
     (c .before .before .before .before .before .before .before .keep-block .ensures)
     (c .before .before .before .before .before .keep-block2 .ensures)
@@ -86,9 +85,7 @@ returns-2 c =
     (a .z .now)
     (a .t .now)
     (c .before .before .before .before .before .before .before .before .before .if1 .left)
-    (d .0)
-    (d .1)
-    (d .2)
+    d
     (c .before .before .before .before .before .before .before .add-block .ensures)
     (c .before .before .before .before .before .add-block2 .ensures)
     (c .before .before .before .add-block3 .ensures)

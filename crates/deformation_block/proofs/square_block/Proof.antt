@@ -1,4 +1,7 @@
--- `deformation_block::square_block` meets its contract. Assumes nothing.
+-- Invariant: the first i numbers of q are the squares of the lengths of the first i corrections
+-- (`UpTo`, `dotOf`, `correctionAt`). A turn writes the product of correction i with itself (`dot`,
+-- `one-more`). At i = 16 the whole block is filled (`all-filled`). The measure is 16 - i.
+-- Assumes nothing.
 use Prim.Native.Nat.{ℕ, _-_}
 use borrow.Author.Needs.{needs}
 use mathlib.Core.Path.{refl}

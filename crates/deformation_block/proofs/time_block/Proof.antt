@@ -1,4 +1,6 @@
--- `deformation_block::time_block` meets its contract. Assumes nothing.
+-- Invariant: the first i numbers of r are the times plus 0.0, NaN where the mark is not 1 (`UpTo`,
+-- `keptOf`). A turn writes what `kept` makes of the sum at i (`one-more`). At i = 16 the whole
+-- block is filled (`all-filled`). The measure is 16 - i. Assumes nothing.
 use Prim.Native.Nat.{ℕ, _-_}
 use borrow.Author.Needs.{needs}
 use mathlib.Core.Path.{refl}

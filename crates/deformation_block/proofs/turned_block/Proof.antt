@@ -1,11 +1,14 @@
--- `deformation_block::turned_block` meets its contract. Assumes nothing.
+-- Invariant (`Over`, once for each column): the first i numbers of dx, dy and dz are the
+-- corrections of the first i tuples (`turnedAt`), and the others are still what came there, the
+-- sines and cosines of the latitudes and the cosines of the longitudes. So a turn reads at i what
+-- came there, and writes the three numbers of the correction over it. At i = 16 the three columns
+-- are written (`all-over`). The measure is 16 - i. Assumes nothing.
 use Prim.Native.Nat.{ℕ, _-_}
 use borrow.Author.Needs.{needs}
-use native.Mathlib.Nat.{le-refl}
 use mathlib.Core.Path.{ap}
 use Rattle.tuple.specs.declared.Tuple.{Tuple}
 use Rattle.deformation_block.specs.Places.{turnedAt}
-use Rattle.deformation_block.proofs.Over.{Over, none-over, one-over, all-over}
+use Rattle.blocks.proofs.Over.{Over, none-over, still, one-more-over, all-over}
 use Rattle.deformation_block.proofs.turned_block.Statement.{statement}
 use Rattle.deformation_block.proofs.turned_block.Tie as tie
 
@@ -21,17 +24,17 @@ abbrev μ-loop : tie.MeasureT-loop
 loop-holds : tie.Need-loop-holds Inv-loop μ-loop
 loop-holds c = (none-over (c .pre .0), none-over (c .pre .1), none-over (c .pre .2))
 
-mul-turned : tie.Need-mul-turned Inv-loop μ-loop
-mul-turned c = search needs
+mul-t19 : tie.Need-mul-t19 Inv-loop μ-loop
+mul-t19 c = search needs
 
-element-copy-out-turned : tie.Need-element-copy-out-turned Inv-loop μ-loop
-element-copy-out-turned c = search needs
+element-copy-out-t22 : tie.Need-element-copy-out-t22 Inv-loop μ-loop
+element-copy-out-t22 c = search needs
 
-mul-t22 : tie.Need-mul-t22 Inv-loop μ-loop
-mul-t22 c = search needs
+mul-t23 : tie.Need-mul-t23 Inv-loop μ-loop
+mul-t23 c = search needs
 
-element-copy-out-t25 : tie.Need-element-copy-out-t25 Inv-loop μ-loop
-element-copy-out-t25 c = search needs
+element-copy-out-t26 : tie.Need-element-copy-out-t26 Inv-loop μ-loop
+element-copy-out-t26 c = search needs
 
 mul-lasting : tie.Need-mul-lasting Inv-loop μ-loop
 mul-lasting c = search needs
@@ -45,26 +48,23 @@ mul-lasting-2 c = search needs
 element-copy-out-lasting-2 : tie.Need-element-copy-out-lasting-2 Inv-loop μ-loop
 element-copy-out-lasting-2 c = search needs
 
-mul-t26 : tie.Need-mul-t26 Inv-loop μ-loop
-mul-t26 c = search needs
+mul-t27 : tie.Need-mul-t27 Inv-loop μ-loop
+mul-t27 c = search needs
 
-element-copy-out-t25-2 : tie.Need-element-copy-out-t25-2 Inv-loop μ-loop
-element-copy-out-t25-2 c = search needs
+element-copy-out-t26-2 : tie.Need-element-copy-out-t26-2 Inv-loop μ-loop
+element-copy-out-t26-2 c = search needs
 
-mul-t22-2 : tie.Need-mul-t22-2 Inv-loop μ-loop
-mul-t22-2 c = search needs
+mul-t23-2 : tie.Need-mul-t23-2 Inv-loop μ-loop
+mul-t23-2 c = search needs
 
-element-copy-out-t25-3 : tie.Need-element-copy-out-t25-3 Inv-loop μ-loop
-element-copy-out-t25-3 c = search needs
+element-copy-out-t26-3 : tie.Need-element-copy-out-t26-3 Inv-loop μ-loop
+element-copy-out-t26-3 c = search needs
 
 mul-lasting-3 : tie.Need-mul-lasting-3 Inv-loop μ-loop
 mul-lasting-3 c = search needs
 
 element-copy-out-lasting-3 : tie.Need-element-copy-out-lasting-3 Inv-loop μ-loop
 element-copy-out-lasting-3 c = search needs
-
-scale-requires : tie.Need-scale-requires Inv-loop μ-loop
-scale-requires c κs = search needs
 
 mul-lasting-4 : tie.Need-mul-lasting-4 Inv-loop μ-loop
 mul-lasting-4 c = search needs
@@ -74,6 +74,9 @@ element-copy-out-lasting-4 c = search needs
 
 lasting-requires : tie.Need-lasting-requires Inv-loop μ-loop
 lasting-requires c κs = search needs
+
+scale-requires : tie.Need-scale-requires Inv-loop μ-loop
+scale-requires c κs = search needs
 
 turned-requires : tie.Need-turned-requires Inv-loop μ-loop
 turned-requires c κs = search needs
@@ -105,11 +108,11 @@ loop-less c = search needs
 loop-again : tie.Need-loop-again Inv-loop μ-loop
 loop-again c =
     let inv = c .before .before .before .before .before .before .before .before .before .before .before .before .loop .inv in
-    let e = rw (c .before .lasting .ensures, c .before .before .before .scale .ensures) at (c .turned .ensures) in
-    let there = rw (inv .0 .left _ (le-refl _), inv .1 .left _ (le-refl _), inv .2 .left _ (le-refl _)) at e in (
-      one-over (search needs) (λ _. ap (λ (r : Tuple). r .x) there) (inv .0),
-      one-over (search needs) (λ _. ap (λ (r : Tuple). r .y) there) (inv .1),
-      one-over (search needs) (λ _. ap (λ (r : Tuple). r .z) there) (inv .2),
+    let e = rw (c .before .scale .ensures, c .before .before .lasting .ensures) at (c .turned .ensures) in
+    let there = rw (still (inv .0), still (inv .1), still (inv .2)) at e in (
+      one-more-over (search needs) (ap (λ (r : Tuple). r .x) there) (inv .0),
+      one-more-over (search needs) (ap (λ (r : Tuple). r .y) there) (inv .1),
+      one-more-over (search needs) (ap (λ (r : Tuple). r .z) there) (inv .2),
     )
 
 returns : tie.Need-returns Inv-loop μ-loop
@@ -124,24 +127,24 @@ turned-block-spec =
     Inv-loop
     μ-loop
     loop-holds
-    mul-turned
-    element-copy-out-turned
-    mul-t22
-    element-copy-out-t25
+    mul-t19
+    element-copy-out-t22
+    mul-t23
+    element-copy-out-t26
     mul-lasting
     element-copy-out-lasting
     mul-lasting-2
     element-copy-out-lasting-2
-    mul-t26
-    element-copy-out-t25-2
-    mul-t22-2
-    element-copy-out-t25-3
+    mul-t27
+    element-copy-out-t26-2
+    mul-t23-2
+    element-copy-out-t26-3
     mul-lasting-3
     element-copy-out-lasting-3
-    scale-requires
     mul-lasting-4
     element-copy-out-lasting-4
     lasting-requires
+    scale-requires
     turned-requires
     mul-dx
     element-write-dx

@@ -1,4 +1,11 @@
--- `deformation_runs::deformation_common` meets its contract. Assumes nothing.
+-- The first loop takes sixteen fixes a turn: the first i numbers of the list, followed by the run
+-- of the rest, are the run of the whole list (`Ran`), and n plus the count of the rest is the whole
+-- count (`Counted`); `ran-again-sixteen` and `count-again-sixteen` keep both. The second takes one
+-- fix a turn: if both held where the first loop ended, they hold at i (`Onward`, `CountedOnward`);
+-- `onward-again` and `count-onward-again` keep that. With fewer than four numbers left, list and n
+-- are the whole run and its count (`ran-end`, `count-end`). The list is shorter than 2^64 numbers
+-- and n is at most i, so neither i nor n overflows; each measure is what is left of the list.
+-- Assumes nothing.
 use Prim.Native.Nat.{_-_, _^_, _<_}
 use borrow.Author.Needs.{needs}
 use native.Mathlib.Omega.{arith}
@@ -7,7 +14,7 @@ use mathlib.Core.Path.{_≡_, refl, ap}
 use Rattle.tuple.specs.declared.Shifted.{Shifted}
 use Rattle.lists.proofs.Laws.{Ran, Counted, Onward, CountedOnward, ran-start, ran-end, onward-start, onward-again, count-start, count-end, count-onward-start, count-onward-again}
 use Rattle.lists.proofs.Sixteen.{taken-few, ran-again-sixteen, count-again-sixteen}
-use Rattle.helmert_turns.specs.Turns.{noState}
+use Rattle.helmert.specs.Turns.{noState}
 use Rattle.deformation_runs.specs.Turns.{movedTurns}
 use Rattle.deformation_runs.proofs.deformation_common.Statement.{statement}
 use Rattle.deformation_runs.proofs.deformation_common.Tie as tie
@@ -70,8 +77,11 @@ common-requires c κs = search needs
 write4-requires : tie.Need-write4-requires Inv-loop μ-loop Inv-loop2 μ-loop2
 write4-requires c κs = search needs
 
-tally-requires : tie.Need-tally-requires Inv-loop μ-loop Inv-loop2 μ-loop2
-tally-requires c κs = let l = c .before .before .before .before .before .before .before .before .before .before .loop2 .inv in search (needs, c .before .before .before .before .before .before .before .before .before .loop2-test .taken, l .0 .within, l .0 .long, l .1 .few, l .2)
+one-if-requires : tie.Need-one-if-requires Inv-loop μ-loop Inv-loop2 μ-loop2
+one-if-requires c κs = search needs
+
+add-n-2 : tie.Need-add-n-2 Inv-loop μ-loop Inv-loop2 μ-loop2
+add-n-2 c = search needs
 
 add-i-2 : tie.Need-add-i-2 Inv-loop μ-loop Inv-loop2 μ-loop2
 add-i-2 c = let l = c .before .before .before .before .before .before .before .before .before .before .before .loop2 .inv in search (needs, c .before .before .before .before .before .before .before .before .before .before .loop2-test .taken, l .0 .within, l .0 .long, l .1 .few, l .2)
@@ -85,7 +95,7 @@ loop2-again c =
     let w = c .before .before .before .write4 .ensures in
     let e = rw (c .before .before .before .before .before .before .before .before .before .velocity-at .ensures, c .before .before .before .before .before .before .before .before .mark-at .ensures, c .before .before .before .before .before .before .read4 .ensures) at (c .before .before .before .before .before .common .ensures) in
     let tuple = ap (λ (s : Shifted). s .tuple) e in
-    (onward-again (λ k v. refl) (search needs) tuple w (l .0), rw (c .tally .ensures) (count-onward-again (λ k v. refl) (search needs) (ap (λ (s : Shifted). s .counted) e) tuple w (l .1)), search needs)
+    (onward-again (λ k v. refl) (search needs) tuple w (l .0), rw (c .one-if .ensures .0) (count-onward-again (λ k v. refl) (search needs) (ap (λ (s : Shifted). s .counted) e) tuple w (l .1)), search needs)
 
 same-length : tie.Need-same-length Inv-loop μ-loop Inv-loop2 μ-loop2
 same-length c = search needs
@@ -118,7 +128,8 @@ deformation-common-spec =
     read4-requires
     common-requires
     write4-requires
-    tally-requires
+    one-if-requires
+    add-n-2
     add-i-2
     loop2-less
     loop2-again

@@ -1,4 +1,4 @@
--- `deformation_runs::deformation_sixteen` meets its contract. Assumes nothing.
+-- Calls are replaced by what they ensure; the definition is left. Assumes nothing.
 use borrow.Author.Needs.{needs}
 use Rattle.deformation_runs.proofs.deformation_sixteen.Statement.{statement}
 use Rattle.deformation_runs.proofs.deformation_sixteen.Tie as tie

@@ -1,4 +1,4 @@
--- `deformation_runs::mark_at` meets its contract. Assumes nothing.
+-- One case for each return. The facts at hand are what is asked. Assumes nothing.
 use borrow.Author.Needs.{needs}
 use Prim.Native.Nat.{_≤_}
 use mathlib.Core.Path.{sym}

@@ -1,9 +1,11 @@
--- `deformation_runs::mark_block` meets its contract. Assumes nothing.
+-- Invariant: the first j numbers of m are the marks of the fixes from index k on (`WholeUpTo`,
+-- `markAt`). A turn writes the mark of fix k + j, which `mark_at` reads; k is below 2^62, so k + j
+-- does not overflow. At j = 16 the whole block is filled. The measure is 16 - j. Assumes nothing.
 use Prim.Native.Nat.{ℕ, _+_, _-_}
 use borrow.Author.Needs.{needs}
 use mathlib.Core.Path.{refl}
 use Rattle.blocks.specs.Each.{WholeUpTo}
-use Rattle.blocks.proofs.Laws.{none-filled-whole, one-more-whole, all-filled-whole}
+use Rattle.blocks.proofs.Laws.{none-filled, one-more, all-filled}
 use Rattle.deformation_runs.specs.Turns.{markAt}
 use Rattle.deformation_runs.proofs.mark_block.Statement.{statement}
 use Rattle.deformation_runs.proofs.mark_block.Tie as tie
@@ -15,7 +17,7 @@ abbrev μ-loop : tie.MeasureT-loop
 μ-loop marks k m₀ j₀ m j = 16 - j
 
 loop-holds : tie.Need-loop-holds Inv-loop μ-loop
-loop-holds c = none-filled-whole refl
+loop-holds c = none-filled refl
 
 add-mark-at : tie.Need-add-mark-at Inv-loop μ-loop
 add-mark-at c = search needs
@@ -33,10 +35,10 @@ loop-less : tie.Need-loop-less Inv-loop μ-loop
 loop-less c = search needs
 
 loop-again : tie.Need-loop-again Inv-loop μ-loop
-loop-again c = one-more-whole (search needs) (c .mark-at .ensures) (c .before .before .loop .inv)
+loop-again c = one-more (search needs) (c .mark-at .ensures) (c .before .before .loop .inv)
 
 returns : tie.Need-returns Inv-loop μ-loop
-returns c = all-filled-whole (search needs) (c .before .loop .inv)
+returns c = all-filled (search needs) (c .before .loop .inv)
 
 pub mark-block-spec : {M : Type 1} → statement M
 mark-block-spec =

@@ -1,10 +1,10 @@
--- `deformation_runs::moved_sixteen` meets its contract. Assumes nothing.
+-- By `columns`, `turned`, `taken` and `moved-columns`, from what the calls ensure. Assumes nothing.
 use Prim.Native.Nat.{_/_}
 use borrow.Author.Needs.{needs}
 use mathlib.Core.Path.{_∙_}
 use Rattle.lists.specs.Sixteen.{rowAt}
 use Rattle.lists.proofs.Sixteen.{columns, turned, taken}
-use Rattle.helmert_turns.specs.Turns.{noState}
+use Rattle.helmert.specs.Turns.{noState}
 use Rattle.deformation_runs.specs.Turns.{movedTurns}
 use Rattle.deformation_runs.proofs.Columns.{moved-columns, moved-count}
 use Rattle.deformation_runs.proofs.moved_sixteen.Statement.{statement}

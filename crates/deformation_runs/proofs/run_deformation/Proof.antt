@@ -1,4 +1,4 @@
--- `deformation_runs::run_deformation` meets its contract. Assumes nothing.
+-- Calls are replaced by what they ensure; the definition is left. Assumes nothing.
 use borrow.Author.Needs.{needs}
 use Rattle.deformation_runs.proofs.run_deformation.Statement.{statement}
 use Rattle.deformation_runs.proofs.run_deformation.Tie as tie

@@ -1,4 +1,4 @@
--- `deformation_runs::velocity_at` meets its contract. Assumes nothing.
+-- One case for each way through the tests. Each by `zero-over-zero`. Assumes nothing.
 use borrow.Author.Tests.{lt-ltb, le-ltb}
 use Rattle.floats.proofs.Nan.{zero-over-zero}
 use Rattle.deformation_runs.specs.Turns.{velocityAt}

@@ -1,4 +1,7 @@
--- `deformation_runs::velocity_block` meets its contract. Assumes nothing.
+-- Invariant: the first j numbers of east, north and up are the velocities of the fixes from index k
+-- on (`UpTo`, once for each column, `velocityAt`). A turn writes the three numbers of the velocity
+-- of fix k + j (`one-more`); k is below 2^62, so k + j does not overflow. At j = 16 the three
+-- columns are filled (`all-filled`). The measure is 16 - j. Assumes nothing.
 use Prim.Native.Nat.{ℕ, _+_, _-_}
 use borrow.Author.Needs.{needs}
 use mathlib.Core.Path.{refl, ap}

@@ -1,4 +1,8 @@
--- `faults::first_fault` meets its contract. Assumes nothing.
+-- Invariant: end is where the body before entry i ends (`endBefore`), and the first fault from
+-- entry 0 on is the first from entry i on (`firstFault`). A fault at entry i is the answer
+-- (`fault-here`); if there is none, the search goes on at entry i + 1 with the end that `end_at`
+-- gives (`fault-later`). With no entry left the answer is byte 4 (`fault-none`); n is at most 16,
+-- so every answer is below 2^32. The measure is n - i. Assumes nothing.
 use borrow.Author.Needs.{needs}
 use native.Mathlib.Omega.{arith}
 use mathlib.Core.Path.{_≡_, refl, sym, _∙_}
@@ -16,35 +20,37 @@ Inv-loop s n end₀ i₀ end i = (i ≤ n) × (end ≡ endBefore s i) × (firstF
 abbrev μ-loop : tie.MeasureT-loop
 μ-loop s n end₀ i₀ end i = n - i
 
-mul-end : tie.Need-mul-end Inv-loop μ-loop
-mul-end c = search needs
+read32-requires : tie.Need-read32-requires Inv-loop μ-loop
+read32-requires c κs = search needs
 
-add-end : tie.Need-add-end Inv-loop μ-loop
-add-end c = search needs
+directory-end-requires : tie.Need-directory-end-requires Inv-loop μ-loop
+directory-end-requires c κs = search needs
 
 loop-holds : tie.Need-loop-holds Inv-loop μ-loop
 unfolding endBefore
-loop-holds c = (omega arith, rw (← c .before .pre .1), rw sub-zero)
+loop-holds c = (omega arith, rw (← c .before .read32 .ensures) (c .directory-end .ensures .0), rw sub-zero)
 
 entry-fault-requires : tie.Need-entry-fault-requires Inv-loop μ-loop
 entry-fault-requires c κs = search needs
 
-mul-result : tie.Need-mul-result Inv-loop μ-loop
-mul-result c = search needs
+cast-entry-offset : tie.Need-cast-entry-offset Inv-loop μ-loop
+cast-entry-offset c = search needs
+
+entry-offset-requires : tie.Need-entry-offset-requires Inv-loop μ-loop
+entry-offset-requires c κs = search needs
 
 add-result : tie.Need-add-result Inv-loop μ-loop
 add-result c = search needs
 
-add-result-2 : tie.Need-add-result-2 Inv-loop μ-loop
-add-result-2 c = search needs
-
 returns : tie.Need-returns Inv-loop μ-loop
 returns c =
-    let l = c .before .before .before in
-    let a = l .before .before .args in
-    let e = c .before .entry-fault .ensures in
-    let left : a .n - l .loop .i ≡ suc (a .n - (l .loop .i + 1)) = omega arith in
-    (rw (e .0) (sym (l .loop .inv .2 ∙ fault-here _ _ _ _ left (λ z. c .if1 .taken (e .0 ∙ z)))), omega (arith, e .1))
+    let l = c .before .before .before .before in
+    let a = l .before .before .before .before .args in
+    let e = c .before .before .entry-fault .ensures in
+    let left : a .n - l .loop .i ≡ suc (a .n - (l .loop .i + 1)) = omega arith in (
+      rw (c .entry-offset .ensures .0, e .0) (sym (l .loop .inv .2 ∙ fault-here _ _ _ _ left (λ z. c .before .if1 .taken (e .0 ∙ z)))),
+      omega (arith, e .1),
+    )
 
 end-at-requires : tie.Need-end-at-requires Inv-loop μ-loop
 end-at-requires c κs = search needs
@@ -58,7 +64,7 @@ loop-less c = search needs
 loop-again : tie.Need-loop-again Inv-loop μ-loop
 loop-again c =
     let l = c .before .before .before .before in
-    let a = l .before .before .args in
+    let a = l .before .before .before .before .args in
     let e = c .before .before .entry-fault .ensures in
     let left : a .n - l .loop .i ≡ suc (a .n - (l .loop .i + 1)) = omega arith in
     (omega arith, c .end-at .ensures, l .loop .inv .2 ∙ fault-later _ _ _ _ left (sym (e .0) ∙ c .before .if1 .left))
@@ -72,13 +78,13 @@ first-fault-spec =
     (tie.spec
     Inv-loop
     μ-loop
-    mul-end
-    add-end
+    read32-requires
+    directory-end-requires
     loop-holds
     entry-fault-requires
-    mul-result
+    cast-entry-offset
+    entry-offset-requires
     add-result
-    add-result-2
     returns
     end-at-requires
     add-i

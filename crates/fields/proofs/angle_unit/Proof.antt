@@ -1,4 +1,5 @@
--- `fields::angle_unit` meets its contract. Assumes nothing.
+-- One case for each way through the tests. The test's outcome picks the definition's case.
+-- Assumes nothing.
 use Rattle.fields.specs.Fields.{angleUnit}
 use Rattle.fields.specs.Fields.{lengthsText}
 use Rattle.fields.proofs.angle_unit.Statement.{statement}

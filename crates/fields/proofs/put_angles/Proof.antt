@@ -1,4 +1,4 @@
--- `fields::put_angles` meets its contract. Assumes nothing.
+-- By `then`, from what the calls ensure. Assumes nothing.
 use Rattle.text.proofs.Laws.{then}
 use Rattle.fields.specs.Fields.{anglesText}
 use borrow.Author.Needs.{needs}

@@ -1,4 +1,5 @@
--- `fields::put_convention_words` meets its contract. Assumes nothing.
+-- One case for each way through the tests. Calls are replaced by what they ensure; the definition
+-- is left. Assumes nothing.
 use borrow.Author.Tests.{ne-eqb}
 use Rattle.fields.specs.Words.{conventionText}
 use borrow.Author.Needs.{needs}

@@ -1,4 +1,4 @@
--- `fields::put_deformation_flags` meets its contract. Assumes nothing.
+-- By `then`, from what the calls ensure. Assumes nothing.
 use Rattle.text.proofs.Laws.{then}
 use Rattle.fields.specs.Words.{deformationFlags}
 use borrow.Author.Needs.{needs}

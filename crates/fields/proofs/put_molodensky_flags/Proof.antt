@@ -1,4 +1,4 @@
--- `fields::put_molodensky_flags` meets its contract. Assumes nothing.
+-- By `then`, from what the calls ensure. Assumes nothing.
 use Rattle.text.proofs.Laws.{then}
 use Rattle.fields.specs.Words.{molodenskyFlags}
 use borrow.Author.Needs.{needs}

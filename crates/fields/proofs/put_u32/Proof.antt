@@ -1,10 +1,10 @@
--- `fields::put_u32` meets its contract. Assumes nothing.
+-- Calls are replaced by what they ensure; the definition is left. Assumes nothing.
 use borrow.Author.Needs.{needs}
 use Rattle.fields.proofs.put_u32.Statement.{statement}
 use Rattle.fields.proofs.put_u32.Tie as tie
 
-wide-requires : tie.Need-wide-requires
-wide-requires c κs = search needs
+wide64-requires : tie.Need-wide64-requires
+wide64-requires c κs = search needs
 
 put-decimal-requires : tie.Need-put-decimal-requires
 put-decimal-requires c κs = search needs
@@ -13,7 +13,7 @@ same-length : tie.Need-same-length
 same-length c = search needs
 
 returns : tie.Need-returns
-returns c = rw (← c .before .before .before .wide .ensures) (c .before .before .put-decimal .ensures)
+returns c = rw (← c .before .before .before .wide64 .ensures .0) (c .before .before .put-decimal .ensures)
 
 pub put-u32-spec : {M : Type 1} → statement M
-put-u32-spec = tie.close (tie.spec wide-requires put-decimal-requires same-length returns)
+put-u32-spec = tie.close (tie.spec wide64-requires put-decimal-requires same-length returns)

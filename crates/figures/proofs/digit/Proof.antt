@@ -1,4 +1,4 @@
--- `figures::digit` meets its contract. Assumes nothing.
+-- What the body does is, step by step, what the definition says. Assumes nothing.
 use borrow.Author.Needs.{needs}
 use borrow.Author.Tests.{lt-ltb}
 use Rattle.figures.proofs.digit.Statement.{statement}

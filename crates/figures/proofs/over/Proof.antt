@@ -1,4 +1,6 @@
--- `figures::over` meets its contract. The loop's invariant: what is left is n / 10^i. Assumes nothing.
+-- Invariant: left is n / 10^i, and i is at most k. A turn divides by ten once more, and two
+-- divisions are one by the product (`div-div-eq-div-mul`). The loop ends at i = k, where left is
+-- n / 10^k. The measure is k - i. Assumes nothing.
 use borrow.Author.Needs.{needs}
 use native.Mathlib.Omega.{arith}
 use mathlib.Core.Path.{_≡_, sym, ap, _∙_}

@@ -1,4 +1,4 @@
--- `figures::put_fixed` meets its contract. Assumes nothing.
+-- By `then`, from what the calls ensure. Assumes nothing.
 use Rattle.text.proofs.Laws.{then}
 use Rattle.figures.specs.Figures.{fixedText}
 use borrow.Author.Needs.{needs}

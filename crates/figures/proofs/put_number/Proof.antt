@@ -1,4 +1,4 @@
--- `figures::put_number` meets its contract. Assumes nothing.
+-- One case for each variant. Each by `then`, from what the calls ensure. Assumes nothing.
 use borrow.Author.Needs.{needs}
 use Rattle.text.proofs.Laws.{then}
 use Rattle.figures.specs.Figures.{numberText, eitherText}

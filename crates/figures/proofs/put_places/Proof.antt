@@ -1,4 +1,8 @@
--- `figures::put_places` meets its contract. The loop's invariant: what is still to write are the last `left` digits. Assumes nothing.
+-- Invariant (`Going`): the text as it stands, with the digits that are left appended, is the text
+-- before the loop with all k digits appended. A turn writes the highest of the digits left
+-- (`highest-first`), so that one fewer is left (`going-on`). With none left the text has all k
+-- digits (`no-digits`, `going-ends`). Before the loop `put_bytes` writes nothing and only brings
+-- the place within the room (`then`). The measure is how many digits are left. Assumes nothing.
 use borrow.Author.Needs.{needs}
 use native.Mathlib.Omega.{arith}
 use mathlib.Core.Path.{_≡_, refl, _∙_}

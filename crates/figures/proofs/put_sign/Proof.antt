@@ -1,4 +1,5 @@
--- `figures::put_sign` meets its contract. Assumes nothing.
+-- One case for each way through the tests. Calls are replaced by what they ensure; the definition
+-- is left. Assumes nothing.
 use Rattle.figures.specs.Figures.{signText}
 use borrow.Author.Needs.{needs}
 use Rattle.figures.proofs.put_sign.Statement.{statement}

@@ -1,4 +1,5 @@
--- `figures::put_time` meets its contract. Assumes nothing.
+-- One case for each way through the tests. Each by `then`, from what the calls ensure.
+-- Assumes nothing.
 use borrow.Author.Needs.{needs}
 use borrow.Author.Tests.{ne-eqb}
 use Rattle.text.proofs.Laws.{then}

@@ -1,4 +1,4 @@
--- `figures::put_time_at` meets its contract. Assumes nothing.
+-- Calls are replaced by what they ensure; the definition is left. Assumes nothing.
 use borrow.Author.Needs.{needs}
 use Rattle.figures.proofs.put_time_at.Statement.{statement}
 use Rattle.figures.proofs.put_time_at.Tie as tie

@@ -1,4 +1,5 @@
--- `floats::abs` meets its contract. Assumes nothing.
+-- One case for each way through the tests. Each by `abs-by-difference` and `abs-of-the-rest`.
+-- Assumes nothing.
 use mathlib.Core.Path.{sym, subst}
 use lib.Dec.{T}
 use Rattle.floats.proofs.Values.{abs-by-difference, abs-of-the-rest}

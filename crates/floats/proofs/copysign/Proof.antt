@@ -1,4 +1,5 @@
--- `floats::copysign` meets its contract. Assumes nothing.
+-- One case for each way through the tests. Calls are replaced by what they ensure; the definition
+-- is left. Assumes nothing.
 use borrow.Author.Needs.{needs}
 use Rattle.floats.proofs.copysign.Statement.{statement}
 use Rattle.floats.proofs.copysign.Tie as tie

@@ -1,4 +1,4 @@
--- `floats::is_finite` meets its contract. Assumes nothing.
+-- By `itself-less-itself`. Assumes nothing.
 use Rattle.floats.proofs.Zero.{itself-less-itself}
 use Rattle.floats.proofs.is_finite.Statement.{statement}
 use Rattle.floats.proofs.is_finite.Tie as tie

@@ -1,4 +1,4 @@
--- `floats::is_nan` meets its contract. Assumes nothing.
+-- By `differs-exactly-if-nan`. Assumes nothing.
 use Rattle.floats.proofs.Nan.{differs-exactly-if-nan}
 use Rattle.floats.proofs.is_nan.Statement.{statement}
 use Rattle.floats.proofs.is_nan.Tie as tie

@@ -1,4 +1,5 @@
--- `floats::negative` meets its contract. Assumes nothing.
+-- One case for each way through the tests. Each by `nan-if-differs`, `no-nan-if-equal` and
+-- `sign-is-the-highest-bit`. Assumes nothing.
 use Rattle.floats.specs.Number.{signOf}
 use mathlib.Core.Path.{sym, subst}
 use lib.Dec.{T}

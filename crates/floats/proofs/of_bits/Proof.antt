@@ -1,4 +1,4 @@
--- `floats::of_bits` meets its contract: a pattern above an infinity's, its sign aside, is a NaN's. Assumes nothing.
+-- A pattern above an infinity's, its sign aside, is a NaN's. Assumes nothing.
 use mathlib.Core.Path.{sym, _∙_}
 use borrow.Author.Needs.{needs}
 use Rattle.floats.proofs.Nan.{no-nan-bits, nan-bits, zero-over-zero}

@@ -1,4 +1,4 @@
--- `floats::same` meets its contract. Assumes nothing.
+-- Calls are replaced by what they ensure; the definition is left. Assumes nothing.
 use borrow.Author.Needs.{needs}
 use Rattle.floats.specs.Number.{sameOf}
 use Rattle.floats.proofs.same.Statement.{statement}

@@ -1,4 +1,4 @@
--- `floats::to_bits` meets its contract: only a NaN differs from itself. Assumes nothing.
+-- Only a NaN differs from itself. Assumes nothing.
 use lib.Ieee.{toBits}
 use borrow.Author.Needs.{needs}
 use Rattle.floats.proofs.Nan.{nan-if-differs, no-nan-if-equal}

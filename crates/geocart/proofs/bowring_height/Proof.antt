@@ -1,4 +1,4 @@
--- `geocart::bowring_height` meets its contract. Assumes nothing.
+-- Calls are replaced by what they ensure; the definition is left. Assumes nothing.
 use Rattle.geocart.specs.Geocart.{bowringHeightOf}
 use borrow.Author.Needs.{needs}
 use Rattle.geocart.proofs.bowring_height.Statement.{statement}

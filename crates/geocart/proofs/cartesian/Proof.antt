@@ -1,4 +1,4 @@
--- `geocart::cartesian` meets its contract. Assumes nothing.
+-- Calls are replaced by what they ensure; the definition is left. Assumes nothing.
 use Rattle.geocart.specs.Geocart.{cartesianOf}
 use borrow.Author.Needs.{needs}
 use Rattle.geocart.proofs.cartesian.Statement.{statement}
@@ -13,9 +13,12 @@ sin-cos-requires-2 c κs = search needs
 prime-vertical-radius-of-curvature-requires : tie.Need-prime-vertical-radius-of-curvature-requires
 prime-vertical-radius-of-curvature-requires c κs = search needs
 
+point-at-requires : tie.Need-point-at-requires
+point-at-requires c κs = search needs
+
 returns : tie.Need-returns
 unfolding cartesianOf
-returns c = rw (c .before .before .before .before .before .before .prime-vertical-radius-of-curvature .ensures, c .before .before .before .before .before .before .before .sin-cos2 .ensures, c .before .before .before .before .before .before .before .before .sin-cos .ensures)
+returns c = rw (c .point-at .ensures, c .before .prime-vertical-radius-of-curvature .ensures, c .before .before .sin-cos2 .ensures, c .before .before .before .sin-cos .ensures)
 
 pub cartesian-spec : {M : Type 1} → statement M
 cartesian-spec =
@@ -24,4 +27,5 @@ cartesian-spec =
     sin-cos-requires
     sin-cos-requires-2
     prime-vertical-radius-of-curvature-requires
+    point-at-requires
     returns)

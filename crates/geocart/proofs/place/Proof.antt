@@ -1,4 +1,5 @@
--- `geocart::place` meets its contract. Assumes nothing.
+-- One case for each way through the tests. Calls are replaced by what they ensure; the definition
+-- is left. Assumes nothing.
 use Rattle.geocart.specs.Geocart.{geographicOf}
 use borrow.Author.Needs.{needs}
 use Rattle.geocart.proofs.place.Statement.{statement}

@@ -1,4 +1,5 @@
--- `geocart::pole` meets its contract. Assumes nothing.
+-- One case for each way through the tests. Each by `zero-over-zero`, from what the calls ensure.
+-- Assumes nothing.
 use Rattle.floats.proofs.Nan.{zero-over-zero}
 use Rattle.geocart.specs.Geocart.{poleOf}
 use borrow.Author.Needs.{needs}

@@ -1,4 +1,4 @@
--- `geocart::pole_height` meets its contract. Assumes nothing.
+-- Calls are replaced by what they ensure; the definition is left. Assumes nothing.
 use Rattle.geocart.specs.Geocart.{poleHeightOf}
 use borrow.Author.Needs.{needs}
 use Rattle.geocart.proofs.pole_height.Statement.{statement}

@@ -1,4 +1,4 @@
--- `geocart_block::bowring_block` meets its contract. Assumes nothing.
+-- By `told` and `legs-are`, from what the calls ensure. Assumes nothing.
 use mathlib.Core.Path.{ap}
 use Rattle.blocks.proofs.Laws.{told}
 use Rattle.geocart.specs.declared.Legs.{Legs}

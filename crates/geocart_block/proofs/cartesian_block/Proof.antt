@@ -1,7 +1,7 @@
--- `geocart_block::cartesian_block` meets its contract. Assumes nothing.
+-- By `told` and `point-is`, from what the calls ensure. Assumes nothing.
 use mathlib.Core.Path.{ap}
 use Rattle.blocks.proofs.Laws.{told}
-use Rattle.geocart_block.specs.declared.Point.{Point}
+use Rattle.geocart.specs.declared.Point.{Point}
 use Rattle.geocart_block.proofs.Parts.{point-is}
 use borrow.Author.Needs.{needs}
 use Rattle.geocart_block.proofs.cartesian_block.Statement.{statement}

@@ -1,4 +1,5 @@
--- `geocart_block::latitude` meets its contract. Assumes nothing.
+-- One case for each way through the tests. Calls are replaced by what they ensure; the definition
+-- is left. Assumes nothing.
 use borrow.Author.Needs.{needs}
 use Rattle.geocart_block.proofs.latitude.Statement.{statement}
 use Rattle.geocart_block.proofs.latitude.Tie as tie

@@ -1,4 +1,7 @@
--- `geocart_block::latitude_block` meets its contract. Assumes nothing.
+-- Invariant: the first i numbers of r are the latitudes of the first i points, phi or a pole's
+-- where p is below the cutoff (`UpTo`, `latitudeOf`). A turn writes what `latitude` gives for point
+-- i (`one-more`). At i = 16 the whole block is filled (`all-filled`). The measure is 16 - i.
+-- Assumes nothing.
 use Prim.Native.Nat.{ℕ, _-_}
 use mathlib.Core.Path.{refl}
 use Rattle.blocks.specs.Each.{at, UpTo}

@@ -1,10 +1,13 @@
--- `geocart_block::legs_block` meets its contract. Assumes nothing.
+-- Invariant: the first i numbers of num and denom are Bowring's two legs of the first i points,
+-- from T and the root of 1 + T² (`UpTo`, once for each column, `legsOf`). A turn calls `legs_at`
+-- once for point i and writes both legs (`one-more`). At i = 16 both columns are filled
+-- (`all-filled`). The measure is 16 - i. Assumes nothing.
 use Prim.Native.Nat.{ℕ, _-_}
 use mathlib.Core.Path.{refl, ap}
 use Rattle.blocks.specs.Each.{at, UpTo}
 use Rattle.blocks.proofs.Laws.{none-filled, one-more, all-filled}
 use Rattle.geocart.specs.declared.Legs.{Legs}
-use Rattle.geocart_block.specs.Blocks.{legsOf}
+use Rattle.geocart.specs.Geocart.{legsOf}
 use borrow.Author.Needs.{needs}
 use Rattle.geocart_block.proofs.legs_block.Statement.{statement}
 use Rattle.geocart_block.proofs.legs_block.Tie as tie

@@ -1,4 +1,4 @@
--- `geocart_block::place_block` meets its contract. Assumes nothing.
+-- By `told`, `longitude-is` and `latitude-is`, from what the calls ensure. Assumes nothing.
 use Rattle.blocks.proofs.Laws.{told}
 use Rattle.geocart_block.proofs.Parts.{longitude-is, latitude-is}
 use borrow.Author.Needs.{needs}

@@ -1,19 +1,23 @@
--- `geocart_block::point_block` meets its contract. Assumes nothing.
+-- Invariant: the first i numbers of x, y and z are those of the first i points, from √w, the height
+-- and the sines and cosines of latitude and longitude (`UpTo`, once for each column, `pointOf`). A
+-- turn calls `point_at` once for point i and writes its three numbers (`one-more`). At i = 16 the
+-- three columns are filled (`all-filled`). The measure is 16 - i. Assumes nothing.
 use Prim.Native.Nat.{ℕ, _-_}
 use mathlib.Core.Path.{refl, ap}
 use Rattle.blocks.specs.Each.{at, UpTo}
 use Rattle.blocks.proofs.Laws.{none-filled, one-more, all-filled}
-use Rattle.geocart_block.specs.declared.Point.{Point}
-use Rattle.geocart_block.specs.Blocks.{pointOf}
+use Rattle.ellipsoid.specs.Figure.{primeVerticalWith}
+use Rattle.geocart.specs.declared.Point.{Point}
+use Rattle.geocart.specs.Geocart.{pointOf}
 use borrow.Author.Needs.{needs}
 use Rattle.geocart_block.proofs.point_block.Statement.{statement}
 use Rattle.geocart_block.proofs.point_block.Tie as tie
 
 abbrev Inv-loop : tie.InvT-loop
 Inv-loop ellps rootw h sinphi cosphi sinlam coslam x₀ y₀ z₀ i₀ x y z i =
-    UpTo i x (λ (j : ℕ). pointOf ellps (at rootw j) (at h j) (at sinphi j) (at cosphi j) (at sinlam j) (at coslam j) .x)
-    × UpTo i y (λ (j : ℕ). pointOf ellps (at rootw j) (at h j) (at sinphi j) (at cosphi j) (at sinlam j) (at coslam j) .y)
-    × UpTo i z (λ (j : ℕ). pointOf ellps (at rootw j) (at h j) (at sinphi j) (at cosphi j) (at sinlam j) (at coslam j) .z)
+    UpTo i x (λ (j : ℕ). pointOf ellps (primeVerticalWith ellps (at rootw j)) (at h j) (at sinphi j) (at cosphi j) (at sinlam j) (at coslam j) .x)
+    × UpTo i y (λ (j : ℕ). pointOf ellps (primeVerticalWith ellps (at rootw j)) (at h j) (at sinphi j) (at cosphi j) (at sinlam j) (at coslam j) .y)
+    × UpTo i z (λ (j : ℕ). pointOf ellps (primeVerticalWith ellps (at rootw j)) (at h j) (at sinphi j) (at cosphi j) (at sinlam j) (at coslam j) .z)
 
 abbrev μ-loop : tie.MeasureT-loop
 μ-loop ellps rootw h sinphi cosphi sinlam coslam x₀ y₀ z₀ i₀ x y z i = 16 - i
@@ -86,7 +90,7 @@ loop-less c = search needs
 
 loop-again : tie.Need-loop-again Inv-loop μ-loop
 loop-again c =
-    let l = c .before .before .before .before .before .before .before .before .loop in
+    let l = c .before .before .before .before .before .before .before .before .before .loop in
     (one-more (search needs) (ap (λ (v : Point). v .x) (c .point-at .ensures)) (l .inv .0), one-more (search needs) (ap (λ (v : Point). v .y) (c .point-at .ensures)) (l .inv .1), one-more (search needs) (ap (λ (v : Point). v .z) (c .point-at .ensures)) (l .inv .2))
 
 returns : tie.Need-returns Inv-loop μ-loop

@@ -1,12 +1,12 @@
--- `geocart_block::tangent_block` meets its contract. Assumes nothing.
+-- Invariant: the first i numbers of t are T of the first i points (`tangentOf`), and those of u are
+-- 1 + T² (`UpTo`, once for each column). A turn computes T once for point i (`tangent`) and writes
+-- both numbers (`one-more`). At i = 16 both columns are filled (`all-filled`). The measure is
+-- 16 - i. Assumes nothing.
 use Prim.Native.Nat.{ℕ, _-_}
 use mathlib.Core.Path.{refl, ap}
 use Rattle.blocks.specs.Each.{at, UpTo}
 use Rattle.blocks.proofs.Laws.{none-filled, one-more, all-filled}
-use lib.Ieee.{Float}
-use Rattle.floats.specs.Binary64.{_⊕_, _⊗_}
-use Rattle.ellipsoid.specs.Figure.{one}
-use Rattle.geocart_block.specs.Blocks.{tangentOf}
+use Rattle.geocart.specs.Geocart.{tangentOf, radicandOf}
 use borrow.Author.Needs.{needs}
 use Rattle.geocart_block.proofs.tangent_block.Statement.{statement}
 use Rattle.geocart_block.proofs.tangent_block.Tie as tie
@@ -14,7 +14,7 @@ use Rattle.geocart_block.proofs.tangent_block.Tie as tie
 abbrev Inv-loop : tie.InvT-loop
 Inv-loop ellps p z t₀ u₀ i₀ t u i =
     UpTo i t (λ (j : ℕ). tangentOf ellps (at p j) (at z j))
-    × UpTo i u (λ (j : ℕ). one ⊕ tangentOf ellps (at p j) (at z j) ⊗ tangentOf ellps (at p j) (at z j))
+    × UpTo i u (λ (j : ℕ). radicandOf (tangentOf ellps (at p j) (at z j)))
 
 abbrev μ-loop : tie.MeasureT-loop
 μ-loop ellps p z t₀ u₀ i₀ t u i = 16 - i
@@ -58,7 +58,7 @@ loop-less c = search needs
 loop-again : tie.Need-loop-again Inv-loop μ-loop
 loop-again c =
     let l = c .before .before .before .before .loop in
-    (one-more (search needs) (c .tangent .ensures) (l .inv .0), one-more (search needs) (ap (λ (v : Float). one ⊕ v ⊗ v) (c .tangent .ensures)) (l .inv .1))
+    (one-more (search needs) (c .tangent .ensures) (l .inv .0), one-more (search needs) (ap radicandOf (c .tangent .ensures)) (l .inv .1))
 
 returns : tie.Need-returns Inv-loop μ-loop
 returns c = (all-filled (search needs) (c .before .loop .inv .0), all-filled (search needs) (c .before .loop .inv .1))

@@ -1,4 +1,5 @@
--- `helmert::angular_scale` meets its contract. Assumes nothing.
+-- One case for each way through the tests. The test's outcome picks the definition's case.
+-- Assumes nothing.
 use Rattle.helmert.proofs.angular_scale.Statement.{statement}
 use Rattle.helmert.proofs.angular_scale.Tie as tie
 

@@ -1,4 +1,5 @@
--- `helmert::apply` meets its contract. Assumes nothing.
+-- One case for each way through the tests. Calls are replaced by what they ensure; the definition
+-- is left. Assumes nothing.
 use borrow.Author.Needs.{needs}
 use Rattle.helmert.proofs.apply.Statement.{statement}
 use Rattle.helmert.proofs.apply.Tie as tie

@@ -1,4 +1,4 @@
--- `helmert::dynamic` meets its contract. Assumes nothing.
+-- Calls are replaced by what they ensure; the definition is left. Assumes nothing.
 use Rattle.helmert.specs.Rules.{dynamicOf}
 use borrow.Author.Needs.{needs}
 use Rattle.helmert.proofs.dynamic.Statement.{statement}

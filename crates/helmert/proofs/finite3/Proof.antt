@@ -1,4 +1,4 @@
--- `helmert::finite3` meets its contract. Assumes nothing.
+-- Calls are replaced by what they ensure; the definition is left. Assumes nothing.
 use Rattle.helmert.specs.Rules.{finite3Of}
 use borrow.Author.Needs.{needs}
 use Rattle.helmert.proofs.finite3.Statement.{statement}

@@ -1,4 +1,4 @@
--- `helmert::fixed_step` meets its contract. Assumes nothing.
+-- Calls are replaced by what they ensure; the definition is left. Assumes nothing.
 use Rattle.helmert.specs.Modes.{fixedStepOf}
 use borrow.Author.Needs.{needs}
 use Rattle.helmert.proofs.fixed_step.Statement.{statement}

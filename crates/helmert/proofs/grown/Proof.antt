@@ -1,4 +1,4 @@
--- `helmert::grown` meets its contract. Assumes nothing.
+-- By computation: the body's operations are the definition's, in its order. Assumes nothing.
 use mathlib.Core.Path.{refl}
 use Rattle.helmert.specs.Modes.{grownOf}
 use Rattle.helmert.proofs.grown.Statement.{statement}

@@ -1,4 +1,5 @@
--- `helmert::inverse` meets its contract. Assumes nothing.
+-- One case for each way through the tests. Calls are replaced by what they ensure; the definition
+-- is left. Assumes nothing.
 use Rattle.helmert.specs.Apply.{inverseOf}
 use borrow.Author.Needs.{needs}
 use Rattle.helmert.proofs.inverse.Statement.{statement}

@@ -1,4 +1,4 @@
--- `helmert::offset` meets its contract. Assumes nothing.
+-- By computation: the body's operations are the definition's, in its order. Assumes nothing.
 use mathlib.Core.Path.{refl}
 use Rattle.helmert.specs.Apply.{offsetOf}
 use Rattle.helmert.proofs.offset.Statement.{statement}

@@ -1,4 +1,4 @@
--- `helmert::own_epoch_step` meets its contract. Assumes nothing.
+-- Calls are replaced by what they ensure; the definition is left. Assumes nothing.
 use Rattle.helmert.specs.Modes.{ownEpochStepOf}
 use borrow.Author.Needs.{needs}
 use Rattle.helmert.proofs.own_epoch_step.Statement.{statement}

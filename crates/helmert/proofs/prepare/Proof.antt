@@ -1,4 +1,4 @@
--- `helmert::prepare` meets its contract. Assumes nothing.
+-- Calls are replaced by what they ensure; the definition is left. Assumes nothing.
 use mathlib.Core.Logic.{⊎-elim}
 use Rattle.helmert.specs.Modes.{prepareOf}
 use borrow.Author.Needs.{needs}

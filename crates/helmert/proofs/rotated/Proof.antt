@@ -1,4 +1,4 @@
--- `helmert::rotated` meets its contract. Assumes nothing.
+-- Calls are replaced by what they ensure; the definition is left. Assumes nothing.
 use Rattle.helmert.specs.Rules.{rotatedOf}
 use borrow.Author.Needs.{needs}
 use Rattle.helmert.proofs.rotated.Statement.{statement}

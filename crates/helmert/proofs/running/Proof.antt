@@ -1,4 +1,4 @@
--- `helmert::running` meets its contract. Assumes nothing.
+-- Calls are replaced by what they ensure; the definition is left. Assumes nothing.
 use Rattle.helmert.specs.Modes.{runningOf}
 use borrow.Author.Needs.{needs}
 use Rattle.helmert.proofs.running.Statement.{statement}

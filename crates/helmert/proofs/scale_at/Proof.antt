@@ -1,4 +1,4 @@
--- `helmert::scale_at` meets its contract. Assumes nothing.
+-- By computation: the body's operations are the definition's, in its order. Assumes nothing.
 use mathlib.Core.Path.{refl}
 use Rattle.helmert.specs.Modes.{scaleAtOf}
 use Rattle.helmert.proofs.scale_at.Statement.{statement}

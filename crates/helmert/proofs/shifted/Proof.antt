@@ -1,4 +1,4 @@
--- `helmert::shifted` meets its contract. Assumes nothing.
+-- Calls are replaced by what they ensure; the definition is left. Assumes nothing.
 use borrow.Author.Needs.{needs}
 use Rattle.helmert.proofs.shifted.Statement.{statement}
 use Rattle.helmert.proofs.shifted.Tie as tie

@@ -1,4 +1,4 @@
--- `helmert::start` meets its contract: zero over zero is NaN. Assumes nothing.
+-- Zero over zero is NaN. Assumes nothing.
 use Rattle.floats.proofs.Nan.{zero-over-zero}
 use Rattle.helmert.specs.Modes.{startOf}
 use Rattle.helmert.proofs.start.Statement.{statement}

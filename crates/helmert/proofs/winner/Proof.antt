@@ -1,4 +1,5 @@
--- `helmert::winner` meets its contract. Assumes nothing.
+-- One case for each way through the tests. The test's outcome picks the definition's case.
+-- Assumes nothing.
 use Rattle.helmert.specs.Units.{winnerOf}
 use Rattle.helmert.proofs.winner.Statement.{statement}
 use Rattle.helmert.proofs.winner.Tie as tie

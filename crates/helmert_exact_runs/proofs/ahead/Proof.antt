@@ -1,4 +1,4 @@
--- `helmert_exact_runs::ahead` meets its contract. Assumes nothing.
+-- One case for each return. Each by `none-ahead`, from what the calls ensure. Assumes nothing.
 use Rattle.helmert_exact_runs.proofs.Laws.{none-ahead}
 use Rattle.helmert_exact_runs.proofs.ahead.Statement.{statement}
 use Rattle.helmert_exact_runs.proofs.ahead.Tie as tie

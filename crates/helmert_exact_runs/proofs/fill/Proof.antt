@@ -1,4 +1,4 @@
--- `helmert_exact_runs::fill` meets its contract. Assumes nothing.
+-- By `sixteen-ahead`, from what the calls ensure. Assumes nothing.
 use borrow.Author.Needs.{needs}
 use Rattle.helmert_exact_runs.proofs.Laws.{sixteen-ahead}
 use Rattle.helmert_exact_runs.proofs.fill.Statement.{statement}

@@ -1,4 +1,7 @@
--- `helmert_exact_runs::lapses` meets its contract. Assumes nothing.
+-- Invariant: the first j numbers of dt are the lapses of the first j fixes from number i of the
+-- list on (`UpTo`, `lapseOf`). A turn reads the next fix (`read4`) and writes its lapse (`lapse`,
+-- `one-more`). At j = 16 the whole block is filled (`all-filled`). The measure is 16 - j.
+-- Assumes nothing.
 use Prim.Native.Nat.{ℕ, _+_, _-_, _*_}
 use borrow.Author.Needs.{needs}
 use mathlib.Core.Path.{_≡_, refl, ap, _∙_}

@@ -1,4 +1,5 @@
--- `helmert_exact_runs::matrix_at` meets its contract. Assumes nothing.
+-- One case for each way through the tests. Each by `here-matrix`, from what the calls ensure.
+-- Assumes nothing.
 use borrow.Author.Needs.{needs}
 use native.Mathlib.Omega.{arith}
 use Rattle.helmert_exact_runs.proofs.Laws.{here-matrix}

@@ -1,4 +1,11 @@
--- `helmert_exact_runs::own_epoch_inverse` meets its contract. Assumes nothing.
+-- Invariant: the first i numbers of the list, followed by the run of the rest, are the inverse run
+-- of the whole list (`Ran`), and the six columns end with the sines and cosines of the next fixes,
+-- as many as left says (`Ahead`). At left = 0 `ahead` may take sixteen anew; either way `matrix_at`
+-- gives the matrix of R at the time that the fix goes by (`ahead-here`), so the turn is the
+-- definition's (`own-epoch-turn`, `ran-again`). Writing a fix leaves those after it, so the other
+-- sines and cosines stay theirs (`ahead-on`). With fewer than four numbers left the list is the
+-- whole run (`ran-end`). The list is shorter than 2^64 numbers, so i does not overflow, and the
+-- measure is what is left of it. Assumes nothing.
 use Prim.Native.Nat.{_+_, _-_, _^_, _≤_, _<_}
 use native.Mathlib.Omega.{arith}
 use borrow.Author.Needs.{needs}
@@ -8,8 +15,8 @@ use mathlib.Core.Logic.{⊎-elim}
 use mathlib.Core.Path.{_≡_, refl}
 use Rattle.helmert.specs.Modes.{ownTimeOf, ownEpochStepOf}
 use Rattle.lists.proofs.Laws.{Ran, ran-start, ran-again, ran-end}
-use Rattle.helmert_turns.specs.Turns.{noState, allTurns}
-use Rattle.helmert_turns.proofs.Held.{own-epoch-turn}
+use Rattle.helmert.specs.Turns.{noState, allTurns}
+use Rattle.helmert.proofs.Current.{own-epoch-turn}
 use Rattle.helmert_exact_runs.specs.Ahead.{Ahead}
 use Rattle.helmert_exact_runs.proofs.Laws.{none-ahead, same-ahead, ahead-here, ahead-on}
 use Rattle.helmert_exact_runs.proofs.own_epoch_inverse.Statement.{statement}

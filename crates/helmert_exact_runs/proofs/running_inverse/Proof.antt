@@ -1,4 +1,12 @@
--- `helmert_exact_runs::running_inverse` meets its contract. Assumes nothing.
+-- Invariant: the first i numbers of the list, followed by the run of the rest from the state, are
+-- the inverse run of the whole list (`Ran`); s and m are S and the matrix at the last time
+-- (`Current`); and the six columns end with the sines and cosines of the next fixes, as many as
+-- left says (`Ahead`). A turn keeps s and m at an equal time (`met-again`) and recomputes both
+-- otherwise (`met-anew`), m from the columns if they hold the fix (`ahead-here`); so the turn is
+-- the definition's (`held-turn`, `ran-again`). Writing a fix leaves those after it, so the other
+-- sines and cosines stay theirs (`ahead-on`). With fewer than four numbers left the list is the
+-- whole run (`ran-end`). The list is shorter than 2^64 numbers, so i does not overflow, and the
+-- measure is what is left of it. Assumes nothing.
 use Prim.Native.Nat.{_+_, _-_, _^_, _≤_, _<_}
 use native.Mathlib.Omega.{arith}
 use borrow.Author.Needs.{needs}
@@ -9,8 +17,8 @@ use mathlib.Core.Path.{_≡_, refl, ap, _∙_}
 use Rattle.helmert.specs.declared.Stepped.{Stepped}
 use Rattle.helmert.specs.Modes.{runningOf}
 use Rattle.lists.proofs.Laws.{Ran, ran-start, ran-again, ran-end}
-use Rattle.helmert_turns.specs.Turns.{steppedTurns}
-use Rattle.helmert_turns.proofs.Held.{Held, met-anew, met-again, held-turn}
+use Rattle.helmert.specs.Turns.{steppedTurns}
+use Rattle.helmert.proofs.Current.{Current, met-anew, met-again, held-turn}
 use Rattle.helmert_exact_runs.specs.Ahead.{Ahead}
 use Rattle.helmert_exact_runs.proofs.Laws.{none-ahead, same-ahead, ahead-here, ahead-on}
 use Rattle.helmert_exact_runs.proofs.running_inverse.Statement.{statement}
@@ -18,7 +26,7 @@ use Rattle.helmert_exact_runs.proofs.running_inverse.Tie as tie
 
 abbrev Inv-loop : tie.InvT-loop
 Inv-loop list₀ shift p sx₀ cx₀ sy₀ cy₀ sz₀ cz₀ left₀ state₀ s₀ m₀ i₀ list sx cx sy cy sz cz left state s m i =
-    Ran (steppedTurns (runningOf shift true)) state₀ list₀ i state list × Held shift state s m × (length list < 2 ^ 64) × Ahead false shift list i left sx cx sy cy sz cz
+    Ran (steppedTurns (runningOf shift true)) state₀ list₀ i state list × Current shift state s m × (length list < 2 ^ 64) × Ahead false shift list i left sx cx sy cy sz cz
 
 abbrev μ-loop : tie.MeasureT-loop
 μ-loop list₀ shift p sx₀ cx₀ sy₀ cy₀ sz₀ cz₀ left₀ state₀ s₀ m₀ i₀ list sx cx sy cy sz cz left state s m i = length list₀ - i

@@ -1,4 +1,6 @@
--- `helmert_exact_runs::turned` meets its contract. Assumes nothing.
+-- Invariant: the first j numbers of a are the angles r + dt·rate at the first j lapses (`UpTo`). A
+-- turn writes the angle at lapse j with the definition's own roundings (`one-more`). At j = 16 the
+-- whole block is filled (`all-filled`). The measure is 16 - j. Assumes nothing.
 use Prim.Native.Nat.{ℕ, _-_}
 use borrow.Author.Needs.{needs}
 use mathlib.Core.Path.{refl}

@@ -1,4 +1,4 @@
--- `helmert_exact_runs::worth` meets its contract. Assumes nothing.
+-- One case for each way through the tests. By arithmetic on the bounds at hand. Assumes nothing.
 use borrow.Author.Needs.{needs}
 use native.Mathlib.Omega.{arith}
 use mathlib.Core.Path.{sym}

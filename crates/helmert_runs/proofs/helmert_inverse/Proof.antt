@@ -1,10 +1,13 @@
--- `helmert_runs::helmert_inverse` meets its contract. Assumes nothing.
+-- Invariant: the first i numbers of the list, followed by the run of the rest, are the inverse run
+-- of the whole list with one T, S and matrix (`Ran`, `inverseOf`). A turn reads the fix at i,
+-- shifts it by `inverse` and writes it back (`ran-again`). With fewer than four numbers left the
+-- list is the whole run (`ran-end`). The measure is what is left of the list. Assumes nothing.
 use Prim.Native.Nat.{_-_}
 use borrow.Author.Needs.{needs}
 use lib.ListN.{length}
 use Rattle.helmert.specs.Apply.{inverseOf}
 use Rattle.lists.proofs.Laws.{Ran, ran-start, ran-again, ran-end}
-use Rattle.helmert_turns.specs.Turns.{noState, allTurns}
+use Rattle.helmert.specs.Turns.{noState, allTurns}
 use Rattle.helmert_runs.proofs.helmert_inverse.Statement.{statement}
 use Rattle.helmert_runs.proofs.helmert_inverse.Tie as tie
 

@@ -1,4 +1,9 @@
--- `helmert_runs::own_epoch_coordinate_frame_forward` meets its contract. Assumes nothing.
+-- Invariant: the first i numbers of the list, followed by the run of the rest, are the forward run
+-- of the whole list (`Ran`). A turn computes T, S and the matrix at the fix's own time, so it is
+-- the definition's (`own-epoch-turn`, `ran-again`). By the precondition the shift is rotated, by
+-- small angles and in the coordinate frame convention, which the loop has as constants. With fewer
+-- than four numbers left the list is the whole run (`ran-end`). The list is shorter than 2^64
+-- numbers, so i does not overflow, and the measure is what is left of it. Assumes nothing.
 use Prim.Native.Nat.{_+_, _-_, _^_, _≤_, _<_}
 use native.Mathlib.Omega.{arith}
 use borrow.Author.Needs.{needs}
@@ -6,8 +11,8 @@ use lib.ListN.{length}
 use mathlib.Core.Bool.{true, false}
 use Rattle.helmert.specs.Modes.{ownEpochStepOf}
 use Rattle.lists.proofs.Laws.{Ran, ran-start, ran-again, ran-end}
-use Rattle.helmert_turns.specs.Turns.{noState, allTurns}
-use Rattle.helmert_turns.proofs.Held.{own-epoch-turn}
+use Rattle.helmert.specs.Turns.{noState, allTurns}
+use Rattle.helmert.proofs.Current.{own-epoch-turn}
 use Rattle.helmert_runs.proofs.own_epoch_coordinate_frame_forward.Statement.{statement}
 use Rattle.helmert_runs.proofs.own_epoch_coordinate_frame_forward.Tie as tie
 

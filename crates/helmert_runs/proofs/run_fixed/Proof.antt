@@ -1,4 +1,5 @@
--- `helmert_runs::run_fixed` meets its contract. Assumes nothing.
+-- One case for each way through the tests. Calls are replaced by what they ensure; the definition
+-- is left. Assumes nothing.
 use Rattle.helmert.specs.Modes.{fixedStepOf}
 use borrow.Author.Needs.{needs}
 use Rattle.helmert_runs.proofs.run_fixed.Statement.{statement}

@@ -1,7 +1,8 @@
--- `helmert_runs::run_helmert` meets its contract. Assumes nothing.
+-- One case for each way through the tests. Each by `counted-all`, `running-list`, `own-epoch-list`
+-- and `fixed-list`, from what the calls ensure. Assumes nothing.
 use mathlib.Core.Path.{_≡_, refl, sym, _∙_}
 use Rattle.helmert.specs.Modes.{startOf}
-use Rattle.helmert_turns.specs.Turns.{helmertTurns}
+use Rattle.helmert.specs.Turns.{helmertTurns}
 use Rattle.lists.proofs.Laws.{counted-all}
 use Rattle.helmert_runs.proofs.Laws.{running-list, own-epoch-list, fixed-list}
 use borrow.Author.Needs.{needs}

@@ -1,4 +1,5 @@
--- `helmert_runs::run_own_epoch_coordinate_frame` meets its contract. Assumes nothing.
+-- One case for each way through the tests. Calls are replaced by what they ensure; the definition
+-- is left. Assumes nothing.
 use borrow.Author.Needs.{needs}
 use Rattle.helmert_runs.proofs.run_own_epoch_coordinate_frame.Statement.{statement}
 use Rattle.helmert_runs.proofs.run_own_epoch_coordinate_frame.Tie as tie

@@ -1,4 +1,11 @@
--- `helmert_runs::running_coordinate_frame_inverse` meets its contract. Assumes nothing.
+-- Invariant: the first i numbers of the list, followed by the run of the rest from the state, are
+-- the inverse run of the whole list (`Ran`); s and m are S and the matrix at the last time
+-- (`Current`). A turn keeps s and m at an equal time (`met-again`) and recomputes both otherwise
+-- (`met-anew`), so it is the definition's (`held-turn`, `ran-again`). By the precondition the shift
+-- is rotated, by small angles and in the coordinate frame convention, which the loop has as
+-- constants. With fewer than four numbers left the list is the whole run (`ran-end`). The list is
+-- shorter than 2^64 numbers, so i does not overflow, and the measure is what is left of it.
+-- Assumes nothing.
 use Prim.Native.Nat.{_+_, _-_, _^_, _≤_, _<_}
 use native.Mathlib.Omega.{arith}
 use borrow.Author.Needs.{needs}
@@ -9,13 +16,13 @@ use mathlib.Core.Path.{_≡_, ap, _∙_}
 use Rattle.helmert.specs.declared.Stepped.{Stepped}
 use Rattle.helmert.specs.Modes.{runningOf}
 use Rattle.lists.proofs.Laws.{Ran, ran-start, ran-again, ran-end}
-use Rattle.helmert_turns.specs.Turns.{steppedTurns}
-use Rattle.helmert_turns.proofs.Held.{Held, met-anew, met-again, held-turn}
+use Rattle.helmert.specs.Turns.{steppedTurns}
+use Rattle.helmert.proofs.Current.{Current, met-anew, met-again, held-turn}
 use Rattle.helmert_runs.proofs.running_coordinate_frame_inverse.Statement.{statement}
 use Rattle.helmert_runs.proofs.running_coordinate_frame_inverse.Tie as tie
 
 abbrev Inv-loop : tie.InvT-loop
-Inv-loop list₀ shift p state₀ s₀ m₀ i₀ list state s m i = Ran (steppedTurns (runningOf shift true)) state₀ list₀ i state list × Held shift state s m × (length list < 2 ^ 64)
+Inv-loop list₀ shift p state₀ s₀ m₀ i₀ list state s m i = Ran (steppedTurns (runningOf shift true)) state₀ list₀ i state list × Current shift state s m × (length list < 2 ^ 64)
 
 abbrev μ-loop : tie.MeasureT-loop
 μ-loop list₀ shift p state₀ s₀ m₀ i₀ list state s m i = length list₀ - i

@@ -1,4 +1,10 @@
--- `helmert_runs::running_unrotated_forward` meets its contract. Assumes nothing.
+-- Invariant: the first i numbers of the list, followed by the run of the rest from the state, are
+-- the forward run of the whole list (`Ran`), and s is S at the last time (`Current`). A turn keeps
+-- s at an equal time (`scaled-again`) and recomputes it otherwise (`scaled-anew`). By the
+-- precondition the shift is not rotated, so no matrix is used, and the turn with the matrix from
+-- before the loop is the definition's (`unrotated-turn`, `ran-again`). With fewer than four numbers
+-- left the list is the whole run (`ran-end`). The list is shorter than 2^64 numbers, so i does not
+-- overflow, and the measure is what is left of it. Assumes nothing.
 use Prim.Native.Nat.{_+_, _-_, _^_, _≤_, _<_}
 use native.Mathlib.Omega.{arith}
 use borrow.Author.Needs.{needs}
@@ -9,13 +15,13 @@ use mathlib.Core.Path.{_≡_, refl, ap, _∙_}
 use Rattle.helmert.specs.declared.Stepped.{Stepped}
 use Rattle.helmert.specs.Modes.{runningOf}
 use Rattle.lists.proofs.Laws.{Ran, ran-start, ran-again, ran-end}
-use Rattle.helmert_turns.specs.Turns.{steppedTurns}
-use Rattle.helmert_turns.proofs.Held.{Held, matrixOf, scaled-anew, scaled-again, unrotated-turn}
+use Rattle.helmert.specs.Turns.{steppedTurns}
+use Rattle.helmert.proofs.Current.{Current, matrixOf, scaled-anew, scaled-again, unrotated-turn}
 use Rattle.helmert_runs.proofs.running_unrotated_forward.Statement.{statement}
 use Rattle.helmert_runs.proofs.running_unrotated_forward.Tie as tie
 
 abbrev Inv-loop : tie.InvT-loop
-Inv-loop list₀ shift p state₀ s₀ m i₀ list state s i = Ran (steppedTurns (runningOf shift false)) state₀ list₀ i state list × Held shift state s (matrixOf shift (state .last)) × (length list < 2 ^ 64)
+Inv-loop list₀ shift p state₀ s₀ m i₀ list state s i = Ran (steppedTurns (runningOf shift false)) state₀ list₀ i state list × Current shift state s (matrixOf shift (state .last)) × (length list < 2 ^ 64)
 
 abbrev μ-loop : tie.MeasureT-loop
 μ-loop list₀ shift p state₀ s₀ m i₀ list state s i = length list₀ - i

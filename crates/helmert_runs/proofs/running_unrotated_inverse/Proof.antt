@@ -1,4 +1,10 @@
--- `helmert_runs::running_unrotated_inverse` meets its contract. Assumes nothing.
+-- Invariant: the numbers before i, followed by the run of the rest from the current state, are the
+-- run of the whole list (`Ran`), and s is S at the state's last time (`Current`, where the matrix
+-- is the definition's, since m is not used). A turn recomputes s where the time changes
+-- (`scaled-anew`) and keeps it otherwise (`scaled-again`). The fix that it writes is the
+-- definition's whatever m is, because the shift is not rotated (`unrotated-turn`), and so
+-- `ran-again` carries the run on. When less than a fix is left, the list is the run (`ran-end`).
+-- The measure is what is left of the list. Assumes nothing.
 use Prim.Native.Nat.{_+_, _-_, _^_, _≤_, _<_}
 use native.Mathlib.Omega.{arith}
 use borrow.Author.Needs.{needs}
@@ -9,13 +15,13 @@ use mathlib.Core.Path.{_≡_, refl, ap, _∙_}
 use Rattle.helmert.specs.declared.Stepped.{Stepped}
 use Rattle.helmert.specs.Modes.{runningOf}
 use Rattle.lists.proofs.Laws.{Ran, ran-start, ran-again, ran-end}
-use Rattle.helmert_turns.specs.Turns.{steppedTurns}
-use Rattle.helmert_turns.proofs.Held.{Held, matrixOf, scaled-anew, scaled-again, unrotated-turn}
+use Rattle.helmert.specs.Turns.{steppedTurns}
+use Rattle.helmert.proofs.Current.{Current, matrixOf, scaled-anew, scaled-again, unrotated-turn}
 use Rattle.helmert_runs.proofs.running_unrotated_inverse.Statement.{statement}
 use Rattle.helmert_runs.proofs.running_unrotated_inverse.Tie as tie
 
 abbrev Inv-loop : tie.InvT-loop
-Inv-loop list₀ shift p state₀ s₀ m i₀ list state s i = Ran (steppedTurns (runningOf shift true)) state₀ list₀ i state list × Held shift state s (matrixOf shift (state .last)) × (length list < 2 ^ 64)
+Inv-loop list₀ shift p state₀ s₀ m i₀ list state s i = Ran (steppedTurns (runningOf shift true)) state₀ list₀ i state list × Current shift state s (matrixOf shift (state .last)) × (length list < 2 ^ 64)
 
 abbrev μ-loop : tie.MeasureT-loop
 μ-loop list₀ shift p state₀ s₀ m i₀ list state s i = length list₀ - i

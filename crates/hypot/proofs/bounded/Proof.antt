@@ -1,4 +1,5 @@
--- `hypot::bounded` meets its contract. Assumes nothing.
+-- One case for each way through the tests. The test's outcome picks the definition's case.
+-- Assumes nothing.
 use Rattle.hypot.specs.Hypot.{boundedOf}
 use Rattle.hypot.proofs.bounded.Statement.{statement}
 use Rattle.hypot.proofs.bounded.Tie as tie

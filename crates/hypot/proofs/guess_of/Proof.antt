@@ -1,4 +1,4 @@
--- `hypot::guess_of` meets its contract. Assumes nothing.
+-- Calls are replaced by what they ensure; the definition is left. Assumes nothing.
 use borrow.Author.Needs.{needs}
 use Rattle.hypot.specs.Hypot.{guessOf}
 use Rattle.hypot.proofs.guess_of.Statement.{statement}

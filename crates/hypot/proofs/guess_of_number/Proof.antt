@@ -1,4 +1,4 @@
--- `hypot::guess_of_number` meets its contract: what is taken from the constant is less than leaves the numbers. Assumes nothing.
+-- What is taken from the constant is less than leaves the numbers. Assumes nothing.
 use mathlib.Core.Path.{refl, sym, subst}
 use mathlib.Core.Bool.{Bool, not}
 use lib.Dec.{T}

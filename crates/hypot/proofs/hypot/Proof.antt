@@ -1,4 +1,4 @@
--- `hypot::hypot` meets its contract: the code tests first what is usual. Assumes nothing.
+-- The code tests first what is usual. Assumes nothing.
 use mathlib.Core.Path.{refl, sym, _∙_}
 use Rattle.hypot.specs.Hypot.{squaresOf}
 use Rattle.hypot.proofs.Squares.{one-over-zero, equals-infinity, infinite-first, infinite-second, scaled-pair}

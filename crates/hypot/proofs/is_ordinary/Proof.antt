@@ -1,4 +1,5 @@
--- `hypot::is_ordinary` meets its contract. Assumes nothing.
+-- One case for each way through the tests. The test's outcome picks the definition's case.
+-- Assumes nothing.
 use Rattle.hypot.specs.Hypot.{ordinary}
 use Rattle.hypot.proofs.is_ordinary.Statement.{statement}
 use Rattle.hypot.proofs.is_ordinary.Tie as tie

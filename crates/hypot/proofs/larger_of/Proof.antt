@@ -1,4 +1,5 @@
--- `hypot::larger_of` meets its contract. Assumes nothing.
+-- One case for each way through the tests. The test's outcome picks the definition's case.
+-- Assumes nothing.
 use Rattle.hypot.specs.Hypot.{larger}
 use Rattle.hypot.proofs.larger_of.Statement.{statement}
 use Rattle.hypot.proofs.larger_of.Tie as tie

@@ -1,4 +1,4 @@
--- `hypot::magnitude` meets its contract: the bits below the sign's are the magnitude's. Assumes nothing.
+-- The bits below the sign's are the magnitude's. Assumes nothing.
 use mathlib.Core.Path.{sym, subst}
 use mathlib.Core.Bool.{Bool, not}
 use lib.Dec.{T}

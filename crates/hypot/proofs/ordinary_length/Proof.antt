@@ -1,4 +1,4 @@
--- `hypot::ordinary_length` meets its contract: an ordinary sum of squares has neither an infinite part nor a NaN. Assumes nothing.
+-- An ordinary sum of squares has neither an infinite part nor a NaN. Assumes nothing.
 use borrow.Author.Needs.{needs}
 use Rattle.hypot.proofs.Squares.{ordinary-pair}
 use Rattle.hypot.proofs.Signless.{no-nan-sum, no-nan-first, no-nan-second}

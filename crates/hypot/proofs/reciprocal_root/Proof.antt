@@ -1,4 +1,4 @@
--- `hypot::reciprocal_root` meets its contract. Assumes nothing.
+-- By computation: the body's operations are the definition's, in its order. Assumes nothing.
 use mathlib.Core.Path.{refl}
 use Rattle.hypot.specs.Hypot.{reciprocalRootOf}
 use Rattle.hypot.proofs.reciprocal_root.Statement.{statement}

@@ -1,4 +1,5 @@
--- `hypot::rescaled` meets its contract. Assumes nothing.
+-- One case for each way through the tests. Calls are replaced by what they ensure; the definition
+-- is left. Assumes nothing.
 use borrow.Author.Needs.{needs}
 use Rattle.hypot.specs.Hypot.{rescaledOf}
 use Rattle.hypot.proofs.rescaled.Statement.{statement}

@@ -1,4 +1,4 @@
--- `hypot::scaled_root` meets its contract. Assumes nothing.
+-- Calls are replaced by what they ensure; the definition is left. Assumes nothing.
 use borrow.Author.Needs.{needs}
 use Rattle.hypot.specs.Hypot.{scaledRootOf, squaresOf}
 use Rattle.hypot.proofs.scaled_root.Statement.{statement}

@@ -1,4 +1,5 @@
--- `hypot::usual_length` meets its contract. Assumes nothing.
+-- One case for each way through the tests. Calls are replaced by what they ensure; the definition
+-- is left. Assumes nothing.
 use mathlib.Core.Path.{refl, sym, _∙_}
 use borrow.Author.Needs.{needs}
 use Rattle.hypot.specs.Hypot.{squaresOf, usualOf}

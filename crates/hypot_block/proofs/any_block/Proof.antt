@@ -1,4 +1,7 @@
--- `hypot_block::any_block` meets its contract. Assumes nothing.
+-- Invariant: r is a block whose first i elements are the lengths of the first i points (`UpTo`,
+-- `hypotOf`). A turn writes the next length, which is right by the contract of `hypot`
+-- (`one-more`). At i = 16 every element is one (`all-filled`). The measure is 16 - i.
+-- Assumes nothing.
 use Prim.Native.Nat.{ℕ, _-_}
 use borrow.Author.Needs.{needs}
 use mathlib.Core.Path.{refl}

@@ -1,4 +1,4 @@
--- `hypot_block::hypot_block` meets its contract: by either way each length is `hypot`'s. Assumes nothing.
+-- By either way each length is `hypot`'s. Assumes nothing.
 use borrow.Author.Needs.{needs}
 use Rattle.hypot_block.proofs.Blocks.{usual-lengths}
 use Rattle.hypot_block.proofs.hypot_block.Statement.{statement}

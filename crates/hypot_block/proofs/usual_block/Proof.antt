@@ -1,4 +1,8 @@
--- `hypot_block::usual_block` meets its contract. Assumes nothing.
+-- Invariant: the first i elements of r are the usual case's lengths of the first i points, and
+-- where `all` is true their sums of squares are ordinary (`UsualUpTo`). A turn writes the next
+-- length and clears `all` where the sum is not ordinary, as `usual_length` tells
+-- (`one-more-usual`). At i = 16 this is the contract (`all-told`). The measure is 16 - i.
+-- Assumes nothing.
 use Prim.Native.Nat.{_-_}
 use borrow.Author.Needs.{needs}
 use mathlib.Core.Path.{refl}

@@ -1,4 +1,4 @@
--- `job::is_bad` meets its contract. Assumes nothing.
+-- Calls are replaced by what they ensure; the definition is left. Assumes nothing.
 use Rattle.job.specs.Job.{refusal16}
 use borrow.Author.Needs.{needs}
 use Rattle.job.proofs.is_bad.Statement.{statement}

@@ -1,4 +1,8 @@
--- `job::numbers` meets its contract. Assumes nothing.
+-- Invariant: the first i numbers of the list, followed by those that the bytes from `at` on give
+-- for the rest of it, are the numbers that the bytes give for the whole list (`numbersOf`), and the
+-- list keeps its length. A turn writes one number and goes eight bytes on, or to the end, which
+-- leaves the whole the same (`one-more`). When i is the list's length, the list is the whole
+-- (`all-read`). The measure is the list's length less i. Assumes nothing.
 use borrow.Author.Needs.{needs}
 use mathlib.Core.Path.{_≡_, refl}
 use Prim.Native.Nat.{_≤_, _-_}

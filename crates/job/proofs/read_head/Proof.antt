@@ -1,4 +1,4 @@
--- `job::read_head` meets its contract. Assumes nothing.
+-- Calls are replaced by what they ensure; the definition is left. Assumes nothing.
 use borrow.Author.Needs.{needs}
 use Rattle.job.proofs.read_head.Statement.{statement}
 use Rattle.job.proofs.read_head.Tie as tie

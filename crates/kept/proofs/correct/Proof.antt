@@ -1,4 +1,5 @@
--- `kept::correct` meets its contract. Assumes nothing.
+-- One case for each way through the tests. Each by `fit-told`, `right-fits`, `passed` and `below`,
+-- from what the calls ensure. Assumes nothing.
 use borrow.Author.Needs.{needs}
 use mathlib.Core.Path.{sym, ap, _∙_}
 use Rattle.sheet.specs.declared.Refusal.{Refusal}
@@ -18,10 +19,13 @@ returns c = correct-refused _ _ _ _ _ (c .before .before .check .ensures) (c .if
 index-broken-requires : tie.Need-index-broken-requires
 index-broken-requires c κs = search needs
 
+of-call-requires : tie.Need-of-call-requires
+of-call-requires c κs = search needs
+
 returns-2 : tie.Need-returns-2
 unfolding keepRefusalOf
 returns-2 c =
-    correct-refused-14 _ _ _ _ _ (sym (ap (λ (r : Refusal). r .number) (c .before .before .before .before .check .ensures)) ∙ c .before .before .if1 .left) (sym (c .before .index-broken .ensures) ∙ c .if2 .taken)
+    rw (c .of-call .ensures) (correct-refused-14 _ _ _ _ _ (sym (ap (λ (r : Refusal). r .number) (c .before .before .before .before .before .check .ensures)) ∙ c .before .before .before .if1 .left) (sym (c .before .before .index-broken .ensures) ∙ c .before .if2 .taken))
 
 entry-at-requires : tie.Need-entry-at-requires
 entry-at-requires c κs = search needs
@@ -29,8 +33,8 @@ entry-at-requires c κs = search needs
 step-of-requires : tie.Need-step-of-requires
 step-of-requires c κs = search needs
 
-turned-requires : tie.Need-turned-requires
-turned-requires c κs = search needs
+reversed-requires : tie.Need-reversed-requires
+reversed-requires c κs = search needs
 
 put-right-requires : tie.Need-put-right-requires
 put-right-requires c κs = search needs
@@ -54,7 +58,7 @@ returns-3 c =
     correct-done _ _ _ _ _ e none there
     (c .before .before .before .before .before .before .put-right .ensures
     ∙ right-fits _ _ _ _ _ (fit-told _ _ _ (p .whole) (p .long-results) (p .long-track)) (below _ _ there)
-    ∙ rw (c .before .before .before .before .before .before .before .before .before .before .turned .ensures, c .before .before .before .before .before .before .before .before .before .before .before .step-of .ensures, c .before .before .before .before .before .before .before .before .before .before .before .before .entry-at .ensures))
+    ∙ rw (c .before .before .before .before .before .before .before .before .before .before .reversed .ensures, c .before .before .before .before .before .before .before .before .before .before .before .step-of .ensures, c .before .before .before .before .before .before .before .before .before .before .before .before .entry-at .ensures))
 
 pub correct-spec : {M : Type 1} → statement M
 correct-spec =
@@ -63,10 +67,11 @@ correct-spec =
     check-requires
     returns
     index-broken-requires
+    of-call-requires
     returns-2
     entry-at-requires
     step-of-requires
-    turned-requires
+    reversed-requires
     put-right-requires
     same-length
     same-length-2

@@ -1,4 +1,4 @@
--- `kept::index_broken` meets its contract. Assumes nothing.
+-- By computation: the body's operations are the definition's, in its order. Assumes nothing.
 use mathlib.Core.Path.{refl}
 use Rattle.kept.specs.Entries.{refusal14}
 use Rattle.kept.proofs.index_broken.Statement.{statement}

@@ -1,4 +1,5 @@
--- `kept::keep` meets its contract. Assumes nothing.
+-- One case for each way through the tests. Each by `fit-told`, `fresh-fits`, `passed` and
+-- `keep-refused`, from what the calls ensure. Assumes nothing.
 use borrow.Author.Needs.{needs}
 use mathlib.Core.Path.{sym, ap, _∙_}
 use Rattle.sheet.specs.declared.Refusal.{Refusal}
@@ -23,8 +24,8 @@ entry-at-requires c κs = search needs
 step-of-requires : tie.Need-step-of-requires
 step-of-requires c κs = search needs
 
-turned-requires : tie.Need-turned-requires
-turned-requires c κs = search needs
+reversed-requires : tie.Need-reversed-requires
+reversed-requires c κs = search needs
 
 fresh-requires : tie.Need-fresh-requires
 fresh-requires c κs = search needs
@@ -45,7 +46,7 @@ returns-2 c =
       keep-done _ _ _ none
           (c .before .before .before .before .fresh .ensures
           ∙ fresh-fits _ _ _ (fit-told _ _ _ (p .whole) (p .long-results) (p .long-track))
-          ∙ rw (c .before .before .before .before .before .before .before .turned .ensures, c .before .before .before .before .before .before .before .before .step-of .ensures, c .before .before .before .before .before .before .before .before .before .entry-at .ensures)),
+          ∙ rw (c .before .before .before .before .before .before .before .reversed .ensures, c .before .before .before .before .before .before .before .before .step-of .ensures, c .before .before .before .before .before .before .before .before .before .entry-at .ensures)),
     )
 
 pub keep-spec : {M : Type 1} → statement M
@@ -56,7 +57,7 @@ keep-spec =
     returns
     entry-at-requires
     step-of-requires
-    turned-requires
+    reversed-requires
     fresh-requires
     same-length
     same-length-2

@@ -1,4 +1,4 @@
--- `kept::lengths_broken` meets its contract. Assumes nothing.
+-- By computation: the body's operations are the definition's, in its order. Assumes nothing.
 use mathlib.Core.Path.{refl}
 use Rattle.kept.specs.Entries.{refusal13}
 use Rattle.kept.proofs.lengths_broken.Statement.{statement}

@@ -1,4 +1,4 @@
--- `kept::step_broken` meets its contract. Assumes nothing.
+-- The two tests are `refusal12`'s. Assumes nothing.
 use borrow.Author.Needs.{needs}
 use Rattle.kept.specs.Entries.{refusal12}
 use Rattle.kept.proofs.step_broken.Statement.{statement}
@@ -7,12 +7,12 @@ use Rattle.kept.proofs.step_broken.Tie as tie
 step-count-requires : tie.Need-step-count-requires
 step-count-requires c κs = search needs
 
-read32-requires : tie.Need-read32-requires
-read32-requires c κs = search needs
+kind-at-requires : tie.Need-kind-at-requires
+kind-at-requires c κs = search needs
 
 returns : tie.Need-returns
 unfolding refusal12
-returns c = rw (c .read32 .ensures, c .before .step-count .ensures .0)
+returns c = rw (c .kind-at .ensures, c .before .step-count .ensures .0)
 
 pub step-broken-spec : {M : Type 1} → statement M
-step-broken-spec = tie.close (tie.spec step-count-requires read32-requires returns)
+step-broken-spec = tie.close (tie.spec step-count-requires kind-at-requires returns)

@@ -1,4 +1,4 @@
--- `kept::step_of` meets its contract. Assumes nothing.
+-- Calls are replaced by what they ensure; the definition is left. Assumes nothing.
 use borrow.Author.Needs.{needs}
 use Rattle.kept.proofs.step_of.Statement.{statement}
 use Rattle.kept.proofs.step_of.Tie as tie

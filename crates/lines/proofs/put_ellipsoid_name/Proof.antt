@@ -1,4 +1,5 @@
--- `lines::put_ellipsoid_name` meets its contract. Assumes nothing.
+-- One case for each way through the tests. Each by `grs80`, `wgs84`, `international` and `bessel`,
+-- from what the calls ensure. Assumes nothing.
 use borrow.Author.Tests.{ne-eqb}
 use Rattle.lines.proofs.Table.{grs80, wgs84, international, bessel, krassowsky}
 use Rattle.lines.specs.Lines.{ellipsoidText}

@@ -1,4 +1,5 @@
--- `lines::put_end` meets its contract. Assumes nothing.
+-- One case for each way through the tests. Each by `then`, from what the calls ensure.
+-- Assumes nothing.
 use Rattle.text.proofs.Laws.{then}
 use Rattle.lines.specs.Lines.{endText}
 use borrow.Author.Needs.{needs}

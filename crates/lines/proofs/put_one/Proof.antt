@@ -1,4 +1,4 @@
--- `lines::put_one` meets its contract. Assumes nothing.
+-- Calls are replaced by what they ensure; the definition is left. Assumes nothing.
 use Rattle.lines.specs.Lines.{oneLine}
 use borrow.Author.Needs.{needs}
 use Rattle.lines.proofs.put_one.Statement.{statement}

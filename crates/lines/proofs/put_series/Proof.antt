@@ -1,4 +1,4 @@
--- `lines::put_series` meets its contract. Assumes nothing.
+-- By `then`, from what the calls ensure. Assumes nothing.
 use Rattle.text.proofs.Laws.{then}
 use Rattle.lines.specs.Lines.{seriesLines}
 use borrow.Author.Needs.{needs}

@@ -1,4 +1,4 @@
--- `lines::put_time` meets its contract. Assumes nothing.
+-- By `then`, from what the calls ensure. Assumes nothing.
 use Rattle.text.proofs.Laws.{then}
 use Rattle.lines.specs.Lines.{timeLine}
 use borrow.Author.Needs.{needs}

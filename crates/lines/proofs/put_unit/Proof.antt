@@ -1,4 +1,5 @@
--- `lines::put_unit` meets its contract. Assumes nothing.
+-- One case for each variant. Calls are replaced by what they ensure; the definition is left.
+-- Assumes nothing.
 use Rattle.lines.specs.Lines.{unitText}
 use borrow.Author.Needs.{needs}
 use Rattle.lines.proofs.put_unit.Statement.{statement}

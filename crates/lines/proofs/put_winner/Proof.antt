@@ -1,4 +1,4 @@
--- `lines::put_winner` meets its contract. Assumes nothing.
+-- Calls are replaced by what they ensure; the definition is left. Assumes nothing.
 use Rattle.lines.specs.Lines.{winnerText}
 use borrow.Author.Needs.{needs}
 use Rattle.lines.proofs.put_winner.Statement.{statement}

@@ -1,4 +1,4 @@
--- `lines::word_in` meets its contract. Assumes nothing.
+-- Calls are replaced by what they ensure; the definition is left. Assumes nothing.
 use Rattle.lines.specs.Lines.{unitText}
 use borrow.Author.Needs.{needs}
 use Rattle.lines.proofs.word_in.Statement.{statement}

@@ -1,4 +1,5 @@
--- `lists::read4` meets its contract. Assumes nothing.
+-- One case for each return. Each by `tuple-there` and `none-there`, from what the calls ensure.
+-- Assumes nothing.
 use borrow.Author.Needs.{needs}
 use mathlib.Core.Path.{sym, _∙_}
 use Rattle.lists.proofs.Places.{tuple-there, none-there}

@@ -1,9 +1,13 @@
--- `lists::read_block` meets its contract. Assumes nothing.
+-- Where fewer than sixteen fixes stand from `at` on, the columns stay sixteen NaNs, as `rowAt` has
+-- it (`none-there`). Otherwise the invariant is that the first i elements of each column are the
+-- numbers of the first i fixes (`UpTo`). A turn reads the four numbers of one more fix (`row-read`)
+-- into the four columns (`one-more`), and at i = 16 each column is filled (`all-filled`). The
+-- measure is 16 - i. Assumes nothing.
 use borrow.Author.Needs.{needs}
 use Prim.Native.Nat.{ℕ, _+_, _*_, _-_, _≤_, _<_}
 use mathlib.Core.Path.{_≡_, refl, ap, sym, _∙_}
 use mathlib.Core.List.{List}
-use lib.ListN.{length}
+use lib.ListN.{length, replicate}
 use lib.Ieee.{Float}
 use Rattle.floats.specs.Binary64.{bits, _⊘_}
 use Rattle.floats.proofs.Nan.{zero-over-zero}
@@ -11,7 +15,7 @@ use Rattle.tuple.specs.declared.Tuple.{Tuple}
 use Rattle.blocks.specs.Each.{UpTo, Each}
 use Rattle.blocks.proofs.Laws.{none-filled, one-more, all-filled}
 use Rattle.lists.specs.Sixteen.{rowAt}
-use Rattle.lists.proofs.Sixteen.{copies, none-there-block, row-read}
+use Rattle.lists.proofs.Sixteen.{none-there-block, row-read}
 use Rattle.lists.proofs.read_block.Statement.{statement}
 use Rattle.lists.proofs.read_block.Tie as tie
 
@@ -23,7 +27,7 @@ abbrev μ-loop : tie.MeasureT-loop
 μ-loop list at x₀ y₀ z₀ t₀ none i₀ x y z t i = 16 - i
 
 none-there : (l : List Float) (i : ℕ) → length l < i + 64
-    → Each (copies 16 (bits 0 ⊘ bits 0)) (λ (j : ℕ). rowAt l i j .x) × Each (copies 16 (bits 0 ⊘ bits 0)) (λ (j : ℕ). rowAt l i j .y) × Each (copies 16 (bits 0 ⊘ bits 0)) (λ (j : ℕ). rowAt l i j .z) × Each (copies 16 (bits 0 ⊘ bits 0)) (λ (j : ℕ). rowAt l i j .t)
+    → Each (replicate 16 (bits 0 ⊘ bits 0)) (λ (j : ℕ). rowAt l i j .x) × Each (replicate 16 (bits 0 ⊘ bits 0)) (λ (j : ℕ). rowAt l i j .y) × Each (replicate 16 (bits 0 ⊘ bits 0)) (λ (j : ℕ). rowAt l i j .z) × Each (replicate 16 (bits 0 ⊘ bits 0)) (λ (j : ℕ). rowAt l i j .t)
 none-there l i h =
     (none-there-block l i zero-over-zero h (λ (v : Tuple). v .x) refl, none-there-block l i zero-over-zero h (λ (v : Tuple). v .y) refl, none-there-block l i zero-over-zero h (λ (v : Tuple). v .z) refl, none-there-block l i zero-over-zero h (λ (v : Tuple). v .t) refl)
 

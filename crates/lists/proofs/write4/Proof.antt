@@ -1,4 +1,4 @@
--- `lists::write4` meets its contract. Assumes nothing.
+-- One case for each return. Each by `four-set` and `put-none`. Assumes nothing.
 use borrow.Author.Needs.{needs}
 use native.Mathlib.Omega.{arith}
 use mathlib.Core.Path.{sym}

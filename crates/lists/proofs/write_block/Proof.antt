@@ -1,4 +1,8 @@
--- `lists::write_block` meets its contract. Assumes nothing.
+-- Where fewer than sixteen fixes stand from `at` on, nothing is written, as `putBlock` has it
+-- (`put-no-rows`). Otherwise the invariant is that the list is the one at the start with the first
+-- i fixes of the columns put into it (`putRows`), and as long as that. A turn's four writes put one
+-- fix (`four-set`), which is one more of the columns' (`row-put`). At i = 16 all are put
+-- (`put-rows`). The measure is 16 - i. Assumes nothing.
 use borrow.Author.Needs.{needs}
 use Prim.Native.Nat.{ℕ, _+_, _*_, _-_, _≤_}
 use mathlib.Core.Path.{_≡_, refl, sym, ap, _∙_}

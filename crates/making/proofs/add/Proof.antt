@@ -1,4 +1,5 @@
--- `making::add` meets its contract. Assumes nothing.
+-- One case for each way through the tests. Each by `few-standing`, from what the calls ensure.
+-- Assumes nothing.
 use borrow.Author.Needs.{needs}
 use mathlib.Core.Path.{_∙_}
 use borrow.Author.Tests.{eq-eqb, ne-eqb}

@@ -1,4 +1,5 @@
--- `making::standing` meets its contract. Assumes nothing.
+-- One case for each way through the tests. Calls are replaced by what they ensure; the definition
+-- is left. Assumes nothing.
 use borrow.Author.Needs.{needs}
 use native.Mathlib.Omega.{arith}
 use borrow.Author.Tests.{eq-eqb, ne-eqb, lt-ltb, le-ltb}
@@ -20,6 +21,9 @@ returns : tie.Need-returns
 unfolding standingOf
 returns c = rw (c .reading .ensures, c .before .blank .ensures, c .before .before .none .ensures, eq-eqb _ _ (c .before .before .before .if1 .taken))
 
+of-call-requires : tie.Need-of-call-requires
+of-call-requires c κs = search needs
+
 blank-requires-2 : tie.Need-blank-requires-2
 blank-requires-2 c κs = search needs
 
@@ -28,7 +32,7 @@ reading-requires-2 c κs = search needs
 
 returns-2 : tie.Need-returns-2
 unfolding standingOf
-returns-2 c = rw (c .reading2 .ensures, c .before .blank2 .ensures, ne-eqb _ _ (c .before .before .before .if1 .left), lt-ltb _ _ (c .before .before .if2 .taken))
+returns-2 c = rw (c .reading2 .ensures, c .before .blank2 .ensures, c .before .before .of-call .ensures, ne-eqb _ _ (c .before .before .before .before .if1 .left), lt-ltb _ _ (c .before .before .before .if2 .taken))
 
 slice-aggregate-read : tie.Need-slice-aggregate-read
 slice-aggregate-read c = simp length-take (omega arith)
@@ -48,6 +52,7 @@ standing-spec =
     blank-requires
     reading-requires
     returns
+    of-call-requires
     blank-requires-2
     reading-requires-2
     returns-2

@@ -1,4 +1,4 @@
--- `making::with_step` meets its contract. Assumes nothing.
+-- The test's outcome picks the definition's case. Assumes nothing.
 use borrow.Author.Needs.{needs}
 use mathlib.Core.Logic.{⊎-elim}
 use borrow.Author.Tests.{lt-ltb, le-ltb}

@@ -1,4 +1,5 @@
--- `making::written` meets its contract. Assumes nothing.
+-- One case for each way through the tests. Calls are replaced by what they ensure; the definition
+-- is left. Assumes nothing.
 use borrow.Author.Needs.{needs}
 use borrow.Author.Tests.{eq-eqb, ne-eqb}
 use Rattle.making.specs.Adding.{writtenAs}
@@ -30,7 +31,7 @@ returns-2 : tie.Need-returns-2
 unfolding writtenAs
 returns-2 c =
     let w = c .before .before .before .before .before .before .before .write .ensures in
-    rw (c .wide .ensures, c .before .read32 .ensures, w .1, ← w .0, eq-eqb _ _ (c .before .before .before .if1 .left))
+    rw (c .wide .ensures .0, c .before .read32 .ensures, w .1, ← w .0, eq-eqb _ _ (c .before .before .before .if1 .left))
 
 pub written-spec : {M : Type 1} → statement M
 written-spec =

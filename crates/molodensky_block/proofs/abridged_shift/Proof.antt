@@ -1,6 +1,6 @@
--- `molodensky_block::abridged_shift` meets its contract. Assumes nothing.
+-- Calls are replaced by what they ensure; the definition is left. Assumes nothing.
 use borrow.Author.Needs.{needs}
-use Rattle.molodensky_block.specs.Block.{abridgedWith}
+use Rattle.molodensky.specs.Step.{abridgedWith}
 use Rattle.molodensky_block.proofs.abridged_shift.Statement.{statement}
 use Rattle.molodensky_block.proofs.abridged_shift.Tie as tie
 

@@ -1,9 +1,12 @@
--- `molodensky_block::abridged_shifts` meets its contract. Assumes nothing.
+-- The offsets are written over three columns that they are computed from. Invariant: the first i
+-- elements of dlam, dphi and dh are the offsets of the columns as they stood at the start
+-- (`abridgedAt`), and the others are as they stood (`Over`). So what a turn reads is what stood
+-- there (`still`), and it writes one offset more in each column (`one-more-over`). At i = 16 every
+-- element is an offset (`all-filled`). The measure is 16 - i. Assumes nothing.
 use Prim.Native.Nat.{ℕ, _-_}
 use borrow.Author.Needs.{needs}
-use Rattle.blocks.proofs.Laws.{all-filled}
 use Rattle.molodensky_block.specs.Block.{abridgedAt}
-use Rattle.molodensky_block.proofs.Over.{Over, none-over, still, one-more-over}
+use Rattle.blocks.proofs.Over.{Over, none-over, still, one-more-over, all-over}
 use Rattle.molodensky_block.proofs.abridged_shifts.Statement.{statement}
 use Rattle.molodensky_block.proofs.abridged_shifts.Tie as tie
 
@@ -96,7 +99,7 @@ loop-again c =
 returns : tie.Need-returns Inv-loop μ-loop
 returns c =
     let u = c .before .loop .inv in
-    (all-filled (search needs) (u .0 .filled), all-filled (search needs) (u .1 .filled), all-filled (search needs) (u .2 .filled))
+    (all-over (search needs) (u .0), all-over (search needs) (u .1), all-over (search needs) (u .2))
 
 pub abridged-shifts-spec : {M : Type 1} → statement M
 abridged-shifts-spec =

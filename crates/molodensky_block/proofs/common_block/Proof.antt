@@ -1,4 +1,5 @@
--- `molodensky_block::common_block` meets its contract. Assumes nothing.
+-- One case for each way through the tests. Each by `told`, `added` and `subtracted`, from what the
+-- calls ensure. Assumes nothing.
 use borrow.Author.Needs.{needs}
 use mathlib.Core.Path.{ap}
 use Rattle.blocks.proofs.Laws.{told}

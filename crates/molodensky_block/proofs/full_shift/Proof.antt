@@ -1,4 +1,4 @@
--- `molodensky_block::full_shift` meets its contract. Assumes nothing.
+-- Calls are replaced by what they ensure; the definition is left. Assumes nothing.
 use borrow.Author.Needs.{needs}
 use Rattle.molodensky.specs.Step.{fullOffsetsOf}
 use Rattle.molodensky_block.proofs.full_shift.Statement.{statement}

@@ -1,11 +1,16 @@
--- `molodensky_block::full_shifts` meets its contract. Assumes nothing.
+-- The offsets dlam and dphi are written over the columns that they are computed from, and dh over
+-- zeros. Invariant: the first i elements of the three are the offsets of the columns as they stood
+-- at the start (`fullAt`), and the others of dlam and dphi are as they stood (`Over`; `UpTo` for
+-- dh). So what a turn reads is what stood there (`still`), and it writes one offset more in each
+-- column (`one-more-over`, `one-more`). At i = 16 every element is an offset (`all-filled`). The
+-- measure is 16 - i. Assumes nothing.
 use Prim.Native.Nat.{ℕ, _-_}
 use borrow.Author.Needs.{needs}
 use mathlib.Core.Path.{refl}
 use Rattle.blocks.specs.Each.{UpTo}
 use Rattle.blocks.proofs.Laws.{none-filled, one-more, all-filled}
 use Rattle.molodensky_block.specs.Block.{fullAt}
-use Rattle.molodensky_block.proofs.Over.{Over, none-over, still, one-more-over}
+use Rattle.blocks.proofs.Over.{Over, none-over, still, one-more-over, all-over}
 use Rattle.molodensky_block.proofs.full_shifts.Statement.{statement}
 use Rattle.molodensky_block.proofs.full_shifts.Tie as tie
 
@@ -98,7 +103,7 @@ loop-again c =
 returns : tie.Need-returns Inv-loop μ-loop
 returns c =
     let u = c .before .loop .inv in
-    (all-filled (search needs) (u .0 .filled), all-filled (search needs) (u .1 .filled), all-filled (search needs) (u .2))
+    (all-over (search needs) (u .0), all-over (search needs) (u .1), all-filled (search needs) (u .2))
 
 pub full-shifts-spec : {M : Type 1} → statement M
 full-shifts-spec =

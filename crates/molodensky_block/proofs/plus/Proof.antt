@@ -1,10 +1,12 @@
--- `molodensky_block::plus` meets its contract. Assumes nothing.
+-- Invariant: the first i elements of d are those of x plus the offsets that d held at the start,
+-- and the others are still those offsets (`Over`). So a turn adds the offset that stood there
+-- (`still`) and writes one element more (`one-more-over`). At i = 16 all are written
+-- (`all-filled`). The measure is 16 - i. Assumes nothing.
 use Prim.Native.Nat.{ℕ, _-_}
 use borrow.Author.Needs.{needs}
 use Rattle.floats.specs.Binary64.{_⊕_}
 use Rattle.blocks.specs.Each.{at}
-use Rattle.blocks.proofs.Laws.{all-filled}
-use Rattle.molodensky_block.proofs.Over.{Over, none-over, still, one-more-over}
+use Rattle.blocks.proofs.Over.{Over, none-over, still, one-more-over, all-over}
 use Rattle.molodensky_block.proofs.plus.Statement.{statement}
 use Rattle.molodensky_block.proofs.plus.Tie as tie
 
@@ -47,7 +49,7 @@ loop-again c =
     one-more-over (search needs) (rw (still u)) u
 
 returns : tie.Need-returns Inv-loop μ-loop
-returns c = all-filled (search needs) (c .before .loop .inv .filled)
+returns c = all-over (search needs) (c .before .loop .inv)
 
 pub plus-spec : {M : Type 1} → statement M
 plus-spec =

@@ -1,4 +1,5 @@
--- `molodensky_block::shifts` meets its contract. Assumes nothing.
+-- One case for each way through the tests. Each by `told`, `placed`, `full` and `abridged`, from
+-- what the calls ensure. Assumes nothing.
 use borrow.Author.Needs.{needs}
 use mathlib.Core.Path.{ap}
 use Rattle.blocks.proofs.Laws.{told}
@@ -10,8 +11,8 @@ use Rattle.molodensky_block.proofs.shifts.Tie as tie
 sin-cos-block-requires : tie.Need-sin-cos-block-requires
 sin-cos-block-requires c κs = search needs
 
-ws-requires : tie.Need-ws-requires
-ws-requires c κs = search needs
+w-block-requires : tie.Need-w-block-requires
+w-block-requires c κs = search needs
 
 sqrt-block-requires : tie.Need-sqrt-block-requires
 sqrt-block-requires c κs = search needs
@@ -37,7 +38,7 @@ returns c =
     let twice = c .before .before .before .before .before .before .before .before .before .before .double-sines .ensures in
     let mode = c .before .before .before .before .before .before .before .before .before .before .before .before .before .before in
     let root = mode .before .sqrt-block .ensures in
-    let w = mode .before .before .before .before .ws .ensures in
+    let w = mode .before .before .before .before .w-block .ensures in
     let lat = mode .before .before .before .before .before .before .before .sin-cos-block .ensures in (
       told
           (λ j k.
@@ -64,7 +65,7 @@ returns-2 c =
     let lon = c .before .before .before .before .before .before .before .sin-cos-block3 .ensures in
     let mode = c .before .before .before .before .before .before .before .before .before .before in
     let root = mode .before .sqrt-block .ensures in
-    let w = mode .before .before .before .before .ws .ensures in
+    let w = mode .before .before .before .before .w-block .ensures in
     let lat = mode .before .before .before .before .before .before .before .sin-cos-block .ensures in (
       told
           (λ j k.
@@ -91,7 +92,7 @@ shifts-spec =
     tie.close
     (tie.spec
     sin-cos-block-requires
-    ws-requires
+    w-block-requires
     sqrt-block-requires
     double-sines-requires
     sin-cos-block-requires-2

@@ -1,4 +1,5 @@
--- `molodensky_block::unless_either_zero` meets its contract. Assumes nothing.
+-- One case for each way through the tests. Each by `zero-over-zero`, from what the calls ensure.
+-- Assumes nothing.
 use borrow.Author.Needs.{needs}
 use Rattle.floats.proofs.Nan.{zero-over-zero}
 use Rattle.molodensky_block.proofs.unless_either_zero.Statement.{statement}

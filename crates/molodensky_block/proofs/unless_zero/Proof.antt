@@ -1,4 +1,4 @@
--- `molodensky_block::unless_zero` meets its contract. Assumes nothing.
+-- One case for each way through the tests. Each by `zero-over-zero`. Assumes nothing.
 use Rattle.floats.proofs.Nan.{zero-over-zero}
 use Rattle.molodensky_block.proofs.unless_zero.Statement.{statement}
 use Rattle.molodensky_block.proofs.unless_zero.Tie as tie

@@ -1,4 +1,4 @@
--- `points::carts` meets its contract. Assumes nothing.
+-- The facts at hand are what is asked. Assumes nothing.
 use native.Mathlib.Omega.{arith}
 use lib.ListN.{length-take}
 use borrow.Author.Needs.{needs}
@@ -17,11 +17,8 @@ put-sheet-requires c κs = search needs
 room-requires : tie.Need-room-requires
 room-requires c κs = search needs
 
-mul-total : tie.Need-mul-total
-mul-total c = search needs
-
-add-total : tie.Need-add-total
-add-total c = search needs
+length-of-requires : tie.Need-length-of-requires
+length-of-requires c κs = search needs
 
 mul-numbers : tie.Need-mul-numbers
 mul-numbers c = search needs
@@ -52,8 +49,7 @@ carts-spec =
     slice-aggregate-put-sheet
     put-sheet-requires
     room-requires
-    mul-total
-    add-total
+    length-of-requires
     mul-numbers
     array-share-prefix-s
     slice-aggregate-run-spread

@@ -1,4 +1,6 @@
--- `points::print_each` meets its contract. Assumes nothing.
+-- Invariant: i is at most 16. The contract says nothing of what is printed, so the proof is that
+-- every count is read within the array, by the loop's test, and that the loop ends. The measure is
+-- 16 - i. Assumes nothing.
 use borrow.Author.Needs.{needs}
 use Prim.Native.Nat.{_≤_, _-_}
 use Rattle.points.proofs.print_each.Statement.{statement}

@@ -1,4 +1,6 @@
--- `points::put_sheet` meets its contract. Assumes nothing.
+-- Invariant: i is at most n, and the room is as long as at the start. The contract says nothing of
+-- the bytes. The proof is that n, at most 17, and i, below n, are what `narrow` and `put_step` ask
+-- for, that no arithmetic overflows, and that the loop ends. The measure is n - i. Assumes nothing.
 use borrow.Author.Needs.{needs}
 use mathlib.Core.Path.{_≡_}
 use Prim.Native.Nat.{_≤_, _-_}
@@ -15,11 +17,8 @@ abbrev μ-loop : tie.MeasureT-loop
 narrow-requires : tie.Need-narrow-requires Inv-loop μ-loop
 narrow-requires c κs = search needs
 
-mul-narrow : tie.Need-mul-narrow Inv-loop μ-loop
-mul-narrow c = search needs
-
-add-narrow : tie.Need-add-narrow Inv-loop μ-loop
-add-narrow c = search needs
+length-of-requires : tie.Need-length-of-requires Inv-loop μ-loop
+length-of-requires c κs = search needs
 
 narrow-requires-2 : tie.Need-narrow-requires-2 Inv-loop μ-loop
 narrow-requires-2 c κs = search needs
@@ -55,8 +54,7 @@ put-sheet-spec =
     Inv-loop
     μ-loop
     narrow-requires
-    mul-narrow
-    add-narrow
+    length-of-requires
     narrow-requires-2
     put-header-requires
     loop-holds

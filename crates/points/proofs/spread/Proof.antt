@@ -1,4 +1,7 @@
--- `points::spread` meets its contract. Assumes nothing.
+-- Invariant: i is at most the list's length, which stays what it was at the start. The contract
+-- says nothing of the numbers, so the proof is that every write is within the list, that it keeps
+-- the length (`length-set`), and that the loop ends. The measure is the list's length less i.
+-- Assumes nothing.
 use borrow.Author.Needs.{needs}
 use mathlib.Core.Path.{_≡_}
 use Prim.Native.Nat.{_≤_, _-_}

@@ -1,4 +1,9 @@
--- `report::put_counts` meets its contract. Assumes nothing.
+-- Invariant: the text so far, with the lines of the counts from i on appended, is the text with all
+-- lines appended (`Going`), and i is at most the number of counts and the number of steps. A turn
+-- appends the line of count i (`next-count`, `going-on`). The loop ends at the steps (`no-count`)
+-- or at the counts (`all-counted`), and then no line is left (`going-ends`). The empty piece in
+-- front only brings p within the room (`place-within`), and `then` joins it to the lines. The
+-- measure is the number of counts less i. Assumes nothing.
 use borrow.Author.Needs.{needs}
 use mathlib.Core.Path.{_∙_}
 use Prim.Native.Nat.{_≤_, _-_}

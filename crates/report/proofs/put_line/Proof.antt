@@ -1,4 +1,4 @@
--- `report::put_line` meets its contract. Assumes nothing.
+-- By `then`, from what the calls ensure. Assumes nothing.
 use Rattle.text.proofs.Laws.{then}
 use Rattle.report.specs.Report.{lineOf}
 use borrow.Author.Needs.{needs}

@@ -1,4 +1,4 @@
--- `report::put_tuple` meets its contract. Assumes nothing.
+-- By `then`, from what the calls ensure. Assumes nothing.
 use Rattle.text.proofs.Laws.{then}
 use Rattle.report.specs.Report.{tupleText}
 use borrow.Author.Needs.{needs}

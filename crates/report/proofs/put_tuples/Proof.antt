@@ -1,4 +1,8 @@
--- `report::put_tuples` meets its contract. Assumes nothing.
+-- Invariant: the text so far, with the lines of the fixes from i on appended, is the text with all
+-- lines appended (`Going`). A turn appends the line of the fix at i (`next-tuple`, `going-on`).
+-- When less than a fix is left, no line is left either (`no-tuple`, `going-ends`). The empty piece
+-- in front only brings p within the room (`place-within`), and `then` joins it to the lines. The
+-- measure is what is left of the list. Assumes nothing.
 use borrow.Author.Needs.{needs}
 use mathlib.Core.Path.{_∙_}
 use Prim.Native.Nat.{_≤_, _-_}

@@ -1,4 +1,4 @@
--- `report::put_word` meets its contract. Assumes nothing.
+-- By `then`, from what the calls ensure. Assumes nothing.
 use Rattle.text.proofs.Laws.{then}
 use Rattle.report.specs.Report.{wordOf}
 use borrow.Author.Needs.{needs}

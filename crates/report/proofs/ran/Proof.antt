@@ -1,4 +1,4 @@
--- `report::ran` meets its contract. Assumes nothing.
+-- By `then`, from what the calls ensure. Assumes nothing.
 use Rattle.report.specs.Report.{ranText}
 use Rattle.text.proofs.Laws.{then}
 use borrow.Author.Needs.{needs}

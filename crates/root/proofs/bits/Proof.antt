@@ -1,4 +1,4 @@
--- `root::bits` meets its contract. Assumes nothing.
+-- One case for each return. Each by `no-nan-of`. Assumes nothing.
 use borrow.Author.Needs.{needs}
 use Rattle.root.proofs.Patterns.{no-nan-of}
 use Rattle.root.proofs.bits.Statement.{statement}

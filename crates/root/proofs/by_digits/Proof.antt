@@ -1,4 +1,9 @@
--- `root::by_digits` meets its contract. The invariant: a * 4 ^ i is q² and a remainder of at most 2 q. Assumes nothing.
+-- Invariant: a * 4 ^ i is q² + r with r at most 2 q, so that q is the whole part of its root; and q
+-- is positive and below 2 ^ (27 + i), which keeps every product within 64 bits. At i = 0 this is
+-- what `whole` promises. A turn multiplies a * 4 ^ i, q² and r by four (`pow-step`) and adds one to
+-- q where the remainder then exceeds 2 q (`sq-one`). At i = 26 the number is a * 2 ^ 52, and the
+-- remainder tells whether q or q + 1 is nearest to its root (`nearest-root`). The measure is
+-- 26 - i. Assumes nothing.
 use mathlib.Core.Path.{_≡_, ap}
 use Prim.Native.Nat.{ℕ, _+_, _-_, _*_, _/_, _^_, _≤_, _<_}
 use native.Mathlib.Omega.{arith}

@@ -1,4 +1,5 @@
--- `root::from_guess` meets its contract. Assumes nothing.
+-- One case for each way through the tests. Each by `no-nan-of`, `infinite`, `none` and `some`, from
+-- what the calls ensure. Assumes nothing.
 use mathlib.Core.Path.{_≡_, refl, sym, ap, _∙_, subst}
 use mathlib.Core.Bool.{true, false}
 use mathlib.Core.Logic.{inl, inr}

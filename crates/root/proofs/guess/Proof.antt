@@ -1,4 +1,4 @@
--- `root::guess` meets its contract: 52 bits and a leading one. Assumes nothing.
+-- 52 bits and a leading one. Assumes nothing.
 use Prim.Native.Nat.{_+_, _-_, _/_, _%_}
 use native.Mathlib.Omega.{arith}
 use borrow.Author.Needs.{needs}

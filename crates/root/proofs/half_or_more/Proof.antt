@@ -1,4 +1,4 @@
--- `root::half_or_more` meets its contract: what was compared and found more is no NaN. Assumes nothing.
+-- What was compared and found more is no NaN. Assumes nothing.
 use mathlib.Core.Path.{sym, subst}
 use mathlib.Core.Bool.{not}
 use mathlib.Core.Logic.{⊎-elim}

@@ -1,4 +1,4 @@
--- `root::nearest` meets its contract: what it returns passed its test, or is `slow`'s. Assumes nothing.
+-- What it returns passed its test, or is `slow`'s. Assumes nothing.
 use mathlib.Core.Path.{_≡_, sym, subst}
 use mathlib.Core.Logic.{_⊎_, inl, inr, ⊎-elim}
 use Prim.Native.Nat.{ℕ, _+_, _-_, _*_, _/_, _%_, _^_, _≤_, _<_}

@@ -1,4 +1,4 @@
--- `root::normal` meets its contract: the exponent's field f stands for a scale of 2 ^ (f - 1) units. Assumes nothing.
+-- The exponent's field f stands for a scale of 2 ^ (f - 1) units. Assumes nothing.
 use mathlib.Core.Path.{_≡_, sym, ap, _∙_}
 use Prim.Native.Nat.{ℕ, _+_, _-_, _*_, _/_, _%_, _^_, _≤_, _<_}
 use native.Mathlib.Nat.{mul-assoc}

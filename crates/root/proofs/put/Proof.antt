@@ -1,4 +1,4 @@
--- `root::put` meets its contract: the pattern is below that of +inf. Assumes nothing.
+-- The pattern is below that of +inf. Assumes nothing.
 use Prim.Native.Nat.{_+_, _*_}
 use native.Mathlib.Omega.{arith}
 use Rattle.root.proofs.Patterns.{no-nan}

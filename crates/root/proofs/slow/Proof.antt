@@ -1,4 +1,4 @@
--- `root::slow` meets its contract. Assumes nothing.
+-- By `root-range` and `put-rounded`, from what the calls ensure. Assumes nothing.
 use mathlib.Core.Path.{sym, subst}
 use Prim.Native.Nat.{_*_, _^_}
 use Rattle.root.specs.Sqrt.{RoundedRoot}

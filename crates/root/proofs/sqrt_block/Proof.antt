@@ -1,15 +1,18 @@
--- `root::sqrt_block` meets its contract: the first loop fills g with guesses, of which only the number of their digits is known, the second r with roots. Assumes nothing.
-use Prim.Native.Nat.{ℕ, _+_, _-_, _≤_, _<_}
-use native.Mathlib.Nat.{eq-or-lt-of-le, lt-irrefl, not-suc-le-zero}
+-- The first loop's invariant: g is a block whose first i elements are guesses, of which no more is
+-- known than that they have 53 digits (`Guesses`); a turn adds one by the contract of `guess`
+-- (`one-guess-more`). The second loop's invariant: r is a block whose first j elements are the
+-- roots of those of x (`UpTo`); a turn adds one, since `from_guess` gives the root from any such
+-- guess (`one-more`). At j = 16 all are roots (`all-filled`). The measures are 16 - i and 16 - j.
+-- Assumes nothing.
+use Prim.Native.Nat.{ℕ, _+_, _-_, _<_}
+use native.Mathlib.Nat.{not-suc-le-zero}
 use native.Mathlib.Omega.{arith}
 use mathlib.Core.Path.{_≡_, refl, sym, _∙_, subst}
-use mathlib.Core.Logic.{_⊎_, inl, inr}
 use mathlib.Core.List.{List}
 use lib.ListN.{set, length, length-set}
-use lib.Seq.{getD-set-same, getD-set-other}
 use borrow.Author.Needs.{needs}
 use Rattle.blocks.specs.Each.{at, wholeAt, UpTo}
-use Rattle.blocks.proofs.Laws.{none-filled, one-more, all-filled}
+use Rattle.blocks.proofs.Laws.{one-more-held, none-filled, one-more, all-filled}
 use Rattle.root.specs.Sqrt.{sqrtOf}
 use Rattle.root.specs.Whole.{Digits}
 use Rattle.root.proofs.sqrt_block.Statement.{statement}
@@ -29,15 +32,8 @@ one-guess-more : {l : List ℕ} {i v : ℕ} → i < 16 → Digits v → Guesses 
 one-guess-more {l} {i} {v} room d before =
     record {
       block = length-set l i v ∙ before .block;
-      held = λ j h. at-or-before j (eq-or-lt-of-le (up-to j h));
+      held = one-more-held (λ (j : ℕ) (n : ℕ). Digits n) 0 v l i (subst (λ (n : ℕ). i < n) (sym (before .block)) room) d (before .held);
     }
-  where
-    up-to : (j : ℕ) → j < i + 1 → j ≤ i
-    up-to j h = omega arith
-
-    at-or-before : (j : ℕ) → (j ≡ i) ⊎ (j < i) → Digits (wholeAt (set l i v) j)
-    at-or-before j (inl e) = subst (λ (k : ℕ). Digits (wholeAt (set l i v) k)) (sym e) (subst Digits (sym (getD-set-same l i v 0 (subst (λ (n : ℕ). i < n) (sym (before .block)) room))) d)
-    at-or-before j (inr h) = subst Digits (sym (getD-set-other l i j v 0 (λ q. lt-irrefl i (subst (λ (k : ℕ). k < i) q h)))) (before .held j h)
 
 abbrev Inv-loop : tie.InvT-loop
 Inv-loop x r g₀ i₀ g i = Guesses i g

@@ -1,4 +1,8 @@
--- `root::whole` meets its contract. The invariant: the root is q or above, and below q + bit. Assumes nothing.
+-- Invariant: q² is at most a, and a is below (q + bit)²; so the root is q or above, and below
+-- q + bit, which is at most 2 ^ 27. A turn takes half off bit and adds it to q where the square of
+-- the sum is at most a, which leaves q + bit as it was. Where the square is above a, the root lies
+-- below the sum and so below q plus the new bit, which is no less than that half (`sq-mono`). At
+-- bit = 1 the whole part of the root is q. The measure is bit. Assumes nothing.
 use mathlib.Core.Path.{_≡_, ap}
 use Prim.Native.Nat.{ℕ, _+_, _-_, _*_, _/_, _^_, _≤_, _<_}
 use native.Mathlib.Omega.{arith}

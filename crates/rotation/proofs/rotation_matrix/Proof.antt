@@ -1,4 +1,5 @@
--- `rotation::rotation_matrix` meets its contract. Assumes nothing.
+-- One case for each way through the tests. Calls are replaced by what they ensure; the definition
+-- is left. Assumes nothing.
 use Rattle.rotation.specs.Matrix.{rotationMatrixOf}
 use borrow.Author.Needs.{needs}
 use Rattle.rotation.proofs.rotation_matrix.Statement.{statement}

@@ -1,4 +1,5 @@
--- `runs::run_cart` meets its contract. Assumes nothing.
+-- One case for each way through the tests. Calls are replaced by what they ensure; the definition
+-- is left. Assumes nothing.
 use borrow.Author.Needs.{needs}
 use Rattle.runs.proofs.run_cart.Statement.{statement}
 use Rattle.runs.proofs.run_cart.Tie as tie

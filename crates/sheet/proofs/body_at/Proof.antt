@@ -1,29 +1,17 @@
--- `sheet::body_at` meets its contract. Assumes nothing.
+-- The part that the entry's offset and length name. Assumes nothing.
 use Rattle.sheet.specs.Layout.{bodyAt}
 use borrow.Author.Needs.{needs}
 use Rattle.sheet.proofs.body_at.Statement.{statement}
 use Rattle.sheet.proofs.body_at.Tie as tie
 
-mul-place : tie.Need-mul-place
-mul-place c = search needs
-
-add-place : tie.Need-add-place
-add-place c = search needs
-
-add-read32 : tie.Need-add-read32
-add-read32 c = search needs
-
-read32-requires : tie.Need-read32-requires
-read32-requires c κs = search needs
+offset-at-requires : tie.Need-offset-at-requires
+offset-at-requires c κs = search needs
 
 wide-requires : tie.Need-wide-requires
 wide-requires c κs = search needs
 
-add-read32-2 : tie.Need-add-read32-2
-add-read32-2 c = search needs
-
-read32-requires-2 : tie.Need-read32-requires-2
-read32-requires-2 c κs = search needs
+length-at-requires : tie.Need-length-at-requires
+length-at-requires c κs = search needs
 
 wide-requires-2 : tie.Need-wide-requires-2
 wide-requires-2 c κs = search needs
@@ -33,19 +21,15 @@ part-requires c κs = search needs
 
 returns : tie.Need-returns
 unfolding bodyAt
-returns c = rw (c .part .ensures, c .before .wide2 .ensures .0, c .before .before .read322 .ensures, c .before .before .before .wide .ensures .0, c .before .before .before .before .read32 .ensures)
+returns c = rw (c .part .ensures, c .before .wide2 .ensures .0, c .before .before .length-at .ensures, c .before .before .before .wide .ensures .0, c .before .before .before .before .offset-at .ensures)
 
 pub body-at-spec : {M : Type 1} → statement M
 body-at-spec =
     tie.close
     (tie.spec
-    mul-place
-    add-place
-    add-read32
-    read32-requires
+    offset-at-requires
     wide-requires
-    add-read32-2
-    read32-requires-2
+    length-at-requires
     wide-requires-2
     part-requires
     returns)

@@ -1,4 +1,7 @@
--- `sheet::check_bodies` meets its contract. Assumes nothing.
+-- Invariant: the first refusal by rules 5 to 8 among the n steps is the first among the steps from
+-- i on (`fiveToEight`), so the steps before i are in rule. Where `check_body` finds step i in rule,
+-- a turn goes on (`steps-on`); where it finds a refusal, that is the first one (`steps-off`). With
+-- no step left nothing is refused (`steps-end`). The measure is n - i. Assumes nothing.
 use borrow.Author.Needs.{needs}
 use native.Mathlib.Omega.{arith}
 use mathlib.Core.Path.{_≡_, refl, sym, ap, _∙_}

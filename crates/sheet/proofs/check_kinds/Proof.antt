@@ -1,34 +1,32 @@
--- `sheet::check_kinds` meets its contract. Assumes nothing.
+-- Invariant: `before` tells whether a step before i is a deformation step (`hasDeformation`), and
+-- the first refusal by rule 11 among the n steps is the first among the steps from i on
+-- (`elevens`). A turn at a second deformation step returns that refusal (`elevens-off`); any other
+-- goes on (`elevens-on`) and brings `before` up to i + 1 (`before-next`). With no step left nothing
+-- is refused (`elevens-end`). The measure is n - i. Assumes nothing.
 use borrow.Author.Needs.{needs}
 use native.Mathlib.Omega.{arith}
 use mathlib.Core.Path.{_≡_, refl, sym, ap, _∙_}
 use Prim.Native.Nat.{suc, _+_, _*_, _-_, _≤_, _<_}
 use native.Mathlib.Nat.{sub-zero}
 use mathlib.Core.Bool.{true, false}
-use Rattle.sheet.specs.Rules.{refusal11, deformationBefore, elevens, firstBroken}
+use Rattle.sheet.specs.Rules.{refusal11, hasDeformation, elevens, firstBroken}
 use Rattle.sheet.specs.Layout.{kindAt}
-use Rattle.sheet.proofs.Order.{elevens-on, elevens-off, elevens-end, before-next}
+use Rattle.sheet.proofs.Order.{elevens-on, elevens-off, elevens-end, before-next, of-index}
 use Rattle.sheet.proofs.check_kinds.Statement.{statement}
 use Rattle.sheet.proofs.check_kinds.Tie as tie
 
 abbrev Inv-loop : tie.InvT-loop
-Inv-loop s n before₀ i₀ before i = (i ≤ n) × ((before ≡ deformationBefore (kindAt s) i) × (firstBroken (elevens (kindAt s) n 0) ≡ firstBroken (elevens (kindAt s) (n - i) i)))
+Inv-loop s n before₀ i₀ before i = (i ≤ n) × ((before ≡ hasDeformation (kindAt s) i) × (firstBroken (elevens (kindAt s) n 0) ≡ firstBroken (elevens (kindAt s) (n - i) i)))
 
 abbrev μ-loop : tie.MeasureT-loop
 μ-loop s n before₀ i₀ before i = n - i
 
 loop-holds : tie.Need-loop-holds Inv-loop μ-loop
-unfolding deformationBefore
+unfolding hasDeformation
 loop-holds c = (omega arith, (refl, rw sub-zero))
 
-mul-read32 : tie.Need-mul-read32 Inv-loop μ-loop
-mul-read32 c = search needs
-
-add-read32 : tie.Need-add-read32 Inv-loop μ-loop
-add-read32 c = search needs
-
-read32-requires : tie.Need-read32-requires Inv-loop μ-loop
-read32-requires c κs = search needs
+kind-at-requires : tie.Need-kind-at-requires Inv-loop μ-loop
+kind-at-requires c κs = search needs
 
 of-step-requires : tie.Need-of-step-requires Inv-loop μ-loop
 of-step-requires c κs = search needs
@@ -38,8 +36,8 @@ unfolding refusal11
 returns c = let l = c .before .before .before .before in
     let a = l .before .before .args in
     let left : a .n - l .loop .i ≡ suc (a .n - (l .loop .i + 1)) = omega arith in
-    let second : refusal11 (kindAt (a .s .now)) (l .loop .i) ≡ true = rw (← c .before .before .read32 .ensures, ← l .loop .inv .1 .0) (c .before .if1 .taken) in
-    rw (c .of-step .ensures) (sym (l .loop .inv .1 .1 ∙ elevens-off _ _ _ _ left second))
+    let second : refusal11 (kindAt (a .s .now)) (l .loop .i) ≡ true = rw (← c .before .before .kind-at .ensures, ← l .loop .inv .1 .0) (c .before .if1 .taken) in
+    c .of-step .ensures ∙ of-index _ _ (omega arith) ∙ sym (l .loop .inv .1 .1 ∙ elevens-off _ _ _ _ left second)
 
 add-i : tie.Need-add-i Inv-loop μ-loop
 add-i c = search needs
@@ -52,8 +50,8 @@ unfolding refusal11
 loop-again c = let l = c .before .before .before in
     let a = l .before .before .args in
     let left : a .n - l .loop .i ≡ suc (a .n - (l .loop .i + 1)) = omega arith in
-    let alone : refusal11 (kindAt (a .s .now)) (l .loop .i) ≡ false = rw (← c .before .read32 .ensures, ← l .loop .inv .1 .0) (c .if1 .left) in
-    (omega arith, (rw (before-next, ← c .before .read32 .ensures, ← l .loop .inv .1 .0), l .loop .inv .1 .1 ∙ elevens-on _ _ _ _ left alone))
+    let alone : refusal11 (kindAt (a .s .now)) (l .loop .i) ≡ false = rw (← c .before .kind-at .ensures, ← l .loop .inv .1 .0) (c .if1 .left) in
+    (omega arith, (rw (before-next, ← c .before .kind-at .ensures, ← l .loop .inv .1 .0), l .loop .inv .1 .1 ∙ elevens-on _ _ _ _ left alone))
 
 none-requires : tie.Need-none-requires Inv-loop μ-loop
 none-requires c κs = search needs
@@ -68,9 +66,7 @@ check-kinds-spec =
     Inv-loop
     μ-loop
     loop-holds
-    mul-read32
-    add-read32
-    read32-requires
+    kind-at-requires
     of-step-requires
     returns
     add-i

@@ -1,8 +1,7 @@
--- `sheet::entry_at` meets its contract. Assumes nothing.
+-- Below the step count the entry is read word by word, from there on it is blank, as `entryAt` has
+-- it. Assumes nothing.
 use borrow.Author.Tests.{lt-ltb, le-ltb}
-use native.Mathlib.Omega.{arith}
-use Prim.Native.Nat.{_<_, _≤_}
-use Rattle.sheet.specs.Layout.{entryAt, stepCountOf}
+use Rattle.sheet.specs.Layout.{entryAt}
 use borrow.Author.Needs.{needs}
 use Rattle.sheet.proofs.entry_at.Statement.{statement}
 use Rattle.sheet.proofs.entry_at.Tie as tie
@@ -10,14 +9,8 @@ use Rattle.sheet.proofs.entry_at.Tie as tie
 step-count-requires : tie.Need-step-count-requires
 step-count-requires c κs = search needs
 
-mul-place : tie.Need-mul-place
-mul-place c = search needs
-
-add-place : tie.Need-add-place
-add-place c = search needs
-
-read32-requires : tie.Need-read32-requires
-read32-requires c κs = search needs
+kind-at-requires : tie.Need-kind-at-requires
+kind-at-requires c κs = search needs
 
 body-at-requires : tie.Need-body-at-requires
 body-at-requires c κs = search needs
@@ -25,15 +18,12 @@ body-at-requires c κs = search needs
 read-body-requires : tie.Need-read-body-requires
 read-body-requires c κs = search needs
 
-add-read32 : tie.Need-add-read32
-add-read32 c = search needs
-
-read32-requires-2 : tie.Need-read32-requires-2
-read32-requires-2 c κs = search needs
+inverted-at-requires : tie.Need-inverted-at-requires
+inverted-at-requires c κs = search needs
 
 returns : tie.Need-returns
 unfolding entryAt
-returns c = let o = c .before .before .before .before in rw (← o .before .step-count .ensures .0, lt-ltb _ _ (o .if1 .taken), c .read322 .ensures, c .before .read-body .ensures, c .before .before .body-at .ensures, c .before .before .before .read32 .ensures)
+returns c = let o = c .before .before .before .before in rw (← o .before .step-count .ensures .0, lt-ltb _ _ (o .if1 .taken), c .inverted-at .ensures, c .before .read-body .ensures, c .before .before .body-at .ensures, c .before .before .before .kind-at .ensures)
 
 blank-requires : tie.Need-blank-requires
 blank-requires c κs = search needs
@@ -47,13 +37,10 @@ entry-at-spec =
     tie.close
     (tie.spec
     step-count-requires
-    mul-place
-    add-place
-    read32-requires
+    kind-at-requires
     body-at-requires
     read-body-requires
-    add-read32
-    read32-requires-2
+    inverted-at-requires
     returns
     blank-requires
     returns-2)

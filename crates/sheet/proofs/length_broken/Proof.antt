@@ -1,4 +1,4 @@
--- `sheet::length_broken` meets its contract. Assumes nothing.
+-- Calls are replaced by what they ensure; the definition is left. Assumes nothing.
 use Rattle.sheet.specs.Rules.{refusal1}
 use borrow.Author.Needs.{needs}
 use Rattle.sheet.proofs.length_broken.Statement.{statement}

@@ -1,4 +1,5 @@
--- `sheet::read` meets its contract. Assumes nothing.
+-- One case for each way through the tests. Each by `accepted-count`, from what the calls ensure.
+-- Assumes nothing.
 use Prim.Native.Nat.{_≤_}
 use mathlib.Core.Path.{_≡_, sym, _∙_}
 use borrow.Author.Tests.{eq-eqb, ne-eqb}

@@ -1,4 +1,7 @@
--- `sheet::record` meets its contract. Assumes nothing.
+-- Invariant: the first i elements of `entries` are read from the sheet, and the others are blank
+-- (`filled`). A turn reads one more by the contract of `entry_at` (`filled-next`). At i = n they
+-- are the record's sixteen, because `entryAt` is blank past the step count too (`filled-all`). The
+-- measure is n - i. Assumes nothing.
 use borrow.Author.Needs.{needs}
 use native.Mathlib.Omega.{arith}
 use mathlib.Core.Path.{_≡_, refl, sym, ap, _∙_}

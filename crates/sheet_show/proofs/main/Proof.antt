@@ -1,4 +1,4 @@
--- `sheet_show::main` meets its contract: the place that `put_sheet` answers lies within the room. Assumes nothing.
+-- The place that `put_sheet` answers lies within the room. Assumes nothing.
 use mathlib.Core.Path.{sym}
 use lib.Seq.{length-take-le}
 use Rattle.text.proofs.Laws.{place-within}

@@ -1,4 +1,8 @@
--- `sheet_writer::check_entries` meets its contract. Assumes nothing.
+-- Invariant: the first refusal by rules 5 to 8 among the record's n steps is the first among the
+-- steps from i on (`fiveToEight`), so the steps before i are in rule. Where `check_entry` finds
+-- step i in rule, a turn goes on (`steps-on`); where it finds a refusal, that is the first one
+-- (`steps-off`). With no step left nothing is refused (`steps-end`). The measure is n - i.
+-- Assumes nothing.
 use borrow.Author.Needs.{needs}
 use native.Mathlib.Omega.{arith}
 use mathlib.Core.Path.{_≡_, refl, sym, ap, _∙_}

@@ -1,4 +1,4 @@
--- `sheet_writer::check_entry` meets its contract. Assumes nothing.
+-- Calls are replaced by what they ensure; the definition is left. Assumes nothing.
 use Rattle.sheet_writer.specs.Rules.{recordRefusal5}
 use borrow.Author.Needs.{needs}
 use Rattle.sheet_writer.proofs.check_entry.Statement.{statement}

@@ -1,4 +1,5 @@
--- `sheet_writer::check_record` meets its contract. Assumes nothing.
+-- One case for each way through the tests. Each by `count-kept`, `writer-three`, `writer-four` and
+-- `writer-step`, from what the calls ensure. Assumes nothing.
 use Prim.Native.Nat.{ℕ}
 use mathlib.Core.Path.{_≡_, refl, sym, ap, _∙_}
 use mathlib.Core.Bool.{true, false}
@@ -17,21 +18,21 @@ wide-requires c κs = search needs
 count-broken-requires : tie.Need-count-broken-requires
 count-broken-requires c κs = search needs
 
-of-sheet-requires : tie.Need-of-sheet-requires
-of-sheet-requires c κs = search needs
+of-call-requires : tie.Need-of-call-requires
+of-call-requires c κs = search needs
 
 returns : tie.Need-returns
 returns c =
     let w = c .before .before .before in
     let a = w .before .args in
     let three : refusal3 (a .sheet .count) ≡ true = ap refusal3 (sym (w .wide .ensures .0)) ∙ sym (c .before .before .count-broken .ensures) ∙ c .before .if1 .taken in
-    rw (c .of-sheet .ensures) (sym (writer-three _ _ three))
+    rw (c .of-call .ensures) (sym (writer-three _ _ three))
 
 inverted-broken-requires : tie.Need-inverted-broken-requires
 inverted-broken-requires c κs = count-kept _ (sym (c .before .count-broken .ensures) ∙ c .if1 .left) .1
 
-of-sheet-requires-2 : tie.Need-of-sheet-requires-2
-of-sheet-requires-2 c κs = search needs
+of-call-requires-2 : tie.Need-of-call-requires-2
+of-call-requires-2 c κs = search needs
 
 returns-2 : tie.Need-returns-2
 unfolding recordRefusal4
@@ -42,7 +43,7 @@ returns-2 c =
     let three : refusal3 (a .sheet .count) ≡ false = ap refusal3 (sym (w .wide .ensures .0)) ∙ sym (i .before .before .count-broken .ensures) ∙ i .before .if1 .left in
     let four : recordRefusal4 (a .sheet) ≡ true =
     ap (λ (k : ℕ). someFrom (invertedBrokenIn (a .sheet)) k 0) (sym (w .wide .ensures .0)) ∙ sym (i .inverted-broken .ensures) ∙ c .before .if2 .taken in
-    rw (c .of-sheet2 .ensures) (sym (writer-four _ _ three four))
+    rw (c .of-call2 .ensures) (sym (writer-four _ _ three four))
 
 check-entries-requires : tie.Need-check-entries-requires
 check-entries-requires c κs = count-kept _ (sym (c .before .before .before .count-broken .ensures) ∙ c .before .before .if1 .left) .1
@@ -78,8 +79,8 @@ sheet-length-requires : tie.Need-sheet-length-requires
 sheet-length-requires c κs = let o = c .before .before .before .before .before .before .before .before in
     (count-kept _ (sym (o .before .count-broken .ensures) ∙ o .if1 .left) .1, o .before .before .wide .ensures .0)
 
-of-sheet-requires-3 : tie.Need-of-sheet-requires-3
-of-sheet-requires-3 c κs = search needs
+of-call-requires-3 : tie.Need-of-call-requires-3
+of-call-requires-3 c κs = search needs
 
 returns-5 : tie.Need-returns-5
 unfolding recordRefusal4 refusal15
@@ -92,7 +93,7 @@ returns-5 c =
     let four : recordRefusal4 (a .sheet) ≡ false =
     ap (λ (k : ℕ). someFrom (invertedBrokenIn (a .sheet)) k 0) (sym (w .wide .ensures .0)) ∙ sym (i .inverted-broken .ensures) ∙ e .before .if2 .left in
     let short : refusal15 (a .sheet) (a .room) ≡ true = rw (← c .before .before .sheet-length .ensures .0) (lt-ltb _ _ (c .before .if5 .taken)) in
-    rw (c .of-sheet3 .ensures)
+    rw (c .of-call3 .ensures)
     (sym (writer-short _ _ three four _ (w .wide .ensures .0) _ (e .check-entries .ensures) (c .before .before .before .before .before .before .if3 .left) _ (c .before .before .before .before .before .check-steps .ensures)
     (c .before .before .before .if4 .left) short))
 
@@ -120,17 +121,17 @@ check-record-spec =
     (tie.spec
     wide-requires
     count-broken-requires
-    of-sheet-requires
+    of-call-requires
     returns
     inverted-broken-requires
-    of-sheet-requires-2
+    of-call-requires-2
     returns-2
     check-entries-requires
     returns-3
     check-steps-requires
     returns-4
     sheet-length-requires
-    of-sheet-requires-3
+    of-call-requires-3
     returns-5
     none-requires
     returns-6)

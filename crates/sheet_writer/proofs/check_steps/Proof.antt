@@ -1,24 +1,29 @@
--- `sheet_writer::check_steps` meets its contract. Assumes nothing.
+-- Invariant: `before` tells whether a step of the record before i is a deformation step
+-- (`hasDeformation`), and the first refusal by rule 11 among the n steps is the first among the
+-- steps from i on (`elevens`). A turn at a second deformation step returns that refusal
+-- (`elevens-off`); any other goes on (`elevens-on`) and brings `before` up to i + 1
+-- (`before-next`). With no step left nothing is refused (`elevens-end`). The measure is n - i.
+-- Assumes nothing.
 use borrow.Author.Needs.{needs}
 use native.Mathlib.Omega.{arith}
 use mathlib.Core.Path.{_≡_, refl, sym, ap, _∙_}
 use Prim.Native.Nat.{suc, _+_, _*_, _-_, _≤_, _<_}
 use native.Mathlib.Nat.{sub-zero}
 use mathlib.Core.Bool.{true, false}
-use Rattle.sheet.specs.Rules.{refusal11, deformationBefore, elevens, firstBroken}
+use Rattle.sheet.specs.Rules.{refusal11, hasDeformation, elevens, firstBroken}
 use Rattle.sheet.specs.Layout.{kindIn}
-use Rattle.sheet.proofs.Order.{elevens-on, elevens-off, elevens-end, before-next}
+use Rattle.sheet.proofs.Order.{elevens-on, elevens-off, elevens-end, before-next, of-index}
 use Rattle.sheet_writer.proofs.check_steps.Statement.{statement}
 use Rattle.sheet_writer.proofs.check_steps.Tie as tie
 
 abbrev Inv-loop : tie.InvT-loop
-Inv-loop sheet n before₀ i₀ before i = (i ≤ n) × ((before ≡ deformationBefore (kindIn sheet) i) × (firstBroken (elevens (kindIn sheet) n 0) ≡ firstBroken (elevens (kindIn sheet) (n - i) i)))
+Inv-loop sheet n before₀ i₀ before i = (i ≤ n) × ((before ≡ hasDeformation (kindIn sheet) i) × (firstBroken (elevens (kindIn sheet) n 0) ≡ firstBroken (elevens (kindIn sheet) (n - i) i)))
 
 abbrev μ-loop : tie.MeasureT-loop
 μ-loop sheet n before₀ i₀ before i = n - i
 
 loop-holds : tie.Need-loop-holds Inv-loop μ-loop
-unfolding deformationBefore
+unfolding hasDeformation
 loop-holds c = (omega arith, (refl, rw sub-zero))
 
 kind-in-requires : tie.Need-kind-in-requires Inv-loop μ-loop
@@ -33,7 +38,7 @@ returns c = let l = c .before .before .before .before in
     let a = l .before .args in
     let left : a .n - l .loop .i ≡ suc (a .n - (l .loop .i + 1)) = omega arith in
     let second : refusal11 (kindIn (a .sheet)) (l .loop .i) ≡ true = rw (← c .before .before .kind-in .ensures, ← l .loop .inv .1 .0) (c .before .if1 .taken) in
-    rw (c .of-step .ensures) (sym (l .loop .inv .1 .1 ∙ elevens-off _ _ _ _ left second))
+    c .of-step .ensures ∙ of-index _ _ (omega arith) ∙ sym (l .loop .inv .1 .1 ∙ elevens-off _ _ _ _ left second)
 
 add-i : tie.Need-add-i Inv-loop μ-loop
 add-i c = search needs

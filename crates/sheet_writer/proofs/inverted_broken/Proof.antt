@@ -1,4 +1,7 @@
--- `sheet_writer::inverted_broken` meets its contract. Assumes nothing.
+-- Invariant: some of the n inverted words is out of rule if and only if one from i on is
+-- (`someFrom`, `invertedBrokenIn`), so those before i are in rule. A turn that finds one above 1
+-- returns true (`some-off`); any other goes on (`some-on`). With no step left none is out of rule
+-- (`some-end`). The measure is n - i. Assumes nothing.
 use borrow.Author.Needs.{needs}
 use native.Mathlib.Omega.{arith}
 use mathlib.Core.Path.{_≡_, refl, sym, ap, _∙_}

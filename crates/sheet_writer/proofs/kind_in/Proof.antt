@@ -1,4 +1,4 @@
--- `sheet_writer::kind_in` meets its contract. Assumes nothing.
+-- Calls are replaced by what they ensure; the definition is left. Assumes nothing.
 use borrow.Author.Needs.{needs}
 use Rattle.sheet_writer.proofs.kind_in.Statement.{statement}
 use Rattle.sheet_writer.proofs.kind_in.Tie as tie

@@ -1,4 +1,4 @@
--- `sheet_writer::length_in` meets its contract. Assumes nothing.
+-- By `length-small`, from what the calls ensure. Assumes nothing.
 use Rattle.sheet_writer.proofs.Writing.{length-small}
 use Rattle.sheet.specs.Layout.{kindIn}
 use mathlib.Core.Path.{refl}

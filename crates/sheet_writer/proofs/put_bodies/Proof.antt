@@ -1,4 +1,8 @@
--- `sheet_writer::put_bodies` meets its contract. Assumes nothing.
+-- Invariant: the room is the one at the start with the first i bodies put where the directory ends
+-- (`bodiesBytes`), and as long as that; `start` is where body i starts (`bodyStart`), at most 248
+-- bytes a body past the directory. A turn puts body i there, which ends within the room
+-- (`ends-within`) and is one body more (`bodies-next`), and moves `start` past it (`start-next`).
+-- At i = n all bodies are put. The measure is n - i. Assumes nothing.
 use borrow.Author.Needs.{needs}
 use native.Mathlib.Omega.{arith}
 use mathlib.Core.Path.{_≡_, refl, sym, ap, _∙_}
@@ -18,11 +22,8 @@ Inv-loop room₀ sheet n start₀ i₀ room start i = (i ≤ n) × ((start ≡ b
 abbrev μ-loop : tie.MeasureT-loop
 μ-loop room₀ sheet n start₀ i₀ room start i = n - i
 
-mul-start : tie.Need-mul-start Inv-loop μ-loop
-mul-start c = search needs
-
-add-start : tie.Need-add-start Inv-loop μ-loop
-add-start c = search needs
+directory-end-requires : tie.Need-directory-end-requires Inv-loop μ-loop
+directory-end-requires c κs = search needs
 
 loop-holds : tie.Need-loop-holds Inv-loop μ-loop
 unfolding bodyStart bodiesBytes
@@ -31,14 +32,14 @@ loop-holds c = (omega arith, (omega arith, (omega arith, (refl, sym (put-none _ 
 put-body-requires : tie.Need-put-body-requires Inv-loop μ-loop
 put-body-requires c κs =
     let l = c .before .before in
-    let a = l .before .before .args in
+    let a = l .before .before .before .args in
     (omega arith, omega (arith, ends-within (a .sheet) (l .loop .i) (a .sheet .count) (omega arith)))
 
 length-in-requires : tie.Need-length-in-requires Inv-loop μ-loop
 length-in-requires c κs = search needs
 
-add-start-2 : tie.Need-add-start-2 Inv-loop μ-loop
-add-start-2 c = search needs
+add-start : tie.Need-add-start Inv-loop μ-loop
+add-start c = search needs
 
 add-i : tie.Need-add-i Inv-loop μ-loop
 add-i c = search needs
@@ -49,7 +50,7 @@ loop-less c = search needs
 loop-again : tie.Need-loop-again Inv-loop μ-loop
 loop-again c =
     let l = c .before .before .before .before .before .before in
-    let o = l .before .before in
+    let o = l .before .before .before in
     let a = o .args in
     let p = c .before .before .before .put-body in
     let fits : bodyStart (a .sheet) (l .loop .i) ≤ length (a .room .now) = omega (arith, ends-within (a .sheet) (l .loop .i) (a .sheet .count) (omega arith)) in
@@ -61,7 +62,7 @@ same-length c = search needs
 returns : tie.Need-returns Inv-loop μ-loop
 returns c =
     let l = c .before in
-    let a = l .before .before .args in
+    let a = l .before .before .before .args in
     let all : l .loop .i ≡ a .n = omega arith in
     l .loop .inv .1 .1 .1 .1 ∙ ap (λ (k : ℕ). put (a .room .now) (16 + 16 * a .n) (bodiesBytes (a .sheet) k)) all
 
@@ -71,12 +72,11 @@ put-bodies-spec =
     (tie.spec
     Inv-loop
     μ-loop
-    mul-start
-    add-start
+    directory-end-requires
     loop-holds
     put-body-requires
     length-in-requires
-    add-start-2
+    add-start
     add-i
     loop-less
     loop-again

@@ -1,4 +1,4 @@
--- `sheet_writer::put_body` meets its contract. Assumes nothing.
+-- By `put-fits` and `bytes-length`, from what the calls ensure. Assumes nothing.
 use mathlib.Core.Path.{_≡_, _∙_}
 use lib.ListN.{length}
 use Prim.Native.Nat.{_+_, _≤_}

@@ -1,4 +1,8 @@
--- `sheet_writer::put_directory` meets its contract. Assumes nothing.
+-- Invariant: the room is the one at the start with the directory's words of the first i steps put
+-- at 16 (`directoryBytes`), and as long as that; `start` is where body i starts (`bodyStart`), at
+-- most 248 bytes a body past the directory. A turn puts the words of step i (`directory-next`) and
+-- moves `start` past its body (`start-next`). At i = n the directory is written. The measure is
+-- n - i. Assumes nothing.
 use borrow.Author.Needs.{needs}
 use native.Mathlib.Omega.{arith}
 use mathlib.Core.Path.{_≡_, refl, sym, ap, _∙_}
@@ -18,11 +22,8 @@ Inv-loop room₀ sheet n start₀ i₀ room start i = (i ≤ n) × ((start ≡ b
 abbrev μ-loop : tie.MeasureT-loop
 μ-loop room₀ sheet n start₀ i₀ room start i = n - i
 
-mul-start : tie.Need-mul-start Inv-loop μ-loop
-mul-start c = search needs
-
-add-start : tie.Need-add-start Inv-loop μ-loop
-add-start c = search needs
+directory-end-requires : tie.Need-directory-end-requires Inv-loop μ-loop
+directory-end-requires c κs = search needs
 
 loop-holds : tie.Need-loop-holds Inv-loop μ-loop
 unfolding bodyStart directoryBytes
@@ -34,8 +35,8 @@ put-place-requires c κs = search needs
 length-in-requires : tie.Need-length-in-requires Inv-loop μ-loop
 length-in-requires c κs = search needs
 
-add-start-2 : tie.Need-add-start-2 Inv-loop μ-loop
-add-start-2 c = search needs
+add-start : tie.Need-add-start Inv-loop μ-loop
+add-start c = search needs
 
 add-i : tie.Need-add-i Inv-loop μ-loop
 add-i c = search needs
@@ -46,7 +47,7 @@ loop-less c = search needs
 loop-again : tie.Need-loop-again Inv-loop μ-loop
 loop-again c =
     let l = c .before .before .before .before .before .before in
-    let o = l .before .before in
+    let o = l .before .before .before in
     let a = o .args in
     let p = c .before .before .before .put-place in
     (omega arith, (omega (arith, start-next (a .sheet) (l .loop .i)), (omega arith, (omega arith, rw (p .ensures, l .loop .inv .1 .1 .1 .1) (directory-next _ _ _ (omega arith))))))
@@ -57,7 +58,7 @@ same-length c = search needs
 returns : tie.Need-returns Inv-loop μ-loop
 returns c =
     let l = c .before in
-    let a = l .before .before .args in
+    let a = l .before .before .before .args in
     let all : l .loop .i ≡ a .n = omega arith in
     l .loop .inv .1 .1 .1 .1 ∙ ap (λ (k : ℕ). put (a .room .now) 16 (directoryBytes (a .sheet) k)) all
 
@@ -67,12 +68,11 @@ put-directory-spec =
     (tie.spec
     Inv-loop
     μ-loop
-    mul-start
-    add-start
+    directory-end-requires
     loop-holds
     put-place-requires
     length-in-requires
-    add-start-2
+    add-start
     add-i
     loop-less
     loop-again

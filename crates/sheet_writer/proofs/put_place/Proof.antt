@@ -1,4 +1,4 @@
--- `sheet_writer::put_place` meets its contract. Assumes nothing.
+-- The four words of `placeBytes`, at the entry's offset. Assumes nothing.
 use Rattle.sheet_writer.specs.Bytes.{placeBytes}
 use borrow.Author.Needs.{needs}
 use Rattle.sheet_writer.proofs.put_place.Statement.{statement}
@@ -10,11 +10,11 @@ entry-in-requires c κs = search needs
 kind-in-requires : tie.Need-kind-in-requires
 kind-in-requires c κs = search needs
 
-mul-put-words : tie.Need-mul-put-words
-mul-put-words c = search needs
+cast-entry-offset : tie.Need-cast-entry-offset
+cast-entry-offset c = search needs
 
-add-put-words : tie.Need-add-put-words
-add-put-words c = search needs
+entry-offset-requires : tie.Need-entry-offset-requires
+entry-offset-requires c κs = search needs
 
 cast-put-words : tie.Need-cast-put-words
 cast-put-words c = search needs
@@ -30,9 +30,17 @@ same-length c = search needs
 
 returns : tie.Need-returns
 unfolding placeBytes
-returns c = let k = c .before .before .before in
-    let e = k .before .before in
-    rw (c .before .before .put-words .ensures, k .length-of .ensures, e .kind-in .ensures, e .before .entry-in .ensures, e .before .before .before .pre .1 .0)
+returns c =
+    let k = c .before .before .before in
+    let e = k .before .before .before in
+    rw (
+      c .before .before .put-words .ensures,
+      k .length-of .ensures,
+      k .before .entry-offset .ensures .0,
+      e .kind-in .ensures,
+      e .before .entry-in .ensures,
+      e .before .before .before .pre .1 .0,
+    )
 
 pub put-place-spec : {M : Type 1} → statement M
 put-place-spec =
@@ -40,8 +48,8 @@ put-place-spec =
     (tie.spec
     entry-in-requires
     kind-in-requires
-    mul-put-words
-    add-put-words
+    cast-entry-offset
+    entry-offset-requires
     cast-put-words
     length-of-requires
     put-words-requires

@@ -1,4 +1,4 @@
--- `sheet_writer::put_sheet` meets its contract. Assumes nothing.
+-- By `bodies-length` and `three-puts`, from what the calls ensure. Assumes nothing.
 use native.Mathlib.Omega.{arith}
 use Prim.Native.Nat.{ℕ, _+_, _*_, _≤_}
 use mathlib.Core.Path.{_≡_, sym, ap, _∙_}
@@ -19,6 +19,9 @@ sheet-length-requires c κs = search needs
 
 cast-put-words : tie.Need-cast-put-words
 cast-put-words c = search needs
+
+cast-put-words-2 : tie.Need-cast-put-words-2
+cast-put-words-2 c = search needs
 
 put-words-requires : tie.Need-put-words-requires
 put-words-requires c κs = omega (arith, bodies-length (c .before .before .before .before .args .sheet) (c .before .before .before .before .args .sheet .count))
@@ -62,6 +65,7 @@ put-sheet-spec =
     wide-requires
     sheet-length-requires
     cast-put-words
+    cast-put-words-2
     put-words-requires
     put-directory-requires
     put-bodies-requires

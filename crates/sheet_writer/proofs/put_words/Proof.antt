@@ -1,4 +1,4 @@
--- `sheet_writer::put_words` meets its contract. Assumes nothing.
+-- By `run-starts` and `run-word`, from what the calls ensure. Assumes nothing.
 use mathlib.Core.Path.{_∙_, ap, sym}
 use Prim.Native.Nat.{ℕ}
 use Rattle.words.specs.Words.{le32, putOf}

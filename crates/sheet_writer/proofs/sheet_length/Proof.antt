@@ -1,4 +1,7 @@
--- `sheet_writer::sheet_length` meets its contract. Assumes nothing.
+-- Invariant: `end` is where body i starts (`bodyStart`), at most 248 bytes a body past the
+-- directory. A turn adds the length of body i (`start-next`), which is at most 248. At i = n `end`
+-- is where the last body ends, which is the sheet's length, and with sixteen steps at most 4,240.
+-- The measure is n - i. Assumes nothing.
 use borrow.Author.Needs.{needs}
 use native.Mathlib.Omega.{arith}
 use mathlib.Core.Path.{_≡_, refl, sym, ap, _∙_}
@@ -15,21 +18,18 @@ Inv-loop sheet n end₀ i₀ end i = (i ≤ n) × ((end ≡ bodyStart sheet i) �
 abbrev μ-loop : tie.MeasureT-loop
 μ-loop sheet n end₀ i₀ end i = n - i
 
-mul-end : tie.Need-mul-end Inv-loop μ-loop
-mul-end c = search needs
-
-add-end : tie.Need-add-end Inv-loop μ-loop
-add-end c = search needs
+directory-end-requires : tie.Need-directory-end-requires Inv-loop μ-loop
+directory-end-requires c κs = search needs
 
 loop-holds : tie.Need-loop-holds Inv-loop μ-loop
 unfolding bodyStart
-loop-holds c = (omega arith, (rw (c .pre .1), omega arith))
+loop-holds c = (omega arith, (c .directory-end .ensures .0, omega arith))
 
 length-in-requires : tie.Need-length-in-requires Inv-loop μ-loop
 length-in-requires c κs = search needs
 
-add-end-2 : tie.Need-add-end-2 Inv-loop μ-loop
-add-end-2 c = search needs
+add-end : tie.Need-add-end Inv-loop μ-loop
+add-end c = search needs
 
 add-i : tie.Need-add-i Inv-loop μ-loop
 add-i c = search needs
@@ -39,12 +39,12 @@ loop-less c = search needs
 
 loop-again : tie.Need-loop-again Inv-loop μ-loop
 loop-again c = let l = c .before .before in
-    (omega arith, (omega (arith, start-next (l .before .args .sheet) (l .loop .i)), omega arith))
+    (omega arith, (omega (arith, start-next (l .before .before .args .sheet) (l .loop .i)), omega arith))
 
 returns : tie.Need-returns Inv-loop μ-loop
 returns c = let l = c .before in
-    let all : l .loop .i ≡ l .before .args .sheet .count = omega arith in
-    (l .loop .inv .1 .0 ∙ ap (bodyStart (l .before .args .sheet)) all, omega arith)
+    let all : l .loop .i ≡ l .before .before .args .sheet .count = omega arith in
+    (l .loop .inv .1 .0 ∙ ap (bodyStart (l .before .before .args .sheet)) all, omega arith)
 
 pub sheet-length-spec : {M : Type 1} → statement M
 sheet-length-spec =
@@ -52,11 +52,10 @@ sheet-length-spec =
     (tie.spec
     Inv-loop
     μ-loop
-    mul-end
-    add-end
+    directory-end-requires
     loop-holds
     length-in-requires
-    add-end-2
+    add-end
     add-i
     loop-less
     loop-again

@@ -1,7 +1,8 @@
--- `sheet_writer::write` meets its contract. Assumes nothing.
+-- One case for each way through the tests. Each by `accepted-record`, from what the calls ensure.
+-- Assumes nothing.
 use mathlib.Core.Path.{_≡_, sym, _∙_}
 use borrow.Author.Tests.{eq-eqb, ne-eqb}
-use Rattle.sheet_writer.specs.Rules.{writtenOf}
+use Rattle.sheet_writer.specs.Rules.{roomAfterOf}
 use Rattle.sheet_writer.proofs.WriterOrder.{accepted-record}
 use borrow.Author.Needs.{needs}
 use Rattle.sheet_writer.proofs.write.Statement.{statement}
@@ -11,7 +12,7 @@ check-record-requires : tie.Need-check-record-requires
 check-record-requires c κs = search needs
 
 returns : tie.Need-returns
-unfolding writtenOf
+unfolding roomAfterOf
 returns c = (c .before .before .check-record .ensures, rw (← c .before .before .check-record .ensures, ne-eqb _ _ (c .if1 .taken)))
 
 put-sheet-requires : tie.Need-put-sheet-requires
@@ -23,7 +24,7 @@ same-length : tie.Need-same-length
 same-length c = search needs
 
 returns-2 : tie.Need-returns-2
-unfolding writtenOf
+unfolding roomAfterOf
 returns-2 c =
     let o = c .before .before .before .before .before .before in
     (o .check-record .ensures, rw (c .before .before .put-sheet .ensures, ← o .check-record .ensures, eq-eqb _ _ (c .before .before .before .before .if1 .left)))

@@ -1,4 +1,4 @@
--- `shift::main` meets its contract. Assumes nothing.
+-- By `place-within`, from what the calls ensure. Assumes nothing.
 use mathlib.Core.Path.{sym}
 use lib.Seq.{length-take-le}
 use Rattle.text.proofs.Laws.{place-within}

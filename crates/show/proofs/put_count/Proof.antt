@@ -1,4 +1,4 @@
--- `show::put_count` meets its contract. Assumes nothing.
+-- Calls are replaced by what they ensure; the definition is left. Assumes nothing.
 use borrow.Author.Needs.{needs}
 use Rattle.show.proofs.put_count.Statement.{statement}
 use Rattle.show.proofs.put_count.Tie as tie

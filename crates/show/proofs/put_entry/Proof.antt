@@ -1,4 +1,4 @@
--- `show::put_entry` meets its contract. Assumes nothing.
+-- By `then`, from what the calls ensure. Assumes nothing.
 use Rattle.text.proofs.Laws.{then}
 use Rattle.show.specs.Show.{entryText}
 use borrow.Author.Needs.{needs}

@@ -1,39 +1,57 @@
--- `show::put_head` meets its contract. Assumes nothing.
+-- The header's four words, one after another. Assumes nothing.
+use Rattle.text.proofs.Laws.{then}
 use Rattle.show.specs.Show.{headText}
 use borrow.Author.Needs.{needs}
 use Rattle.show.proofs.put_head.Statement.{statement}
 use Rattle.show.proofs.put_head.Tie as tie
 
-read32-requires : tie.Need-read32-requires
-read32-requires c κs = search needs
+slice-aggregate-put-head-word : tie.Need-slice-aggregate-put-head-word
+slice-aggregate-put-head-word c = search needs
 
-read32-requires-2 : tie.Need-read32-requires-2
-read32-requires-2 c κs = search needs
+put-head-word-requires : tie.Need-put-head-word-requires
+put-head-word-requires c κs = search needs
 
-read32-requires-3 : tie.Need-read32-requires-3
-read32-requires-3 c κs = search needs
+slice-aggregate-put-head-word-2 : tie.Need-slice-aggregate-put-head-word-2
+slice-aggregate-put-head-word-2 c = search needs
 
-read32-requires-4 : tie.Need-read32-requires-4
-read32-requires-4 c κs = search needs
+put-head-word-requires-2 : tie.Need-put-head-word-requires-2
+put-head-word-requires-2 c κs = search needs
 
-put-header-requires : tie.Need-put-header-requires
-put-header-requires c κs = search needs
+slice-aggregate-put-head-word-3 : tie.Need-slice-aggregate-put-head-word-3
+slice-aggregate-put-head-word-3 c = search needs
+
+put-head-word-requires-3 : tie.Need-put-head-word-requires-3
+put-head-word-requires-3 c κs = search needs
+
+slice-aggregate-put-head-word-4 : tie.Need-slice-aggregate-put-head-word-4
+slice-aggregate-put-head-word-4 c = search needs
+
+put-head-word-requires-4 : tie.Need-put-head-word-requires-4
+put-head-word-requires-4 c κs = search needs
 
 same-length : tie.Need-same-length
 same-length c = search needs
 
 returns : tie.Need-returns
 unfolding headText
-returns c = rw (← c .before .before .before .before .before .before .before .read32 .ensures, ← c .before .before .before .before .before .before .read322 .ensures, ← c .before .before .before .before .before .read323 .ensures, ← c .before .before .before .before .read324 .ensures) (c .before .before .put-header .ensures)
+returns c =
+    then _ _ _
+    (then _ _ _
+    (then _ _ _ (c .before .before .before .before .before .before .before .before .before .before .before .before .before .before .before .before .before .put-head-word .ensures) (c .before .before .before .before .before .before .before .before .before .before .before .before .put-head-word2 .ensures))
+    (c .before .before .before .before .before .before .before .put-head-word3 .ensures))
+    (c .before .before .put-head-word4 .ensures)
 
 pub put-head-spec : {M : Type 1} → statement M
 put-head-spec =
     tie.close
     (tie.spec
-    read32-requires
-    read32-requires-2
-    read32-requires-3
-    read32-requires-4
-    put-header-requires
+    slice-aggregate-put-head-word
+    put-head-word-requires
+    slice-aggregate-put-head-word-2
+    put-head-word-requires-2
+    slice-aggregate-put-head-word-3
+    put-head-word-requires-3
+    slice-aggregate-put-head-word-4
+    put-head-word-requires-4
     same-length
     returns)

@@ -1,4 +1,4 @@
--- `show::put_line` meets its contract. Assumes nothing.
+-- By `then`, from what the calls ensure. Assumes nothing.
 use Rattle.text.proofs.Laws.{then}
 use Rattle.show.specs.Show.{lineOf}
 use borrow.Author.Needs.{needs}

@@ -1,4 +1,4 @@
--- `show::put_number` meets its contract. Assumes nothing.
+-- Calls are replaced by what they ensure; the definition is left. Assumes nothing.
 use borrow.Author.Needs.{needs}
 use Rattle.show.proofs.put_number.Statement.{statement}
 use Rattle.show.proofs.put_number.Tie as tie

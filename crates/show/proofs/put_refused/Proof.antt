@@ -1,4 +1,5 @@
--- `show::put_refused` meets its contract. Assumes nothing.
+-- One case for each way through the tests. Each by `then`, from what the calls ensure.
+-- Assumes nothing.
 use borrow.Author.Tests.{eq-eqb, ne-eqb}
 use Rattle.text.proofs.Laws.{then}
 use Rattle.show.specs.Show.{refusedText}
@@ -19,11 +20,8 @@ returns : tie.Need-returns
 unfolding refusedText
 returns c = rw (eq-eqb _ _ (c .before .before .before .before .if1 .taken)) (then _ _ _ (c .before .before .before .before .before .before .before .put-answer .ensures) (c .before .before .put-sheet-place .ensures))
 
-sub-wide : tie.Need-sub-wide
-sub-wide c = search needs
-
-wide-requires : tie.Need-wide-requires
-wide-requires c κs = search needs
+sub-put-step-place : tie.Need-sub-put-step-place
+sub-put-step-place c = search needs
 
 put-step-place-requires : tie.Need-put-step-place-requires
 put-step-place-requires c κs = search needs
@@ -33,7 +31,9 @@ same-length-2 c = search needs
 
 returns-2 : tie.Need-returns-2
 unfolding refusedText
-returns-2 c = rw (ne-eqb _ _ (c .before .before .before .before .before .if1 .left), ← c .before .before .before .wide .ensures .0) (then _ _ _ (c .before .before .before .before .before .before .before .before .put-answer .ensures) (c .before .before .put-step-place .ensures))
+returns-2 c =
+    rw (ne-eqb _ _ (c .before .before .before .before .if1 .left))
+    (then _ _ _ (c .before .before .before .before .before .before .before .put-answer .ensures) (c .before .before .put-step-place .ensures))
 
 pub put-refused-spec : {M : Type 1} → statement M
 put-refused-spec =
@@ -43,8 +43,7 @@ put-refused-spec =
     put-sheet-place-requires
     same-length
     returns
-    sub-wide
-    wide-requires
+    sub-put-step-place
     put-step-place-requires
     same-length-2
     returns-2)

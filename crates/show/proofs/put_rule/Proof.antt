@@ -1,4 +1,5 @@
--- `show::put_rule` meets its contract. Assumes nothing.
+-- One case for each way through the tests. Calls are replaced by what they ensure; the definition
+-- is left. Assumes nothing.
 use borrow.Author.Tests.{ne-eqb}
 use Rattle.show.specs.Show.{ruleText}
 use borrow.Author.Needs.{needs}

@@ -1,21 +1,18 @@
--- `show::put_step_place` meets its contract. Assumes nothing.
+-- The two places, then the step itself. Assumes nothing.
 use Rattle.text.proofs.Laws.{then}
 use Rattle.show.specs.Show.{stepPlace}
 use borrow.Author.Needs.{needs}
 use Rattle.show.proofs.put_step_place.Statement.{statement}
 use Rattle.show.proofs.put_step_place.Tie as tie
 
-mul-place : tie.Need-mul-place
-mul-place c = search needs
+wide-requires : tie.Need-wide-requires
+wide-requires c κs = search needs
 
-add-place : tie.Need-add-place
-add-place c = search needs
+entry-offset-requires : tie.Need-entry-offset-requires
+entry-offset-requires c κs = search needs
 
-add-read32 : tie.Need-add-read32
-add-read32 c = search needs
-
-read32-requires : tie.Need-read32-requires
-read32-requires c κs = search needs
+offset-at-requires : tie.Need-offset-at-requires
+offset-at-requires c κs = search needs
 
 slice-aggregate-put-line : tie.Need-slice-aggregate-put-line
 slice-aggregate-put-line c = search needs
@@ -37,16 +34,21 @@ same-length c = search needs
 
 returns : tie.Need-returns
 unfolding stepPlace
-returns c = rw (← c .before .before .before .before .before .before .before .before .before .before .before .before .before .before .read32 .ensures) (then _ _ _ (then _ _ _ (c .before .before .before .before .before .before .before .before .before .before .before .put-line .ensures) (c .before .before .before .before .before .before .put-word .ensures)) (c .before .before .put-step .ensures))
+returns c =
+    let o = c .before .before .before .before .before .before .before .before .before .before .before .before .before .before in
+    let index = o .before .before .wide .ensures .0 in
+    let body = rw index at (o .offset-at .ensures) in
+    rw (← body, ← o .before .entry-offset .ensures .0, ← index)
+    (then _ _ _ (then _ _ _ (c .before .before .before .before .before .before .before .before .before .before .before .put-line .ensures) (c .before .before .before .before .before .before .put-word .ensures))
+    (c .before .before .put-step .ensures))
 
 pub put-step-place-spec : {M : Type 1} → statement M
 put-step-place-spec =
     tie.close
     (tie.spec
-    mul-place
-    add-place
-    add-read32
-    read32-requires
+    wide-requires
+    entry-offset-requires
+    offset-at-requires
     slice-aggregate-put-line
     put-line-requires
     slice-aggregate-put-word

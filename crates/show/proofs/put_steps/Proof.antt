@@ -1,4 +1,8 @@
--- `show::put_steps` meets its contract. Assumes nothing.
+-- Invariant: the text so far, with the steps from i on appended, is the text with all n steps
+-- appended (`Going`, `stepsText`). A turn appends step i (`next-step`, `going-on`). With no step
+-- left nothing is left to append (`no-step`, `going-ends`). The empty piece in front only brings p
+-- within the room (`place-within`), and `then` joins it to the steps. The measure is n - i.
+-- Assumes nothing.
 use borrow.Author.Needs.{needs}
 use native.Mathlib.Omega.{arith}
 use mathlib.Core.Path.{_≡_, _∙_}

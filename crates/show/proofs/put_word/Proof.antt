@@ -1,4 +1,4 @@
--- `show::put_word` meets its contract. Assumes nothing.
+-- Calls are replaced by what they ensure; the definition is left. Assumes nothing.
 use Rattle.show.specs.Show.{lineOf}
 use borrow.Author.Needs.{needs}
 use Rattle.show.proofs.put_word.Statement.{statement}

@@ -1,4 +1,4 @@
--- `sillfeather::add` meets its contract. Assumes nothing.
+-- Calls are replaced by what they ensure; the definition is left. Assumes nothing.
 use mathlib.Core.Path.{ap}
 use Rattle.sillfeather.specs.Codes.{madeOf}
 use borrow.Author.Needs.{needs}

@@ -1,4 +1,7 @@
--- `sillfeather::narrow` meets its contract. Assumes nothing.
+-- Invariant: `out` has sixteen elements, and its first i are the first i counts. A turn copies one
+-- count, which 32 bits hold by `Small`, and so one element more is the count (`take-suc-set`,
+-- `take-suc`). At i = 16 the two arrays are equal (`take-all`). The measure is 16 - i.
+-- Assumes nothing.
 use borrow.Author.Needs.{needs}
 use native.Mathlib.Omega.{arith}
 use mathlib.Core.Path.{_≡_, refl, sym, ap, _∙_}

@@ -1,4 +1,4 @@
--- `sillfeather::sillfeather_add_helmert` meets its contract. Assumes nothing.
+-- Calls are replaced by what they ensure; the definition is left. Assumes nothing.
 use mathlib.Core.Path.{_∙_}
 use borrow.Author.Needs.{needs}
 use Rattle.sillfeather.proofs.sillfeather_add_helmert.Statement.{statement}

@@ -1,4 +1,4 @@
--- `sillfeather::sillfeather_check` meets its contract. Assumes nothing.
+-- Calls are replaced by what they ensure; the definition is left. Assumes nothing.
 use borrow.Author.Needs.{needs}
 use Rattle.sillfeather.proofs.sillfeather_check.Statement.{statement}
 use Rattle.sillfeather.proofs.sillfeather_check.Tie as tie

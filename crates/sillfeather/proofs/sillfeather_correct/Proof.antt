@@ -1,4 +1,4 @@
--- `sillfeather::sillfeather_correct` meets its contract. Assumes nothing.
+-- Calls are replaced by what they ensure; the definition is left. Assumes nothing.
 use mathlib.Core.Path.{ap, _∙_}
 use Rattle.sillfeather.specs.Codes.{correctedOf}
 use borrow.Author.Needs.{needs}

@@ -1,4 +1,4 @@
--- `sillfeather::sillfeather_shift` meets its contract. Assumes nothing.
+-- By `shift-counts-fit`, from what the calls ensure. Assumes nothing.
 use mathlib.Core.Path.{ap}
 use Rattle.sillfeather.specs.Codes.{handedOf}
 use Rattle.sillfeather.proofs.Fit.{shift-counts-fit}

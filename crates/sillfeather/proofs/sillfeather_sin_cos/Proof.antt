@@ -1,4 +1,4 @@
--- `sillfeather::sillfeather_sin_cos` meets its contract. Assumes nothing.
+-- Calls are replaced by what they ensure; the definition is left. Assumes nothing.
 use borrow.Author.Needs.{needs}
 use Rattle.sillfeather.proofs.sillfeather_sin_cos.Statement.{statement}
 use Rattle.sillfeather.proofs.sillfeather_sin_cos.Tie as tie

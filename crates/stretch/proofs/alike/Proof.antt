@@ -1,4 +1,4 @@
--- `stretch::alike` meets its contract. Assumes nothing.
+-- Calls are replaced by what they ensure; the definition is left. Assumes nothing.
 use borrow.Author.Needs.{needs}
 use Rattle.stretch.specs.Same.{alikeOf}
 use Rattle.stretch.proofs.alike.Statement.{statement}

@@ -1,4 +1,4 @@
--- `stretch::alike_number` meets its contract. Assumes nothing.
+-- By `same-bits-are-alike`, from what the calls ensure. Assumes nothing.
 use borrow.Author.Needs.{needs}
 use mathlib.Core.Path.{_∙_}
 use Rattle.stretch.proofs.Data.{same-bits-are-alike}

@@ -1,4 +1,5 @@
--- `stretch::before` meets its contract. Assumes nothing.
+-- One case for each way through the tests. Each by `before-first`, `before-running` and
+-- `before-else`, from what the calls ensure. Assumes nothing.
 use borrow.Author.Needs.{needs}
 use mathlib.Core.Path.{sym, ap, _∙_}
 use Rattle.stretch.specs.Kept.{heldOf}

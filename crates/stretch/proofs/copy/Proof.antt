@@ -1,4 +1,6 @@
--- `stretch::copy` meets its contract. Assumes nothing.
+-- Invariant: the results are as long as the list and equal to it before i (`Copied`). A turn copies
+-- one number (`copied-again`), and at the list's length the two are equal (`copied-end`). The
+-- measure is the list's length less i. Assumes nothing.
 use Prim.Native.Nat.{_-_}
 use borrow.Author.Needs.{needs}
 use lib.ListN.{length}

@@ -1,4 +1,4 @@
--- `stretch::fits` meets its contract. Assumes nothing.
+-- By computation: the body's operations are the definition's, in its order. Assumes nothing.
 use mathlib.Core.Path.{refl}
 use Rattle.stretch.specs.Kept.{fitOf}
 use Rattle.stretch.proofs.fits.Statement.{statement}

@@ -1,4 +1,5 @@
--- `stretch::fresh` meets its contract. Assumes nothing.
+-- One case for each way through the tests. Each by `fit`, `fresh-fits` and `fresh-unfit`, from what
+-- the calls ensure. Assumes nothing.
 use borrow.Author.Needs.{needs}
 use mathlib.Core.Path.{sym, _∙_}
 use Rattle.stretch.proofs.Fit.{fit, fresh-fits, fresh-unfit}

@@ -1,4 +1,4 @@
--- `stretch::put_and_redo` meets its contract. Assumes nothing.
+-- Calls are replaced by what they ensure; the definition is left. Assumes nothing.
 use borrow.Author.Needs.{needs}
 use mathlib.Core.Path.{_∙_}
 use Rattle.stretch.specs.Kept.{correctedOf}

@@ -1,4 +1,5 @@
--- `stretch::put_right` meets its contract. Assumes nothing.
+-- One case for each way through the tests. Each by `right-there`, `right-nowhere` and `fix-there`,
+-- from what the calls ensure. Assumes nothing.
 use borrow.Author.Needs.{needs}
 use mathlib.Core.Path.{sym, _∙_}
 use Rattle.stretch.proofs.Fit.{right-there, right-nowhere, fix-there}

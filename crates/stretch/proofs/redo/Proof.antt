@@ -1,4 +1,9 @@
--- `stretch::redo` meets its contract: at each place, what is redone and what is left to redo are the redoing from the index on. Assumes nothing.
+-- Invariant: the n fixes redone before i, with the redoing of the rest from the current state, are
+-- the redoing from the index on (`Redoing`). A turn redoes the fix at i; where the carried state is
+-- not the kept one it goes on (`redoing-again`), and where it is, nothing more is to be redone
+-- (`redoing-stop`). At the list's end nothing is left to redo (`redoing-end`). In each case
+-- `again-redoes` turns what is written into the contract's `redoOf`, which writes the run of the
+-- rest as far as the stretch goes. The measure is what is left of the list. Assumes nothing.
 use Prim.Native.Nat.{_*_, _-_}
 use borrow.Author.Needs.{needs}
 use native.Mathlib.Omega.{arith}
@@ -6,7 +11,7 @@ use mathlib.Core.Path.{sym, ap, _∙_}
 use lib.ListN.{length}
 use Rattle.helmert.specs.declared.Stepped.{Stepped}
 use Rattle.stretch.specs.Kept.{trackedOf}
-use Rattle.helmert_turns.specs.Turns.{helmertTurns}
+use Rattle.helmert.specs.Turns.{helmertTurns}
 use Rattle.stretch.proofs.Again.{Redoing, redoing-start, redoing-again, redoing-stop, redoing-end, redoing-results-long, redoing-track-long}
 use Rattle.stretch.proofs.Stretch.{again-redoes}
 use Rattle.stretch.proofs.redo.Statement.{statement}

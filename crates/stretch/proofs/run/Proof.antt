@@ -1,4 +1,4 @@
--- `stretch::run` meets its contract. Assumes nothing.
+-- By `run-is-fresh`, from what the calls ensure. Assumes nothing.
 use borrow.Author.Needs.{needs}
 use Rattle.stretch.proofs.Afresh.{run-is-fresh}
 use Rattle.stretch.proofs.run.Statement.{statement}

@@ -1,4 +1,8 @@
--- `stretch::track_running` meets its contract. Assumes nothing.
+-- Invariant: the track before i, followed by the track of the rest from the current state, is the
+-- track of the whole list (`Tracking`). A turn moves the state on to the fix's time, which is the
+-- definition's state because the mode is running (`running-moves`), and writes it
+-- (`tracking-again`). The list has whole fixes only, so at the end the track is complete
+-- (`tracking-end`). The measure is what is left of the list. Assumes nothing.
 use Prim.Native.Nat.{_-_}
 use borrow.Author.Needs.{needs}
 use native.Mathlib.Omega.{arith}

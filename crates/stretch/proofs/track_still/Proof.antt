@@ -1,4 +1,8 @@
--- `stretch::track_still` meets its contract. Assumes nothing.
+-- Invariant: the track before i, followed by the track of the rest from the sheet's start, is the
+-- track of the whole list (`Tracking`). A turn writes the start's state, which is the definition's
+-- because a mode that is not running leaves the state (`still-stays`, `tracking-again`). The list
+-- has whole fixes only, so at the end the track is complete (`tracking-end`). The measure is what
+-- is left of the list. Assumes nothing.
 use Prim.Native.Nat.{_-_}
 use borrow.Author.Needs.{needs}
 use native.Mathlib.Omega.{arith}

@@ -1,4 +1,5 @@
--- `stretch::write_track` meets its contract. Assumes nothing.
+-- One case for each return. Calls are replaced by what they ensure; the definition is left.
+-- Assumes nothing.
 use borrow.Author.Needs.{needs}
 use mathlib.Core.Path.{sym, _∙_}
 use Rattle.stretch.proofs.write_track.Statement.{statement}

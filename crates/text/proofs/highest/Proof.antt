@@ -1,4 +1,8 @@
--- `text::highest` meets its contract. Assumes nothing.
+-- Invariant: counted up to `places`, n has as many digits as counted up to 20 (`placesOf`), and
+-- `worth` is what the highest of `places` digits is worth. Where n is at least `worth`, it has that
+-- many digits (`found`); where it is below, a turn takes one digit off (`missed`) and divides
+-- `worth` by ten (`next-worth`). At one digit the search ends, because every number has one
+-- (`one-place`). The measure is `places`. Assumes nothing.
 use borrow.Author.Needs.{needs}
 use mathlib.Core.Path.{_≡_, refl, sym, _∙_}
 use Prim.Native.Nat.{_<_, _-_, _^_, _/_}

@@ -1,4 +1,4 @@
--- `text::put_byte` meets its contract. Assumes nothing.
+-- One case for each return. Each by `one` and `full`. Assumes nothing.
 use Rattle.text.proofs.Laws.{one, full}
 use borrow.Author.Needs.{needs}
 use Rattle.text.proofs.put_byte.Statement.{statement}

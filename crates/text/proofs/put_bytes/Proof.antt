@@ -1,4 +1,8 @@
--- `text::put_bytes` meets its contract. Assumes nothing.
+-- Invariant: the text so far, with the bytes from i on appended, is the text with all bytes
+-- appended (`Going`); at the start `within` brings `place` within the room, which changes nothing
+-- (`going-starts`). A turn appends byte i, the first of the rest (`drop-cons`, `going-on`). At the
+-- length of the bytes nothing is left (`going-ends`). The measure is that length less i.
+-- Assumes nothing.
 use mathlib.Core.Path.{sym, ap, _∙_}
 use mathlib.Core.List.{_∷_}
 use Prim.Native.Nat.{ℕ}

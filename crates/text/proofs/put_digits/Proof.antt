@@ -1,4 +1,8 @@
--- `text::put_digits` meets its contract. Assumes nothing.
+-- Invariant: the text so far, with the last `left` digits of n appended, is the text with all k
+-- digits appended (`Going`, `digitsOf`), and `worth` is what the highest of those left is worth. It
+-- is not 0, so that dividing by it is defined (`worth-something`). A turn appends that digit
+-- (`highest-first`, `going-on`) and divides `worth` by the base (`next-worth`). With no digit left
+-- the text is complete (`no-digits`, `going-ends`). The measure is `left`. Assumes nothing.
 use native.Mathlib.Omega.{arith}
 use native.Mathlib.Nat.{mod-lt}
 use borrow.Author.Needs.{needs}

@@ -1,4 +1,4 @@
--- `text::put_hex` meets its contract. Assumes nothing.
+-- Calls are replaced by what they ensure; the definition is left. Assumes nothing.
 use mathlib.Core.Path.{refl}
 use Rattle.text.specs.Digits.{hexOf}
 use borrow.Author.Needs.{needs}

@@ -1,4 +1,4 @@
--- `thin::begin` meets its contract. Assumes nothing.
+-- Calls are replaced by what they ensure; the definition is left. Assumes nothing.
 use borrow.Author.Needs.{needs}
 use Rattle.thin.proofs.begin.Statement.{statement}
 use Rattle.thin.proofs.begin.Tie as tie

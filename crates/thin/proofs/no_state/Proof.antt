@@ -1,4 +1,4 @@
--- `thin::no_state` meets its contract. Assumes nothing.
+-- By `zero-over-zero`. Assumes nothing.
 use Rattle.floats.proofs.Nan.{zero-over-zero}
 use Rattle.thin.proofs.no_state.Statement.{statement}
 use Rattle.thin.proofs.no_state.Tie as tie

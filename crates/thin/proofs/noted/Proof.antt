@@ -1,4 +1,4 @@
--- `thin::noted` meets its contract. Assumes nothing.
+-- By computation: the body's operations are the definition's, in its order. Assumes nothing.
 use Rattle.thin.specs.Sheets.{notedOf}
 use mathlib.Core.Path.{refl}
 use borrow.Author.Needs.{needs}

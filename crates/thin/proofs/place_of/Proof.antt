@@ -1,4 +1,4 @@
--- `thin::place_of` meets its contract. Assumes nothing.
+-- One case for each way through the tests. The facts at hand are what is asked. Assumes nothing.
 use borrow.Author.Needs.{needs}
 use Rattle.thin.proofs.place_of.Statement.{statement}
 use Rattle.thin.proofs.place_of.Tie as tie

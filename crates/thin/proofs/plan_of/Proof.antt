@@ -1,4 +1,5 @@
--- `thin::plan_of` meets its contract. Assumes nothing.
+-- One case for each way through the tests. Calls are replaced by what they ensure; the definition
+-- is left. Assumes nothing.
 use Rattle.thin.specs.Plans.{planOf}
 use borrow.Author.Needs.{needs}
 use Rattle.thin.proofs.plan_of.Statement.{statement}

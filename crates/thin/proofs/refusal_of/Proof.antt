@@ -1,4 +1,5 @@
--- `thin::refusal_of` meets its contract. Assumes nothing.
+-- One case for each way through the tests. Each by `own-first`, `too-many`, `lent-wrong` and
+-- `nothing-wrong`, from what the calls ensure. Assumes nothing.
 use mathlib.Core.Path.{sym, _∙_}
 use Rattle.thin.specs.Sheets.{thinRefusalOf}
 use Rattle.thin.proofs.Laws.{own-first, too-many, lent-wrong, nothing-wrong}
@@ -13,12 +14,12 @@ returns : tie.Need-returns
 unfolding thinRefusalOf
 returns c = rw (← c .before .before .check .ensures) (sym (own-first (c .before .before .check .result) _ _ _ _ (c .if1 .taken)))
 
-of-lists-requires : tie.Need-of-lists-requires
-of-lists-requires c κs = search needs
+of-call-requires : tie.Need-of-call-requires
+of-call-requires c κs = search needs
 
 returns-2 : tie.Need-returns-2
 unfolding thinRefusalOf
-returns-2 c = rw (c .of-lists .ensures, ← c .before .before .before .before .check .ensures) (sym (too-many (c .before .before .before .before .check .result) _ _ _ _ (c .before .before .if1 .left) (c .before .if2 .taken)))
+returns-2 c = rw (c .of-call .ensures, ← c .before .before .before .before .check .ensures) (sym (too-many (c .before .before .before .before .check .result) _ _ _ _ (c .before .before .if1 .left) (c .before .if2 .taken)))
 
 has-deformation-requires : tie.Need-has-deformation-requires
 has-deformation-requires c κs = search needs
@@ -29,12 +30,12 @@ mul-lent-broken c = search needs
 lent-broken-requires : tie.Need-lent-broken-requires
 lent-broken-requires c κs = search needs
 
-of-lists-requires-2 : tie.Need-of-lists-requires-2
-of-lists-requires-2 c κs = search needs
+of-call-requires-2 : tie.Need-of-call-requires-2
+of-call-requires-2 c κs = search needs
 
 returns-3 : tie.Need-returns-3
 unfolding thinRefusalOf
-returns-3 c = rw (c .of-lists2 .ensures, ← c .before .before .before .before .before .before .before .check .ensures) (sym (lent-wrong (c .before .before .before .before .before .before .before .check .result) _ _ _ _ (c .before .before .before .before .before .if1 .left) (c .before .before .before .before .if2 .left) (sym (rw (c .before .before .before .has-deformation .ensures) at (c .before .before .lent-broken .ensures)) ∙ c .before .if3 .taken)))
+returns-3 c = rw (c .of-call2 .ensures, ← c .before .before .before .before .before .before .before .check .ensures) (sym (lent-wrong (c .before .before .before .before .before .before .before .check .result) _ _ _ _ (c .before .before .before .before .before .if1 .left) (c .before .before .before .before .if2 .left) (sym (rw (c .before .before .before .has-deformation .ensures) at (c .before .before .lent-broken .ensures)) ∙ c .before .if3 .taken)))
 
 none-requires : tie.Need-none-requires
 none-requires c κs = search needs
@@ -49,12 +50,12 @@ refusal-of-spec =
     (tie.spec
     check-requires
     returns
-    of-lists-requires
+    of-call-requires
     returns-2
     has-deformation-requires
     mul-lent-broken
     lent-broken-requires
-    of-lists-requires-2
+    of-call-requires-2
     returns-3
     none-requires
     returns-4)

@@ -1,7 +1,9 @@
--- `thin::run_step` meets its contract: a walk of its MIR, by hand. The plan and what the loop starts with come from two calls; then the list's borrow is opened, and
--- each turn takes one tuple out of the row, passes it to `turn`, and puts what that made in its place. The invariant is `Laws.antt`'s `Walked`. The velocities and
--- the marks are lent on to `turn` at their own lifetimes: what a `&` owns is had twice, and the tokens come back.
--- All that the proof knows of the functions it calls is that they meet their contracts. Assumes nothing.
+-- A walk of its MIR, by hand. The plan and what the loop starts with come from two calls; then the
+-- list's borrow is opened, and each turn takes one tuple out of the row, passes it to `turn`, and
+-- puts what that made in its place. The invariant is `Laws.antt`'s `Walked`. The velocities and the
+-- marks are lent on to `turn` at their own lifetimes: what a `&` owns is had twice, and the tokens
+-- come back. All that the proof knows of the functions it calls is that they meet their contracts.
+-- Assumes nothing.
 use mathlib.Core.Path.{_≡_, refl, sym, ap, subst, _∙_}
 use Prim.Native.Nat.{ℕ, _<_, _≤_, _^_, _*_, _+_, _-_}
 use native.Mathlib.Omega.{arith}
@@ -267,11 +269,11 @@ module _ {M : Type 1} (𝓤 : URA M) (H : Heap 𝓤) (A : Atoms 𝓤) (W : Given
   abbrev Tokens : Item 𝓤
   Tokens = ‵ (flft κ₁ q₁) ⊛ ‵ (flft κ₂ q₂) ⊛ ‵ ftrue
 
-  abbrev Kept : Item 𝓤
-  Kept = ‵ OwnV ⊛ ‵ OwnM
+  abbrev LentLists : Item 𝓤
+  LentLists = ‵ OwnV ⊛ ‵ OwnM
 
   abbrev Lent : Item 𝓤
-  Lent = Tokens ⊛ Kept
+  Lent = Tokens ⊛ LentLists
 
   module _ (plan : Plan) (pv : Val) (p-is : Is P.the-row plan (pv ∷ [])) (at : Carried) (i : ℕ) (u : Tuple) where
     abbrev to-turn : TurnOf 𝓤 H A mem run .Ghost
@@ -288,7 +290,7 @@ module _ {M : Type 1} (𝓤 : URA M) (H : Heap 𝓤) (A : Atoms 𝓤) (W : Given
 
     -- what `turn` asks is had of what is lent, and what the two slices own is kept
     asks-turn : Is C.the-row at (carried-val at ∷ []) → i < 2 ^ 64 → Is T.the-row u (tuple-val u ∷ []) → at .counted < 18446744073709551615
-        → ent 𝓤 (mean 𝓤 H A Lent) (sep 𝓤 (TurnOf 𝓤 H A mem run .pre to-turn) (mean 𝓤 H A Kept))
+        → ent 𝓤 (mean 𝓤 H A Lent) (sep 𝓤 (TurnOf 𝓤 H A mem run .pre to-turn) (mean 𝓤 H A LentLists))
     asks-turn c-is i-fits u-is few =
         qed W (Lent ∷ []) ∵ split ! $ move ! (1 ∷ []) $ split ! $
         use1 W (‵ OwnV ⊛ ‵ OwnV) (shr-slice-copy 𝓤 H A W (named 1) κ₁ f64 .twice velocities (vv ∷ [])) $ split ! $ move ! (2 ∷ []) $
@@ -337,7 +339,7 @@ module _ {M : Type 1} (𝓤 : URA M) (H : Heap 𝓤) (A : Atoms 𝓤) (W : Given
   lent = Lent 𝓤 H A W mem run κ₁ κ₂ q₁ q₂ velocities marks
 
   abbrev kept : Item 𝓤
-  kept = Kept 𝓤 H A W mem run κ₁ κ₂ q₁ q₂ velocities marks
+  kept = LentLists 𝓤 H A W mem run κ₁ κ₂ q₁ q₂ velocities marks
 
   abbrev tokens : Item 𝓤
   tokens = Tokens 𝓤 H A W mem run κ₁ κ₂ q₁ q₂ velocities marks
@@ -437,11 +439,13 @@ module _ {M : Type 1} (𝓤 : URA M) (H : Heap 𝓤) (A : Atoms 𝓤) (W : Given
           assigns ! (bin ! (load ! (from ! (fld ! refl (stop !))) (look-in ! 31 (sub ! 0 refl (whole !)))) (load ! (from ! (stop !)) (look ! 13 refl)) tt) (from ! (stop !)) (init ! 9 refl (tt, tt)) $
           rewrite ! 9 (λ (p : ℕ). ‵ (fat fullShare tyPtr l₁₂ 0 (vptr b p))) (sym (place-is 32 o (t .i))) refl $
           elem-out ! T.the-row (Is T.the-row) (shows 𝓤 H A T.the-row) (λ u. tuple-val u ∷ []) (T′.lowers .val-is) fullShare (t .zs) (t .i) nanTuple b o within (λ g.
-          -- [list[i]; what it owns; the others; the open borrow; obs; auth; what is lent; _14 at 7; _13; _12; _11; _10; _9; _8; _7; _6; _5; _4; _3; _2; _1; _0 at 35]
+          -- [list[i]; what it owns; the others; the open borrow; obs; auth; what is lent; _14 at 7;
+          -- _13; _12; _11; _10; _9; _8; _7; _6; _5; _4; _3; _2; _1; _0 at 35]
           assigns ! (of-opd ! (load ! (from ! (hop ! (look ! 11 refl) (stop !))) (look-raw ! 0 {τ = T′.mir} refl))) (from ! (stop !)) (init ! 9 refl (tuple-typed 𝓤 H A W u _ g)) $
           move ! (1 ∷ []) $ drop ! $ move ! (5 ∷ []) $
           use1 W (raw (TurnOf 𝓤 H A mem run .pre (to-turn 𝓤 H A W mem run κ₁ κ₂ q₁ q₂ velocities marks plan pv p-is (t .at) (t .i) u)) ⊛ kept) (asks-turn 𝓤 H A W mem run κ₁ κ₂ q₁ q₂ velocities marks plan pv p-is (t .at) (t .i) u (t .is) i-fits g few) $ split ! $
-          -- [what `turn` asks; what the slices own; list[i]; the others; the open borrow; obs; auth; _14 at 7; ..]
+          -- [what `turn` asks; what the slices own; list[i]; the others; the open borrow; obs;
+          -- auth; _14 at 7; ..]
           calls-at ! fm (TurnOf 𝓤 H A mem run) known (to-turn 𝓤 H A W mem run κ₁ κ₂ q₁ q₂ velocities marks plan pv p-is (t .at) (t .i) u)
           (and-then ! (load ! (from ! (stop !)) (look ! 23 refl)) (and-then ! (load ! (from ! (stop !)) (look ! 21 refl)) (and-then ! (load ! (from ! (stop !)) (look ! 19 refl))
           (and-then ! (load ! (from ! (stop !)) (look ! 9 refl)) (and-then ! (load ! (from ! (stop !)) (look ! 27 refl)) (and-then ! (load ! (from ! (stop !)) (look ! 25 refl)) (no-more !))))))) (λ v.
@@ -449,7 +453,8 @@ module _ {M : Type 1} (𝓤 : URA M) (H : Heap 𝓤) (A : Atoms 𝓤) (W : Given
           (said-turn 𝓤 H A W mem run κ₁ κ₂ q₁ q₂ velocities marks plan pv p-is (t .at) (t .i) u) v (id⊢ 𝓤 _) (λ r e is.
           land ! (from ! (stop !)) (init ! 17 refl (turned-typed 𝓤 H A W r _ is)) $ rewrite ! 17 (λ (w : Val). ‵ (fat fullShare τR l₉ 0 w)) (turned-told r v is) refl $
           join ! $
-          -- [what is lent; list[i]; the others; the open borrow; obs; auth; _14 at 6; _13; _12; _11; _10; _9; _8; _7; _6; _5; _4; _3; _2; _1; _0 at 34]
+          -- [what is lent; list[i]; the others; the open borrow; obs; auth; _14 at 6; _13; _12;
+          -- _11; _10; _9; _8; _7; _6; _5; _4; _3; _2; _1; _0 at 34]
           assigns ! (bin ! (load ! (from ! (stop !)) (look ! 18 refl)) (lit ! tt) (record { fits = small })) (from ! (stop !)) (store ! 14 refl (tt, record { fits = small })) $
           assigns ! (bin ! (load ! (from ! (fld ! refl (stop !))) (look-in ! 32 (sub ! 0 refl (whole !)))) (load ! (from ! (stop !)) (look ! 14 refl)) tt) (from ! (stop !)) (init ! 6 refl (tt, tt)) $
           rewrite ! 6 (λ (p : ℕ). ‵ (fat fullShare tyPtr l₁₄ 0 (vptr b p))) (sym (place-is 32 o (t .i))) refl $
@@ -503,7 +508,8 @@ module _ {M : Type 1} (𝓤 : URA M) (H : Heap 𝓤) (A : Atoms 𝓤) (W : Given
       alloc1 ! (λ l₀. alloc1 ! (λ l₁. alloc1 ! (λ l₂. alloc1 ! (λ l₃. alloc1 ! (λ l₄. alloc1 ! (λ l₅. alloc1 ! (λ l₆. alloc1 ! (λ l₇. alloc1 ! (λ l₈. alloc1 ! (λ l₉. alloc1 ! (λ l₁₀. alloc1 ! (λ l₁₁. alloc1 ! (λ l₁₂. alloc1 ! (λ l₁₃. alloc1 ! (λ l₁₄. alloc0 ! $ params1 ! $
       pass1 ! (init ! 26 refl (tt, (tt, (record { fits = room .0 }, tt)))) $ pass1 ! (init ! 24 refl (tt, tt)) $ pass1 ! (init ! 22 refl (step-typed 𝓤 H A W step _ s-is)) $
       pass1 ! (init ! 20 refl (tt, (tt, (record { fits = v-fits }, tt)))) $ pass1 ! (init ! 18 refl (tt, (tt, (record { fits = m-fits }, tt)))) $ pass0 ! $
-      -- [_14; _13; _12; _11; _10; _9; _8; _7; _6; _5; _4; _3; _2; _1; _0, two each; the tokens; what the arguments own]
+      -- [_14; _13; _12; _11; _10; _9; _8; _7; _6; _5; _4; _3; _2; _1; _0, two each; the tokens;
+      -- what the arguments own]
       nothing ! $ owned ! S.the-row (Is S.the-row) (EL.makes S.the-type S′.the-plain 𝓤 H A) step _ s-is $ fjoin ! $ owned ! bool (Is bool) (bool-makes 𝓤 H A W) inverse _ refl $ fjoin ! $ nothing ! $
       use2 W (raw (PlanOf 𝓤 H A mem run .pre (to-plan 𝓤 H A W mem run inverse step sv))) (asks-plan 𝓤 H A W mem run inverse step sv) $
       calls-at ! fm (PlanOf 𝓤 H A mem run) known-plan (to-plan 𝓤 H A W mem run inverse step sv) (and-then ! (load ! (from ! (stop !)) (look ! 25 refl)) (and-then ! (load ! (from ! (stop !)) (look ! 23 refl)) (no-more !))) (λ pv.
@@ -517,7 +523,8 @@ module _ {M : Type 1} (𝓤 : URA M) (H : Heap 𝓤) (A : Atoms 𝓤) (W : Given
       assigns ! (of-opd ! (lit ! tt)) (from ! (stop !)) (init ! 12 refl (tt, record { fits = lit< tt })) $
       -- what the arguments own is taken apart, and the list is opened
       move ! (31 ∷ []) $ fsplit ! $ move ! (1 ∷ []) $ fsplit ! $ drop ! $ fsplit ! $ drop ! $ fsplit ! $ move ! (1 ∷ []) $ fsplit ! $ move ! (3 ∷ []) $ fsplit ! $ move ! (1 ∷ []) $ fsplit ! $ move ! (36 ∷ []) $ split ! $ move ! (2 ∷ 3 ∷ 0 ∷ []) $ opens-slice ! tt T.the-row ys b o $
-      -- [the row; the open borrow; obs; auth; the tokens; list's fact; what marks owns; nothing; what velocities owns; _14 at 9; ..]
+      -- [the row; the open borrow; obs; auth; the tokens; list's fact; what marks owns; nothing;
+      -- what velocities owns; _14 at 9; ..]
       move ! (8 ∷ 6 ∷ []) $ join ! $ move ! (5 ∷ 0 ∷ []) $ join ! $ keep ! (1 ∷ 2 ∷ 3 ∷ 4 ∷ 0 ∷ 7 ∷ 8 ∷ 9 ∷ 10 ∷ 11 ∷ 12 ∷ 13 ∷ 14 ∷ 15 ∷ 16 ∷ 17 ∷ 18 ∷ 19 ∷ 20 ∷ 21 ∷ 22 ∷ 23 ∷ 24 ∷ 25 ∷ 26 ∷ 27 ∷ 28 ∷ 29 ∷ 30 ∷ 31 ∷ 32 ∷ 33 ∷ 34 ∷ 35 ∷ 36 ∷ []) $
       by ! (looped plan pv p-is ep 𝓣 fm known-turn l₀ l₁ l₂ l₃ l₄ l₅ l₆ l₇ l₈ l₉ l₁₀ l₁₁ l₁₂ l₁₃ l₁₄
       (record { i = 0; zs = ys; at = at; is = subst (λ (w : Val). Is C.the-row at (w ∷ [])) (carried-told at cv c-is) c-is; inv = subst (λ (c : Carried). Walked (planTurnsOf (velocities .now) (marks .now) plan) (startsOf plan) ys 0 c ys) (sym ea) (walk-start _ _ ys) })))))))))))))))))))))

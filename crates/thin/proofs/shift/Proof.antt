@@ -1,7 +1,8 @@
--- `thin::shift` meets its contract: a walk of its MIR, by hand. The refusal, the number of steps and the empty answer come from three calls; each turn of the loop
--- asks for the next step, lends the list again to `run_step` for a lifetime that is made for the call (`Again.antt`), and notes the count. The invariant is
--- `Laws.antt`'s `Going`, which is `chain`'s own over the same numbers. All that the proof knows of the functions it calls is that they meet their contracts.
--- Assumes nothing.
+-- A walk of its MIR, by hand. The refusal, the number of steps and the empty answer come from three
+-- calls; each turn of the loop asks for the next step, lends the list again to `run_step` for a
+-- lifetime that is made for the call (`Again.antt`), and notes the count. The invariant is
+-- `Laws.antt`'s `Going`, which is `chain`'s own over the same numbers. All that the proof knows of
+-- the functions it calls is that they meet their contracts. Assumes nothing.
 use mathlib.Core.Path.{_≡_, refl, sym, ap, subst}
 use Prim.Native.Nat.{ℕ, _<_, _≤_, _^_, _+_, _-_}
 use native.Mathlib.Omega.{arith}
@@ -553,21 +554,25 @@ module _ {M : Type 1} (𝓤 : URA M) (H : Heap 𝓤) (A : Atoms 𝓤) (W : Given
           move ! (1 ∷ []) $ split ! $ lft-new ! tt (λ ν. move ! (1 ∷ 2 ∷ []) $
           use2 W (later (some (λ (δ : GName). ‵ (MutSlice (named 0) (ν ∷ []) T.the-row .own (record { ptr = (b, o); name = δ; now = t .zs }) (sl₀ ∷ [])) ⊛ ‵ (LentAgain T.the-row κ (ν ∷ []) q γ b o δ (t .zs)))))
           (lends-at T.the-row κ (ν ∷ []) q γ b o 𝓤 H A W (named 1) (named 0) (t .zs) m (t .inv .long)) $ await ! tt $ pick ! (λ δ. split ! $
-          -- [the list lent again; what is kept of it; ν's token; the sheet; the others; _15 at 5; ..]
+          -- [the list lent again; what is kept of it; ν's token; the sheet; the others; _15 at 5;
+          -- ..]
           move ! (2 ∷ 0 ∷ 4 ∷ []) $ use3 W (raw (RunStep 𝓤 H A mem run .pre (to-run 𝓤 H A W mem run κ₀ κ₂ κ₃ q₀ q₂ q₃ s velocities marks b o m ν δ (t .zs) d)) ⊛ (‵ (OwnV 𝓤 H A W mem run κ₀ κ₂ κ₃ q₀ q₂ q₃ s velocities marks) ⊛ ‵ (OwnM 𝓤 H A W mem run κ₀ κ₂ κ₃ q₀ q₂ q₃ s velocities marks))) (asks-run 𝓤 H A W mem run κ₀ κ₂ κ₃ q₀ q₂ q₃ s velocities marks b o m ν δ (t .zs) d (step-of d dv d-is)) $ split ! $
-          -- [what `run_step` asks; velocities and marks; what is kept of the list; the sheet; _15 at 4; ..]
+          -- [what `run_step` asks; velocities and marks; what is kept of the list; the sheet; _15
+          -- at 4; ..]
           calls-at ! fm (RunStep 𝓤 H A mem run) known-run (to-run 𝓤 H A W mem run κ₀ κ₂ κ₃ q₀ q₂ q₃ s velocities marks b o m ν δ (t .zs) d) (and-then ! (load ! (from ! (stop !)) (look ! 4 refl)) (and-then ! (load ! (from ! (fld ! inverse-at (stop !))) (look-in ! 14 (sub ! 1 inverse-at (whole !))))
           (and-then ! (load ! (from ! (fld ! step-at (stop !))) (look-in ! 14 (sub ! 2 step-at (whole !)))) (and-then ! (load ! (from ! (stop !)) (look ! 26 refl)) (and-then ! (load ! (from ! (stop !)) (look ! 24 refl)) (no-more !)))))) (λ v.
           use1 W (later (some (λ (r : ℕ). (With 𝓤 H A W mem run κ₀ κ₂ κ₃ q₀ q₂ q₃ s velocities marks b o m ν δ (t .zs) d ⊛ ‵ (usize .own r (v ∷ []))) ⊛ raw (Run-ensured 𝓤 H A W mem run κ₀ κ₂ κ₃ q₀ q₂ q₃ s velocities marks b o m ν δ (t .zs) d r)))) (id⊢ 𝓤 _) $ await ! tt $ pick ! (λ count. split ! $ move ! (1 ∷ []) $
           use1 W (some (λ (ws : Last 𝓤 H A W mem run κ₀ κ₂ κ₃ q₀ q₂ q₃ s velocities marks b o m ν δ (t .zs) d). ‵ (Run-last 𝓤 H A W mem run κ₀ κ₂ κ₃ q₀ q₂ q₃ s velocities marks b o m ν δ (t .zs) d ws) ⊛ raw (fact 𝓤 (Ran 𝓤 H A W mem run κ₀ κ₂ κ₃ q₀ q₂ q₃ s velocities marks b o m ν δ (t .zs) d (ws .0) count)))) (id⊢ 𝓤 _) $ pick ! (λ ws. split ! $ move ! (1 ∷ []) $ heard ! (Ran 𝓤 H A W mem run κ₀ κ₂ κ₃ q₀ q₂ q₃ s velocities marks b o m ν δ (t .zs) d (ws .0) count) (λ ran.
           fsplit ! $ fsplit ! $ move ! (1 ∷ []) $ feqL ! (λ el.
-          -- [the list at last; the other last values; the tokens and the result; velocities and marks; what is kept; the sheet; _15 at 6; ..]
+          -- [the list at last; the other last values; the tokens and the result; velocities and
+          -- marks; what is kept; the sheet; _15 at 6; ..]
           move ! (2 ∷ []) $ split ! $ move ! (1 ∷ []) $ peeks ! usize (Is usize) (shows 𝓤 H A usize) count (v ∷ []) (λ c-is.
           land ! (from ! (stop !)) (init ! 15 refl (uint-lawful 𝓤 H A W w64 .typed count _ c-is .0)) $ rewrite ! 15 (λ (w : Val). ‵ (fat fullShare (tyInt w64) l₁₁ 0 w)) (ap only (c-is .0)) refl $ drop ! $
           -- the lifetime is ended, and the list comes back as it is now
           split ! $ lft-end ! tt $ move ! (0 ∷ 5 ∷ 2 ∷ []) $
           use3 W (later (listed (ws .0))) (comes-at T.the-row κ (ν ∷ []) q γ b o 𝓤 H A W (named 1) (named 0) (t .zs) m (t .inv .long) δ (ws .0) room el) $ await ! tt $
-          -- [the list; two tokens; the other last values; velocities and marks; the sheet; _15 at 5; ..]
+          -- [the list; two tokens; the other last values; velocities and marks; the sheet; _15 at
+          -- 5; ..]
           move ! (1 ∷ 3 ∷ []) $ join ! $ move ! (2 ∷ []) $ drop ! $
           -- [the others; the list; the sheet; _15 at 3; ..]
           nothing ! $ use1 W (raw (Noted 𝓤 H A mem run .pre (to-noted 𝓤 H A W mem run (t .answer) (t .av) (d .place) count))) (asks-noted 𝓤 H A W mem run (t .answer) (t .av) (d .place) count (t .is) (place-fits d dv d-is) (c-is .1) (place-few d et)) $

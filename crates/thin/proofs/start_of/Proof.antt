@@ -1,4 +1,5 @@
--- `thin::start_of` meets its contract. Assumes nothing.
+-- One case for each variant. Calls are replaced by what they ensure; the definition is left.
+-- Assumes nothing.
 use borrow.Author.Needs.{needs}
 use Rattle.thin.proofs.start_of.Statement.{statement}
 use Rattle.thin.proofs.start_of.Tie as tie

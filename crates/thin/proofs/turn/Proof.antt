@@ -1,4 +1,5 @@
--- `thin::turn` meets its contract. Assumes nothing.
+-- One case for each variant. Calls are replaced by what they ensure; the definition is left.
+-- Assumes nothing.
 use Rattle.thin.specs.Plans.{turnOf}
 use borrow.Author.Needs.{needs}
 use Rattle.thin.proofs.turn.Statement.{statement}

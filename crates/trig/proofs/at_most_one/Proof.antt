@@ -1,4 +1,5 @@
--- `trig::at_most_one` meets its contract. Assumes nothing.
+-- One case for each way through the tests. The test's outcome picks the definition's case.
+-- Assumes nothing.
 use Rattle.trig.specs.Trig.{atMostOne}
 use Rattle.trig.proofs.at_most_one.Statement.{statement}
 use Rattle.trig.proofs.at_most_one.Tie as tie

@@ -1,4 +1,4 @@
--- `trig::bend` meets its contract. Assumes nothing.
+-- By computation: the body's operations are the definition's, in its order. Assumes nothing.
 use mathlib.Core.Path.{refl}
 use Rattle.trig.specs.Trig.{bendOf}
 use Rattle.trig.proofs.bend.Statement.{statement}

@@ -1,4 +1,5 @@
--- `trig::clamp` meets its contract. Assumes nothing.
+-- One case for each way through the tests. Calls are replaced by what they ensure; the definition
+-- is left. Assumes nothing.
 use borrow.Author.Needs.{needs}
 use Rattle.trig.specs.Trig.{clampOf}
 use Rattle.trig.proofs.clamp.Statement.{statement}

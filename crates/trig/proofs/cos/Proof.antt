@@ -1,4 +1,5 @@
--- `trig::cos` meets its contract. Assumes nothing.
+-- One case for each way through the tests. Each by `zero-over-zero` and `nan-if-differs`, from what
+-- the calls ensure. Assumes nothing.
 use borrow.Author.Needs.{needs}
 use lib.Ieee.{eq, lt, le}
 use Rattle.trig.specs.Trig.{cosOf}

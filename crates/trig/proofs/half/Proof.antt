@@ -1,4 +1,5 @@
--- `trig::half` meets its contract: arm d has row d, which the checker sees by computing it, and the arm for the rest is met from 32 on. Assumes nothing.
+-- Arm d has row d, which the checker sees by computing it, and the arm for the rest is met from 32
+-- on. Assumes nothing.
 use mathlib.Core.Path.{_≡_, refl}
 use native.Mathlib.Omega.{arith}
 use Prim.Native.Nat.{ℕ, zero, suc, _≤_}

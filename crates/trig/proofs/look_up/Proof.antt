@@ -1,4 +1,4 @@
--- `trig::look_up` meets its contract: each row is that of the first half, its sine turned or not. Assumes nothing.
+-- Each row is that of the first half, its sine turned or not. Assumes nothing.
 use native.Mathlib.Omega.{arith}
 use borrow.Author.Needs.{needs}
 use Prim.Native.Nat.{_%_}

@@ -1,4 +1,4 @@
--- `trig::reduce` meets its contract. Assumes nothing.
+-- Calls are replaced by what they ensure; the definition is left. Assumes nothing.
 use borrow.Author.Needs.{needs}
 use Rattle.trig.specs.Trig.{reducedOf}
 use Rattle.trig.proofs.reduce.Statement.{statement}

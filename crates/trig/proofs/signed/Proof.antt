@@ -1,14 +1,15 @@
--- `trig::signed` meets its contract. Assumes nothing.
-use Rattle.trig.specs.Trig.{turnedOf}
+-- One case for each way through the tests. The test's outcome picks the definition's case.
+-- Assumes nothing.
+use Rattle.trig.specs.Trig.{mirroredOf}
 use Rattle.trig.proofs.signed.Statement.{statement}
 use Rattle.trig.proofs.signed.Tie as tie
 
 returns : tie.Need-returns
-unfolding turnedOf
+unfolding mirroredOf
 returns c = rw (c .if1 .taken)
 
 returns-2 : tie.Need-returns-2
-unfolding turnedOf
+unfolding mirroredOf
 returns-2 c = rw (c .if1 .left)
 
 pub signed-spec : {M : Type 1} → statement M

@@ -1,7 +1,7 @@
--- `trig::sin` meets its contract: of a number that is not zero, being below zero tells the sign. Assumes nothing.
+-- Of a number that is not zero, being below zero tells the sign. Assumes nothing.
 use borrow.Author.Needs.{needs}
 use lib.Ieee.{eq, lt, le}
-use Rattle.trig.specs.Trig.{signedOf, turnedOf, sinOf}
+use Rattle.trig.specs.Trig.{signedOf, mirroredOf, sinOf}
 use Rattle.floats.specs.Number.{signOf}
 use Rattle.floats.proofs.Nan.{zero-over-zero, nan-if-differs}
 use Rattle.floats.proofs.Zero.{sign-of-other}
@@ -26,7 +26,7 @@ signed-requires : tie.Need-signed-requires
 signed-requires c κs = search needs
 
 returns-3 : tie.Need-returns-3
-unfolding sinOf signedOf turnedOf
+unfolding sinOf signedOf mirroredOf
 returns-3 c =
     let nonzero = c .before .before .before .before .before .if1 .left in
     rw (c .signed .ensures, c .before .sine .ensures, sign-of-other _ nonzero, nonzero, ← c .before .before .before .abs .ensures, c .before .before .if3 .taken)

@@ -1,6 +1,6 @@
--- `trig::sin_cos` meets its contract: of a number that is not zero, being below zero tells the sign. Assumes nothing.
+-- Of a number that is not zero, being below zero tells the sign. Assumes nothing.
 use borrow.Author.Needs.{needs}
-use Rattle.trig.specs.Trig.{signedOf, turnedOf, sinOf, cosOf}
+use Rattle.trig.specs.Trig.{signedOf, mirroredOf, sinOf, cosOf}
 use lib.Ieee.{eq, lt, le}
 use Rattle.floats.specs.Number.{signOf}
 use Rattle.floats.proofs.Nan.{zero-over-zero, nan-if-differs}
@@ -26,7 +26,7 @@ signed-requires : tie.Need-signed-requires
 signed-requires c κs = search needs
 
 returns-3 : tie.Need-returns-3
-unfolding sinOf cosOf signedOf turnedOf
+unfolding sinOf cosOf signedOf mirroredOf
 returns-3 c =
     let nonzero = c .before .before .before .before .before .if1 .left in
     rw (c .signed .ensures, c .before .pair .ensures, sign-of-other _ nonzero, nonzero, ← c .before .before .before .abs .ensures, c .before .before .if3 .taken)

@@ -1,4 +1,4 @@
--- `trig_block::both` meets its contract. Assumes nothing.
+-- Calls are replaced by what they ensure; the definition is left. Assumes nothing.
 use borrow.Author.Needs.{needs}
 use Rattle.trig_block.proofs.both.Statement.{statement}
 use Rattle.trig_block.proofs.both.Tie as tie

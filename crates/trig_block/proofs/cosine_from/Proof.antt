@@ -1,4 +1,5 @@
--- `trig_block::cosine_from` meets its contract. Assumes nothing.
+-- One case for each way through the tests. Each by `zero-over-zero`, from what the calls ensure.
+-- Assumes nothing.
 use borrow.Author.Needs.{needs}
 use Rattle.trig_block.specs.Block.{cosFrom}
 use Rattle.floats.proofs.Nan.{zero-over-zero}

@@ -1,4 +1,4 @@
--- `trig_block::row` meets its contract: on the first half the table's row is the step's. Assumes nothing.
+-- On the first half the table's row is the step's. Assumes nothing.
 use borrow.Author.Needs.{needs}
 use borrow.Author.Tests.{lt-ltb}
 use Rattle.trig.specs.Table.{rowOf, halfOf}

@@ -1,4 +1,7 @@
--- `trig_block::rows` meets its contract. Assumes nothing.
+-- Invariant: the four columns are blocks whose first i elements are the four numbers of the table's
+-- rows for the first i steps (`UpTo`, `rowOf`). A turn writes one row more by the contract of `row`
+-- (`one-more`), and at i = 16 all are written (`all-filled`). The measure is 16 - i.
+-- Assumes nothing.
 use Prim.Native.Nat.{ℕ, _-_}
 use borrow.Author.Needs.{needs}
 use mathlib.Core.Path.{refl, ap}

@@ -1,9 +1,9 @@
--- `trig_block::sin_cos_block` meets its contract: place by place, what the three loops reach is the pair. Assumes nothing.
+-- Place by place, what the three loops reach is the pair. Assumes nothing.
 use borrow.Author.Needs.{needs}
 use mathlib.Core.Path.{ap}
 use Rattle.blocks.proofs.Laws.{told}
+use Rattle.blocks.proofs.All.{each-of-all}
 use Rattle.trig.specs.declared.SinCos.{SinCos}
-use Rattle.trig_block.proofs.All.{each-of-all}
 use Rattle.trig_block.proofs.Joined.{joined, joined-usual}
 use Rattle.trig_block.proofs.sin_cos_block.Statement.{statement}
 use Rattle.trig_block.proofs.sin_cos_block.Tie as tie

@@ -1,6 +1,6 @@
--- `trig_block::sine_from` meets its contract: of a number that is not zero, being below zero tells the sign. Assumes nothing.
+-- Of a number that is not zero, being below zero tells the sign. Assumes nothing.
 use borrow.Author.Needs.{needs}
-use Rattle.trig.specs.Trig.{signedOf, turnedOf}
+use Rattle.trig.specs.Trig.{signedOf, mirroredOf}
 use Rattle.trig_block.specs.Block.{sinFrom}
 use Rattle.floats.proofs.Nan.{zero-over-zero}
 use Rattle.floats.proofs.Zero.{sign-of-other}
@@ -18,7 +18,7 @@ signed-requires : tie.Need-signed-requires
 signed-requires c κs = search needs
 
 returns-2 : tie.Need-returns-2
-unfolding sinFrom signedOf turnedOf
+unfolding sinFrom signedOf mirroredOf
 returns-2 c =
     let nonzero = c .before .before .before .if1 .left in
     rw (c .signed .ensures, sign-of-other _ nonzero, nonzero, ← c .before .before .abs .ensures, c .before .if2 .taken)

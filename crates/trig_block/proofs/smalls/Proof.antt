@@ -1,9 +1,13 @@
--- `trig_block::smalls` meets its contract. Assumes nothing.
+-- Invariant: the first i elements of step, rest and tail are the reductions of the magnitudes of
+-- the first i angles, with 0 for a NaN (`stepOf`, `restOf`, `tailOf`; `WholeUpTo` for the steps,
+-- which are whole numbers, and `UpTo` for the others). A turn writes one reduction more by the
+-- contracts of `number`, `abs` and `reduce` (`one-more`). At i = 16 all are
+-- written (`all-filled`). The measure is 16 - i. Assumes nothing.
 use Prim.Native.Nat.{ℕ, _-_}
 use borrow.Author.Needs.{needs}
 use mathlib.Core.Path.{refl, ap, _∙_}
 use Rattle.blocks.specs.Each.{at, UpTo, WholeUpTo}
-use Rattle.blocks.proofs.Laws.{none-filled, one-more, all-filled, none-filled-whole, one-more-whole, all-filled-whole}
+use Rattle.blocks.proofs.Laws.{none-filled, one-more, all-filled}
 use Rattle.floats.specs.Number.{absOf}
 use Rattle.trig.specs.declared.Reduced.{Reduced}
 use Rattle.trig.specs.Trig.{reducedOf}
@@ -19,7 +23,7 @@ abbrev μ-loop : tie.MeasureT-loop
 μ-loop x step₀ rest₀ tail₀ i₀ step rest tail i = 16 - i
 
 loop-holds : tie.Need-loop-holds Inv-loop μ-loop
-loop-holds c = (none-filled-whole refl, none-filled refl, none-filled refl)
+loop-holds c = (none-filled refl, none-filled refl, none-filled refl)
 
 mul-number : tie.Need-mul-number Inv-loop μ-loop
 mul-number c = search needs
@@ -64,7 +68,7 @@ loop-again : tie.Need-loop-again Inv-loop μ-loop
 loop-again c =
     let l = c .before .before .before .before .before .loop in
     let reduced = c .reduce .ensures ∙ ap reducedOf (c .before .abs .ensures ∙ ap absOf (c .before .before .number .ensures)) in (
-      one-more-whole (search needs) (ap (λ (g : Reduced). g .step) reduced) (l .inv .0),
+      one-more (search needs) (ap (λ (g : Reduced). g .step) reduced) (l .inv .0),
       one-more (search needs) (ap (λ (g : Reduced). g .rest) reduced) (l .inv .1),
       one-more (search needs) (ap (λ (g : Reduced). g .tail) reduced) (l .inv .2),
     )
@@ -72,7 +76,7 @@ loop-again c =
 returns : tie.Need-returns Inv-loop μ-loop
 returns c =
     let l = c .before .loop .inv in
-    (all-filled-whole (search needs) (l .0), all-filled (search needs) (l .1), all-filled (search needs) (l .2))
+    (all-filled (search needs) (l .0), all-filled (search needs) (l .1), all-filled (search needs) (l .2))
 
 pub smalls-spec : {M : Type 1} → statement M
 smalls-spec =

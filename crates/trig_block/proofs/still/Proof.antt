@@ -1,4 +1,5 @@
--- `trig_block::still` meets its contract. Assumes nothing.
+-- One case for each way through the tests. The test's outcome picks the definition's case.
+-- Assumes nothing.
 use Rattle.trig_block.proofs.still.Statement.{statement}
 use Rattle.trig_block.proofs.still.Tie as tie
 

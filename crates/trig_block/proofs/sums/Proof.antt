@@ -1,4 +1,7 @@
--- `trig_block::sums` meets its contract. Assumes nothing.
+-- Invariant: s and c are blocks whose first i elements are the sine and cosine that `bothFrom`
+-- makes of each angle, its reduction and its row (`UpTo`). A turn writes one of each by the
+-- contract of `both` (`one-more`), and at i = 16 all are written (`all-filled`). The measure is
+-- 16 - i. Assumes nothing.
 use Prim.Native.Nat.{ℕ, _-_}
 use borrow.Author.Needs.{needs}
 use mathlib.Core.Path.{refl, ap}

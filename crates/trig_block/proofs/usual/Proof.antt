@@ -1,4 +1,5 @@
--- `trig_block::usual` meets its contract. Assumes nothing.
+-- One case for each way through the tests. Calls are replaced by what they ensure; the definition
+-- is left. Assumes nothing.
 use borrow.Author.Needs.{needs}
 use Rattle.trig_block.specs.Block.{usualOf}
 use Rattle.trig_block.proofs.usual.Statement.{statement}

@@ -1,4 +1,6 @@
--- `vectors::print_lines` meets its contract. Assumes nothing.
+-- No invariant is needed. The contract says nothing of what is printed, so the proof is that every
+-- total is read within its array, because the loop's test keeps line below 12, and that the loop
+-- ends. The measure is 12 - line. Assumes nothing.
 use Prim.Native.Nat.{_-_}
 use borrow.Author.Needs.{needs}
 use Rattle.vectors.proofs.print_lines.Statement.{statement}

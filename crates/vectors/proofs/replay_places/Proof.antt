@@ -1,4 +1,7 @@
--- `vectors::replay_places` meets its contract. Assumes nothing.
+-- No invariant is needed. The contract says nothing of the totals or of what is printed, so the
+-- proof is that i + 1 does not overflow, because the loop's test keeps i below count, and that the
+-- loop ends. A turn goes on to the next record or, where the file is cut short, sets i to count;
+-- both lower the measure, which is count - i. Assumes nothing.
 use Prim.Native.Nat.{_-_}
 use borrow.Author.Needs.{needs}
 use Rattle.vectors.proofs.replay_places.Statement.{statement}

@@ -1,4 +1,6 @@
--- `vectors::sum` meets its contract. Assumes nothing.
+-- No invariant is needed. The contract says nothing of the sum, which wraps and so cannot overflow.
+-- The proof is that every total is read within the array, because the loop's test keeps line below
+-- 12, and that the loop ends. The measure is 12 - line. Assumes nothing.
 use Prim.Native.Nat.{_-_}
 use borrow.Author.Needs.{needs}
 use Rattle.vectors.proofs.sum.Statement.{statement}

@@ -1,4 +1,4 @@
--- `words::byte` meets its contract. Assumes nothing.
+-- One case for each return. Each by `past-end`. Assumes nothing.
 use Prim.Native.Nat.{_+_}
 use native.Mathlib.Omega.{arith}
 use Rattle.words.proofs.Laws.{past-end}
@@ -10,14 +10,14 @@ use Rattle.words.proofs.byte.Tie as tie
 sub-if2 : tie.Need-sub-if2
 sub-if2 c = search needs
 
-add-wide : tie.Need-add-wide
-add-wide c = search needs
+add-of-byte : tie.Need-add-of-byte
+add-of-byte c = search needs
 
-shared-slice-read-wide : tie.Need-shared-slice-read-wide
-shared-slice-read-wide c = search needs
+shared-slice-read-of-byte : tie.Need-shared-slice-read-of-byte
+shared-slice-read-of-byte c = search needs
 
-wide-requires : tie.Need-wide-requires
-wide-requires c κs = search needs
+of-byte-requires : tie.Need-of-byte-requires
+of-byte-requires c κs = search needs
 
 returns : tie.Need-returns
 returns c = search needs
@@ -31,4 +31,4 @@ returns-3 c = let a = c .before .before .args in (sym (past-end (a .s .now) (a .
 pub byte-spec : {M : Type 1} → statement M
 byte-spec =
     tie.close
-    (tie.spec sub-if2 add-wide shared-slice-read-wide wide-requires returns returns-2 returns-3)
+    (tie.spec sub-if2 add-of-byte shared-slice-read-of-byte of-byte-requires returns returns-2 returns-3)

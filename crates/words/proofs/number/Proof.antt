@@ -1,4 +1,4 @@
--- `words::number` meets its contract. Assumes nothing.
+-- What the body does is, step by step, what the definition says. Assumes nothing.
 use Rattle.words.specs.Words.{numberAt}
 use borrow.Author.Needs.{needs}
 use Rattle.words.proofs.number.Statement.{statement}

@@ -1,4 +1,5 @@
--- `words::one_nan` meets its contract. Assumes nothing.
+-- One case for each way through the tests. Calls are replaced by what they ensure; the definition
+-- is left. Assumes nothing.
 use mathlib.Core.Path.{sym, _∙_}
 use Rattle.words.specs.Words.{oneNanAt, numberAt}
 use borrow.Author.Needs.{needs}

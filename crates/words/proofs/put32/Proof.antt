@@ -1,4 +1,4 @@
--- `words::put32` meets its contract. Assumes nothing.
+-- One case for each return. Each by `put-fits`, `put-too-long` and `put-four`. Assumes nothing.
 use native.Mathlib.Omega.{arith}
 use lib.ListN.{length-set}
 use Rattle.words.specs.Words.{le32}

@@ -1,4 +1,4 @@
--- `words::put64` meets its contract. Assumes nothing.
+-- One case for each return. Each by `put-two`, `put-too-long` and `length-le64`. Assumes nothing.
 use native.Mathlib.Omega.{arith}
 use mathlib.Core.Path.{sym}
 use Rattle.words.proofs.Laws.{put-two, put-too-long, length-le64}

@@ -1,4 +1,4 @@
--- `words::put_number` meets its contract. Assumes nothing.
+-- What the body does is, step by step, what the definition says. Assumes nothing.
 use Rattle.words.specs.Words.{leNumber}
 use borrow.Author.Needs.{needs}
 use Rattle.words.proofs.put_number.Statement.{statement}

@@ -1,4 +1,4 @@
--- `words::read32` meets its contract. Assumes nothing.
+-- Calls are replaced by what they ensure; the definition is left. Assumes nothing.
 use native.Mathlib.Nat.{add-zero}
 use borrow.Author.Needs.{needs}
 use Rattle.words.proofs.read32.Statement.{statement}

@@ -1,4 +1,4 @@
--- `words::read64` meets its contract. Assumes nothing.
+-- By arithmetic on the bounds at hand. Assumes nothing.
 use native.Mathlib.Omega.{arith}
 use Rattle.words.specs.Words.{word64}
 use borrow.Author.Needs.{needs}

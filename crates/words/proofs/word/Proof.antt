@@ -1,4 +1,4 @@
--- `words::word` meets its contract. Assumes nothing.
+-- By arithmetic on the bounds at hand. Assumes nothing.
 use native.Mathlib.Omega.{arith}
 use native.Mathlib.Nat.{add-assoc}
 use Rattle.words.specs.Words.{word32}

@@ -8,6 +8,16 @@ fn main() {
     let by_epoch = Body::Deformation { flags: 0, ellipsoid: 1, dt: nan, t_epoch: 2000.0 };
     show("NaN Z on the axis, deformation", false, by_epoch.clone(), &[0.0, 0.0, nan, 2001.0], &[0.0, 0.0, 1000.0]);
     show("an angle beyond 1024, cart forward", false, cart.clone(), &[0.0, 1025.0, 0.0, 0.0], &[]);
+    let after_512 = f64::from_bits(512f64.to_bits() + 1);
+    for (name, flags) in [("a latitude beyond 512, Molodensky", 0), ("a latitude beyond 512, abridged Molodensky", 1)] {
+        let nothing_moved = Body::Molodensky { flags, first: 1, second: 0, offsets: [0.0; 5] };
+        show(name, false, nothing_moved, &[0.0, after_512, 0.0, 0.0], &[]);
+    }
+    let endless = Helmert { xyz: [f64::INFINITY, 0.0, 0.0], ..Helmert::blank() };
+    show("a number that is not finite, Helmert (ours refused)", false, Body::Helmert(endless), &[0.0; 4], &[]);
+    let for_ever = Body::Deformation { flags: 0, ellipsoid: 1, dt: f64::INFINITY, t_epoch: 2000.0 };
+    let risen = [6378137.0, 0.0, 0.0, 2010.0];
+    show("a number that is not finite, deformation (ours refused)", false, for_ever, &risen, &[0.0, 0.0, 1000.0]);
     show("the last bits, cart forward", false, cart.clone(), &[2.5, 0.0, 0.0, 0.0], &[]);
     show("an axis point is not counted, cart inverse", true, cart.clone(), &[0.0, 0.0, 7e6, 0.0], &[]);
     show("p = 1e-11, cart inverse", true, cart.clone(), &[1e-11, 0.0, 7e6, 0.0], &[]);

@@ -1,4 +1,4 @@
-//! The files of fixed answers: made of the second oracle's, and the first of them replayed against the library.
+//! The files of fixed answers: made of the same-bits oracle's, and the first of them replayed against the library.
 //!
 //!     vectors write FOLDER     vectors check FOLDER
 use compare::{draw, random::Random, suites::SUITES};

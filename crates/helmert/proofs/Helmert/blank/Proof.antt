@@ -1,4 +1,4 @@
--- `helmert::Helmert::blank` meets its contract: zero over zero is NaN. Assumes nothing.
+-- Zero over zero is NaN. Assumes nothing.
 use Rattle.floats.proofs.Nan.{zero-over-zero}
 use Rattle.helmert.specs.Record.{blankHelmert}
 use Rattle.helmert.proofs.Helmert.blank.Statement.{statement}

@@ -1,4 +1,4 @@
--- `helmert::Helmert::fields_in_rule` meets its contract. Assumes nothing.
+-- Calls are replaced by what they ensure; the definition is left. Assumes nothing.
 use Rattle.helmert.specs.Rules.{fieldsInRuleOf}
 use borrow.Author.Needs.{needs}
 use Rattle.helmert.proofs.Helmert.fields_in_rule.Statement.{statement}

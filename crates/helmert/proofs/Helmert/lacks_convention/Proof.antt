@@ -1,4 +1,4 @@
--- `helmert::Helmert::lacks_convention` meets its contract. Assumes nothing.
+-- Calls are replaced by what they ensure; the definition is left. Assumes nothing.
 use Rattle.helmert.specs.Rules.{lacksConventionOf}
 use borrow.Author.Needs.{needs}
 use Rattle.helmert.proofs.Helmert.lacks_convention.Statement.{statement}

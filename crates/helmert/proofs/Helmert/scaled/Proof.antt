@@ -1,4 +1,4 @@
--- `helmert::Helmert::scaled` meets its contract. Assumes nothing.
+-- Calls are replaced by what they ensure; the definition is left. Assumes nothing.
 use Rattle.helmert.specs.Units.{parametersOf}
 use borrow.Author.Needs.{needs}
 use Rattle.helmert.proofs.Helmert.scaled.Statement.{statement}

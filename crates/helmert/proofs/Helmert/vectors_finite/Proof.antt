@@ -1,4 +1,4 @@
--- `helmert::Helmert::vectors_finite` meets its contract. Assumes nothing.
+-- Calls are replaced by what they ensure; the definition is left. Assumes nothing.
 use Rattle.helmert.specs.Rules.{vectorsFiniteOf}
 use borrow.Author.Needs.{needs}
 use Rattle.helmert.proofs.Helmert.vectors_finite.Statement.{statement}

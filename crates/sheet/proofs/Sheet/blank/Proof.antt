@@ -1,4 +1,4 @@
--- `sheet::Sheet::blank` meets its contract. Assumes nothing.
+-- Calls are replaced by what they ensure; the definition is left. Assumes nothing.
 use borrow.Author.Needs.{needs}
 use Rattle.sheet.proofs.Sheet.blank.Statement.{statement}
 use Rattle.sheet.proofs.Sheet.blank.Tie as tie

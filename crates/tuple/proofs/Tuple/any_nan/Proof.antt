@@ -1,4 +1,5 @@
--- `Tuple::any_nan` meets its contract. Assumes nothing.
+-- One case for each way through the tests. Calls are replaced by what they ensure; the definition
+-- is left. Assumes nothing.
 use borrow.Author.Needs.{needs}
 use Rattle.tuple.proofs.Tuple.any_nan.Statement.{statement}
 use Rattle.tuple.proofs.Tuple.any_nan.Tie as tie

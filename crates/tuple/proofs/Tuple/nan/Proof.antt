@@ -1,4 +1,4 @@
--- `Tuple::nan` meets its contract: zero over zero is NaN. Assumes nothing.
+-- Zero over zero is NaN. Assumes nothing.
 use Rattle.floats.proofs.Nan.{zero-over-zero}
 use Rattle.tuple.proofs.Tuple.nan.Statement.{statement}
 use Rattle.tuple.proofs.Tuple.nan.Tie as tie

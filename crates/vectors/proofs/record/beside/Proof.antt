@@ -1,4 +1,4 @@
--- `vectors::beside` meets its contract. Assumes nothing.
+-- By `lent`, from what the calls ensure. Assumes nothing.
 use native.Mathlib.Omega.{arith}
 use mathlib.Core.Path.{ap, _∙_}
 use Rattle.vectors.specs.Replay.{comparedOf}

@@ -1,4 +1,4 @@
--- `vectors::differing` meets its contract. Assumes nothing.
+-- One case for each way through the tests. The facts at hand are what is asked. Assumes nothing.
 use borrow.Author.Tests.{eq-eqb, ne-eqb}
 use borrow.Author.Needs.{needs}
 use Rattle.vectors.proofs.record.differing.Statement.{statement}

@@ -1,4 +1,6 @@
--- `vectors::differing_counts` meets its contract. Assumes nothing.
+-- Invariant: n is the number of the first i counts that differ from the words told (`differingOf`),
+-- and so at most i. A turn adds what `differing` finds for one more (`differing-next`). At i = 16
+-- it is `differingCounts`, at most 16. The measure is 16 - i. Assumes nothing.
 use Prim.Native.Nat.{ℕ, _+_, _*_, _-_, _≤_, _<_}
 use native.Mathlib.Omega.{arith}
 use mathlib.Core.Path.{_≡_}
@@ -20,14 +22,14 @@ loop-holds : tie.Need-loop-holds Inv-loop μ-loop
 unfolding differingOf
 loop-holds c = (search needs, search needs, search needs)
 
-mul-of-count : tie.Need-mul-of-count Inv-loop μ-loop
-mul-of-count c = search needs
+mul-long : tie.Need-mul-long Inv-loop μ-loop
+mul-long c = search needs
 
-element-copy-out-of-count : tie.Need-element-copy-out-of-count Inv-loop μ-loop
-element-copy-out-of-count c = search needs
+element-copy-out-long : tie.Need-element-copy-out-long Inv-loop μ-loop
+element-copy-out-long c = search needs
 
-of-count-requires : tie.Need-of-count-requires Inv-loop μ-loop
-of-count-requires c κs = search needs
+long-requires : tie.Need-long-requires Inv-loop μ-loop
+long-requires c κs = search needs
 
 mul-read32 : tie.Need-mul-read32 Inv-loop μ-loop
 mul-read32 c = search needs
@@ -38,8 +40,8 @@ add-read32 c = search needs
 read32-requires : tie.Need-read32-requires Inv-loop μ-loop
 read32-requires c κs = search needs
 
-of-word-requires : tie.Need-of-word-requires Inv-loop μ-loop
-of-word-requires c κs = search needs
+wide64-requires : tie.Need-wide64-requires Inv-loop μ-loop
+wide64-requires c κs = search needs
 
 differing-requires : tie.Need-differing-requires Inv-loop μ-loop
 differing-requires c κs = search needs
@@ -57,7 +59,7 @@ loop-again : tie.Need-loop-again Inv-loop μ-loop
 loop-again c =
     let l = c .before .before .before .before .before .before in
     let a = l .before .before .args in
-    let told : c .differing .result ≡ differ (getD (a .counts .now) (l .loop .i) 0) (word32 (a .s .now) (a .at + 4 * l .loop .i)) = rw (← c .before .before .read32 .ensures, ← c .before .of-word .ensures, ← c .before .before .before .of-count .ensures) (c .differing .ensures .0) in
+    let told : c .differing .result ≡ differ (getD (a .counts .now) (l .loop .i) 0) (word32 (a .s .now) (a .at + 4 * l .loop .i)) = rw (← c .before .before .read32 .ensures, ← c .before .wide64 .ensures .0, ← c .before .before .before .long .ensures) (c .differing .ensures .0) in
     (omega arith, omega (arith, c .differing .ensures .1), omega (arith, differing-next (λ (i : ℕ). getD (a .counts .now) i 0) (λ (i : ℕ). word32 (a .s .now) (a .at + 4 * i)) (l .loop .i), told))
 
 returns : tie.Need-returns Inv-loop μ-loop
@@ -73,13 +75,13 @@ differing-counts-spec =
     Inv-loop
     μ-loop
     loop-holds
-    mul-of-count
-    element-copy-out-of-count
-    of-count-requires
+    mul-long
+    element-copy-out-long
+    long-requires
     mul-read32
     add-read32
     read32-requires
-    of-word-requires
+    wide64-requires
     differing-requires
     add-n
     add-i

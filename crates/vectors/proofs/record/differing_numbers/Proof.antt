@@ -1,4 +1,7 @@
--- `vectors::differing_numbers` meets its contract. Assumes nothing.
+-- Invariant: n is the number of the list's first i numbers whose bits differ from the words told
+-- (`differingOf`), and so at most i. A turn adds what `differing` finds for one more
+-- (`differing-next`). At the list's length it is `differingNumbers`, and at most 96 because the
+-- list is no longer. The measure is the list's length less i. Assumes nothing.
 use Prim.Native.Nat.{ℕ, _+_, _*_, _-_, _≤_, _<_}
 use native.Mathlib.Omega.{arith}
 use mathlib.Core.Path.{_≡_, refl}

@@ -1,4 +1,7 @@
--- `vectors::fill` meets its contract. Assumes nothing.
+-- Invariant: the first i numbers of the list are those that the bytes hold from `at` on
+-- (`numbersOf`), and the list keeps its length. A turn writes one number (`take-suc-set`), which is
+-- the next of them (`numbers-next`). When i is the list's length, the whole list is read. The
+-- measure is that length less i. Assumes nothing.
 use Prim.Native.Nat.{_-_, _≤_, _<_}
 use mathlib.Core.Path.{_≡_, refl}
 use native.Mathlib.Omega.{arith}

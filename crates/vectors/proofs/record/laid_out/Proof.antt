@@ -1,4 +1,4 @@
--- `vectors::laid_out` meets its contract. Assumes nothing.
+-- Calls are replaced by what they ensure; the definition is left. Assumes nothing.
 use Rattle.vectors.specs.Replay.{laidOut}
 use borrow.Author.Needs.{needs}
 use Rattle.vectors.proofs.record.laid_out.Statement.{statement}

@@ -1,10 +1,10 @@
--- `vectors::place` meets its contract. Assumes nothing.
+-- Calls are replaced by what they ensure; the definition is left. Assumes nothing.
 use mathlib.Core.Path.{_≡_, ap, _∙_}
 use Rattle.words.specs.Words.{word32}
 use Rattle.tuple.specs.declared.Tuple.{Tuple}
 use Rattle.ellipsoid.specs.Figure.{namedOf}
 use Rattle.geocart.specs.Geocart.{geographicOf}
-use Rattle.vectors.specs.Replay.{differingNumbers, four, tupleIn, placeOf}
+use Rattle.vectors.specs.Replay.{differingNumbers, four, tupleIn, geographicDifferingOf}
 use borrow.Author.Needs.{needs}
 use Rattle.vectors.proofs.record.place.Statement.{statement}
 use Rattle.vectors.proofs.record.place.Tie as tie
@@ -37,7 +37,7 @@ differing-numbers-requires : tie.Need-differing-numbers-requires
 differing-numbers-requires c κs = search needs
 
 returns : tie.Need-returns
-unfolding placeOf
+unfolding geographicDifferingOf
 returns c =
     let found : c .before .before .geographic .result ≡ geographicOf (namedOf (word32 (c .before .before .before .before .before .before .before .before .before .before .args .s .now) 0)) (tupleIn (c .before .before .before .before .before .before .before .before .before .before .args .s .now) 8) = c .before .before .geographic .ensures ∙ rw (c .before .before .before .named .ensures, c .before .before .before .before .read32 .ensures, c .before .before .before .before .before .number4 .ensures, c .before .before .before .before .before .before .number3 .ensures, c .before .before .before .before .before .before .before .number2 .ensures, c .before .before .before .before .before .before .before .before .number .ensures) in
     c .differing-numbers .ensures .0 ∙ ap (λ (v : Tuple). differingNumbers (c .before .before .before .before .before .before .before .before .before .before .args .s .now) 40 (four v)) found

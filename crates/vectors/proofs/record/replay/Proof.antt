@@ -1,4 +1,5 @@
--- `vectors::replay` meets its contract. Assumes nothing.
+-- One case for each way through the tests. Each by `laid`, from what the calls ensure.
+-- Assumes nothing.
 use Prim.Native.Nat.{ℕ, _*_}
 use native.Mathlib.Omega.{arith}
 use mathlib.Core.Path.{sym, ap, _∙_}

@@ -1,0 +1,70 @@
+-- 16 both ways: the text of a refusal by 16 is told of a bad job, and of no other. A run's text
+-- begins with another letter, and no sheet over a list is refused by a number past 11, whose digits
+-- differ from those of 16. Assumes nothing.
+use Prim.Native.Nat.{ℕ, zero, suc, _≤_}
+use native.Mathlib.Omega.{arith}
+use mathlib.Core.Path.{_≡_, refl, ap}
+use mathlib.Core.Logic.{_↔_}
+use mathlib.Core.Bool.{Bool, true, false, cond}
+use mathlib.Core.List.{List}
+use lib.Dec.{eqb}
+use lib.ListN.{length, getD}
+use lib.Ieee.{Float}
+use Rattle.sheet.specs.Layout.{stepCountOf}
+use Rattle.chain.specs.Rules.{Outcome, shiftOf}
+use Rattle.chain.proofs.ExactlyWhen.{no-number-past-eleven}
+use Rattle.text.specs.Digits.{digitsOf, placesOf, decimalOf}
+use Rattle.job.specs.Job.{headOf, refusal16, asksInverse, sheetOf, tuplesOf, velocitiesOf, marksOf}
+use Rattle.report.specs.Report.{lineOf, refusedText, ranText}
+use Rattle.answer.specs.Answer.{toldOf, jobText, answerOf}
+use Rattle.answer.proofs.Laws.{sixteen-first}
+
+-- ---- no other text is that of 16
+
+letter : ℕ → List ℕ → ℕ
+letter i text = getD text i 0
+
+differ : (a b : ℕ) → (a ≡ b → ⊥) → a ≡ b → ⊥
+differ a b apart e = apart e
+
+ran-is-not : (steps : ℕ) (counts : List ℕ) (l : List Float) → ranText steps counts l ≡ refusedText 16 0 → ⊥
+unfolding letter ranText lineOf
+ran-is-not steps counts l e = differ 115 114 (λ z. omega arith) (ap (letter 0) e)
+
+-- a case for each number: the place, and the letters that stand there in its text and in that of 16
+refused-is-not : (n step : ℕ) → n ≤ 11 → refusedText n step ≡ refusedText 16 0 → ⊥
+unfolding letter lineOf decimalOf placesOf digitsOf
+refused-is-not zero step h e = differ 48 49 (λ z. omega arith) (ap (letter 8) e)
+refused-is-not (suc zero) step h e = differ 32 54 (λ z. omega arith) (ap (letter 9) e)
+refused-is-not (suc (suc zero)) step h e = differ 50 49 (λ z. omega arith) (ap (letter 8) e)
+refused-is-not (suc (suc (suc zero))) step h e = differ 51 49 (λ z. omega arith) (ap (letter 8) e)
+refused-is-not (suc (suc (suc (suc zero)))) step h e = differ 52 49 (λ z. omega arith) (ap (letter 8) e)
+refused-is-not (suc (suc (suc (suc (suc zero))))) step h e = differ 53 49 (λ z. omega arith) (ap (letter 8) e)
+refused-is-not (suc (suc (suc (suc (suc (suc zero)))))) step h e = differ 54 49 (λ z. omega arith) (ap (letter 8) e)
+refused-is-not (suc (suc (suc (suc (suc (suc (suc zero))))))) step h e = differ 55 49 (λ z. omega arith) (ap (letter 8) e)
+refused-is-not (suc (suc (suc (suc (suc (suc (suc (suc zero)))))))) step h e = differ 56 49 (λ z. omega arith) (ap (letter 8) e)
+refused-is-not (suc (suc (suc (suc (suc (suc (suc (suc (suc zero))))))))) step h e = differ 57 49 (λ z. omega arith) (ap (letter 8) e)
+refused-is-not (suc (suc (suc (suc (suc (suc (suc (suc (suc (suc zero)))))))))) step h e = differ 48 54 (λ z. omega arith) (ap (letter 9) e)
+refused-is-not (suc (suc (suc (suc (suc (suc (suc (suc (suc (suc (suc zero))))))))))) step h e = differ 49 54 (λ z. omega arith) (ap (letter 9) e)
+refused-is-not (suc (suc (suc (suc (suc (suc (suc (suc (suc (suc (suc (suc n)))))))))))) step h e = absurd (omega arith)
+
+told-is-not : (steps : ℕ) (o : Outcome) → o .answer .refusal .number ≤ 11 → toldOf steps o ≡ refusedText 16 0 → ⊥
+unfolding toldOf
+told-is-not steps o few = by (eqb (o .answer .refusal .number) 0)
+  where
+    by : (b : Bool) → cond b (ranText steps (o .answer .counts) (o .list)) (refusedText (o .answer .refusal .number) (o .answer .refusal .step)) ≡ refusedText 16 0 → ⊥
+    by true e = ran-is-not steps (o .answer .counts) (o .list) e
+    by false e = refused-is-not (o .answer .refusal .number) (o .answer .refusal .step) few e
+
+-- ---- 16 exactly when the job is bad
+
+pub sixteen-exactly-when : (j : List ℕ) → (answerOf j ≡ refusedText 16 0) ↔ (refusal16 (headOf j) (length j) ≡ true)
+unfolding answerOf jobText
+sixteen-exactly-when j = (by (refusal16 (headOf j) (length j)) refl, sixteen-first j)
+  where
+    by : (b : Bool) → refusal16 (headOf j) (length j) ≡ b → cond b (refusedText 16 0) (jobText j) ≡ refusedText 16 0 → b ≡ true
+    by true e t = refl
+    by false e t =
+        absurd
+        (told-is-not (stepCountOf (sheetOf j)) (shiftOf (asksInverse j) (sheetOf j) (tuplesOf j) (velocitiesOf j) (marksOf j))
+        (no-number-past-eleven (asksInverse j) (sheetOf j) (tuplesOf j) (velocitiesOf j) (marksOf j)) t)

@@ -1,0 +1,14 @@
+-- One case for each way through the tests. The test's outcome picks the definition's case.
+-- Assumes nothing.
+use borrow.Author.Tests.{eq-eqb, ne-eqb}
+use Rattle.chain.proofs.reversed_by.Statement.{statement}
+use Rattle.chain.proofs.reversed_by.Tie as tie
+
+returns : tie.Need-returns
+returns c = rw (eq-eqb _ _ (c .if1 .taken))
+
+returns-2 : tie.Need-returns-2
+returns-2 c = rw (ne-eqb _ _ (c .if1 .left))
+
+pub reversed-by-spec : {M : Type 1} → statement M
+reversed-by-spec = tie.close (tie.spec returns returns-2)

@@ -1,0 +1,2 @@
+-- The theorem of the marked points.
+pub mod MarkedPoints

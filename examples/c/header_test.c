@@ -1,0 +1,643 @@
+/* Tests the header's promises on the library: sheets made by the add functions beside bytes placed
+ * by hand, each refusal, what a refused call leaves alone, and what a call leaves outside of what it
+ * writes. The last line is 'N passed, M failed'. */
+#include "sillfeather.h"
+#include <stdio.h>
+#include <string.h>
+
+static int passed, failed;
+
+static void holds(const char *what, int so) {
+    if (so) {
+        passed++;
+        printf("pass %s\n", what);
+    } else {
+        failed++;
+        printf("FAIL %s\n", what);
+    }
+}
+
+static void result_is(const char *what, uint32_t result, uint32_t number, uint32_t step) {
+    int so = result == number + 65536 * step;
+    if (!so) printf("     %s: %u step %u, expected %u step %u\n", what, SILLFEATHER_NUMBER(result), SILLFEATHER_STEP(result), number, step);
+    holds(what, so);
+}
+
+/* ----- bytes placed by hand, by docs/FORMAT.md ------------------------------------------------------------------------------------------------------------- */
+
+struct bytes {
+    uint8_t at[SILLFEATHER_SHEET_MAX];
+    size_t len;
+};
+
+static void word(struct bytes *b, uint32_t w) {
+    for (int i = 0; i < 4; i++) b->at[b->len++] = (uint8_t)(w >> (8 * i));
+}
+
+static void bits(struct bytes *b, uint64_t n) {
+    for (int i = 0; i < 8; i++) b->at[b->len++] = (uint8_t)(n >> (8 * i));
+}
+
+static uint64_t bits_of(double x) {
+    uint64_t n;
+    memcpy(&n, &x, 8);
+    return n;
+}
+
+static double of_bits(uint64_t n) {
+    double x;
+    memcpy(&x, &n, 8);
+    return x;
+}
+
+static void number(struct bytes *b, double x) { bits(b, x != x ? 0x7ff8000000000000u : bits_of(x)); }
+
+static void header(struct bytes *b, uint32_t total, uint32_t steps) {
+    b->len = 0;
+    word(b, 1);
+    word(b, total);
+    word(b, steps);
+    word(b, 16);
+}
+
+static void place(struct bytes *b, uint32_t kind, uint32_t inverted, uint32_t offset, uint32_t length) {
+    word(b, kind);
+    word(b, inverted);
+    word(b, offset);
+    word(b, length);
+}
+
+/* ----- rooms with something behind them that no call may touch ---------------------------------------------------------------------------------------------- */
+
+enum { GUARD = 64, FILL = 0xa5 };
+
+struct room {
+    uint8_t at[SILLFEATHER_SHEET_MAX + GUARD];
+    uint64_t len;
+};
+
+static void fresh(struct room *r) {
+    memset(r->at, FILL, sizeof r->at);
+    r->len = 0;
+}
+
+/* the room holds these bytes, and what it held before behind them */
+static int room_is(const struct room *r, const struct bytes *b) {
+    if (r->len != b->len || memcmp(r->at, b->at, b->len) != 0) return 0;
+    for (size_t i = b->len; i < sizeof r->at; i++)
+        if (r->at[i] != FILL) return 0;
+    return 1;
+}
+
+static int same_room(const struct room *a, const struct room *b) { return a->len == b->len && memcmp(a->at, b->at, sizeof a->at) == 0; }
+
+static const double ZERO = 0.0;
+
+/* ----- one step of each kind ------------------------------------------------------------------------------------------------------------------------------------ */
+
+static void a_helmert(struct sillfeather_helmert *h) {
+    struct sillfeather_helmert made = {{1, 2, 3},    {-4, 5, 6},    {0.1, 0.2, 0.3}, {-0.4, -0.0, 0.6}, {7, 8, 9}, {10, 11, 12}, {0.7, 0.8, 0.9},
+                                       {1.1, 1.2, 1.3}, 0.25,         0.5,             0.125,             0.0625,    2010.5,       SILLFEATHER_NOT_GIVEN};
+    *h = made;
+}
+
+static uint32_t add_helmert(struct room *r, size_t room_len) {
+    struct sillfeather_helmert h;
+    a_helmert(&h);
+    return sillfeather_add_helmert(r->at, room_len, &r->len, 1, 15, SILLFEATHER_COORDINATE_FRAME, SILLFEATHER_NUMBERS(&h));
+}
+
+static void put_helmert(struct bytes *b) {
+    struct sillfeather_helmert h;
+    a_helmert(&h);
+    word(b, 15);
+    word(b, 2);
+    const double *vectors[8] = {h.translation, h.xyz, h.translation_rate, h.dxyz, h.rotation, h.rxyz, h.rotation_rate, h.drxyz};
+    for (int i = 0; i < 8; i++)
+        for (int j = 0; j < 3; j++) number(b, vectors[i][j]);
+    const double rest[6] = {h.scale, h.s, h.scale_rate, h.ds, h.t_epoch, h.t_obs};
+    for (int i = 0; i < 6; i++) number(b, rest[i]);
+}
+
+static uint32_t add_cart(struct room *r, size_t room_len) { return sillfeather_add_cart(r->at, room_len, &r->len, 0, SILLFEATHER_GRS80); }
+
+static void put_cart(struct bytes *b) {
+    word(b, 1);
+    word(b, 0);
+}
+
+static const double MOLODENSKY[5] = {84.87, 96.49, 116.95, 251.0, 1.4e-5};
+
+static uint32_t add_molodensky(struct room *r, size_t room_len) {
+    return sillfeather_add_molodensky(r->at, room_len, &r->len, 0, SILLFEATHER_MOLODENSKY_ABRIDGED, SILLFEATHER_WGS84, 0, MOLODENSKY);
+}
+
+static void put_molodensky(struct bytes *b) {
+    word(b, 1);
+    word(b, 2);
+    word(b, 0);
+    word(b, 0);
+    for (int i = 0; i < 5; i++) number(b, MOLODENSKY[i]);
+}
+
+static uint32_t add_permtide(struct room *r, size_t room_len) {
+    return sillfeather_add_permtide(r->at, room_len, &r->len, 1, SILLFEATHER_BESSEL_1841, SILLFEATHER_TIDE_FREE, SILLFEATHER_TIDE_ZERO, 0.25);
+}
+
+static void put_permtide(struct bytes *b) {
+    word(b, 4);
+    word(b, 3);
+    word(b, 2);
+    word(b, 0);
+    number(b, 0.25);
+}
+
+static uint32_t add_deformation(struct room *r, size_t room_len) {
+    return sillfeather_add_deformation(r->at, room_len, &r->len, 0, SILLFEATHER_DEFORMATION_RAW, SILLFEATHER_KRASSOWSKY_1940, SILLFEATHER_NOT_GIVEN, 2000.0);
+}
+
+static void put_deformation(struct bytes *b) {
+    word(b, 1);
+    word(b, 5);
+    number(b, SILLFEATHER_NOT_GIVEN);
+    number(b, 2000.0);
+}
+
+struct kind {
+    const char *name;
+    uint32_t kind, inverted, length;
+    uint32_t (*add)(struct room *, size_t);
+    void (*put)(struct bytes *);
+};
+
+static const struct kind KINDS[5] = {{"Helmert", 1, 1, 248, add_helmert, put_helmert},
+                                     {"cart", 2, 0, 8, add_cart, put_cart},
+                                     {"Molodensky", 3, 0, 56, add_molodensky, put_molodensky},
+                                     {"permtide", 4, 1, 24, add_permtide, put_permtide},
+                                     {"deformation", 5, 0, 24, add_deformation, put_deformation}};
+
+/* the sheet of some kinds, each once, placed by hand */
+static void by_hand(struct bytes *b, const struct kind **kinds, size_t n) {
+    uint32_t total = (uint32_t)(16 + 16 * n), offset = total;
+    for (size_t i = 0; i < n; i++) total += kinds[i]->length;
+    header(b, total, (uint32_t)n);
+    for (size_t i = 0; i < n; i++) {
+        place(b, kinds[i]->kind, kinds[i]->inverted, offset, kinds[i]->length);
+        offset += kinds[i]->length;
+    }
+    for (size_t i = 0; i < n; i++) kinds[i]->put(b);
+}
+
+/* ----- making -------------------------------------------------------------------------------------------------------------------------------------------------------- */
+
+static void each_kind_by_hand(void) {
+    static struct bytes b;
+    static struct room r;
+    char what[160];
+    for (int i = 0; i < 5; i++) {
+        const struct kind *one[1] = {&KINDS[i]};
+        by_hand(&b, one, 1);
+        fresh(&r);
+        sprintf(what, "%s added to nothing", KINDS[i].name);
+        result_is(what, KINDS[i].add(&r, SILLFEATHER_SHEET_MAX), 0, 0);
+        sprintf(what, "%s: the bytes placed by hand, and nothing behind them", KINDS[i].name);
+        holds(what, room_is(&r, &b));
+        sprintf(what, "%s: check accepts them", KINDS[i].name);
+        result_is(what, sillfeather_check(r.at, (size_t)r.len), 0, 0);
+        sprintf(what, "%s: a room of just that length", KINDS[i].name);
+        fresh(&r);
+        result_is(what, KINDS[i].add(&r, b.len), 0, 0);
+        holds(what, room_is(&r, &b));
+        sprintf(what, "%s: a room shorter by a byte is refused", KINDS[i].name);
+        static struct room before;
+        fresh(&r);
+        before = r;
+        result_is(what, KINDS[i].add(&r, b.len - 1), 15, 0);
+        holds(what, same_room(&r, &before));
+    }
+}
+
+/* every order of two kinds, and all five */
+static void several_by_hand(void) {
+    static struct bytes b;
+    static struct room r;
+    char what[160];
+    for (int i = 0; i < 5; i++)
+        for (int j = 0; j < 5; j++) {
+            if (i == 4 && j == 4) continue; /* a second deformation step */
+            const struct kind *two[2] = {&KINDS[i], &KINDS[j]};
+            by_hand(&b, two, 2);
+            fresh(&r);
+            sprintf(what, "%s, then %s", KINDS[i].name, KINDS[j].name);
+            int taken = KINDS[i].add(&r, SILLFEATHER_SHEET_MAX) == 0 && KINDS[j].add(&r, SILLFEATHER_SHEET_MAX) == 0;
+            holds(what, taken && room_is(&r, &b) && sillfeather_check(r.at, (size_t)r.len) == 0);
+        }
+    const struct kind *all[5];
+    fresh(&r);
+    for (int i = 0; i < 5; i++) {
+        all[i] = &KINDS[i];
+        result_is("all five, one after another", all[i]->add(&r, SILLFEATHER_SHEET_MAX), 0, 0);
+    }
+    by_hand(&b, all, 5);
+    holds("all five: the bytes placed by hand", room_is(&r, &b));
+}
+
+static void sixteen_steps(void) {
+    static struct room r, before;
+    static struct bytes b;
+    const struct kind *all[16];
+    int taken = 1;
+    fresh(&r);
+    for (int i = 0; i < 16; i++) {
+        all[i] = &KINDS[0];
+        taken &= KINDS[0].add(&r, SILLFEATHER_SHEET_MAX) == 0;
+    }
+    by_hand(&b, all, 16);
+    holds("sixteen Helmert steps, 4,240 bytes", taken && r.len == SILLFEATHER_SHEET_MAX && room_is(&r, &b));
+    before = r;
+    result_is("a seventeenth step", add_cart(&r, sizeof r.at), 3, 0);
+    holds("a seventeenth step leaves the room", same_room(&r, &before));
+}
+
+static void refused_additions(void) {
+    static struct room r, before;
+    struct sillfeather_helmert h = SILLFEATHER_HELMERT_BLANK;
+    const size_t room = SILLFEATHER_SHEET_MAX;
+#define REFUSED(what, call, number, step)                          \
+    do {                                                           \
+        before = r;                                                \
+        result_is(what, call, number, step);                       \
+        holds(what " leaves room and length", same_room(&r, &before)); \
+    } while (0)
+    fresh(&r);
+    r.len = 40;
+    REFUSED("what stands there is no sheet", add_cart(&r, room), 1, 0);
+    fresh(&r);
+    add_cart(&r, room);
+    r.at[0] = 2;
+    REFUSED("what stands there has another form", add_cart(&r, room), 2, 0);
+    fresh(&r);
+    add_cart(&r, room);
+    r.at[32] = 6;
+    REFUSED("what stands there has a field out of rule", add_cart(&r, room), 5, 1);
+    fresh(&r);
+    add_cart(&r, room);
+    REFUSED("a length past the room", sillfeather_add_cart(r.at, 39, &r.len, 0, 1), 1, 0);
+    r.len = UINT64_MAX;
+    REFUSED("the greatest length", sillfeather_add_cart(r.at, room, &r.len, 0, 1), 1, 0);
+    r.len = 40;
+    REFUSED("inverted neither 0 nor 1", sillfeather_add_cart(r.at, room, &r.len, 2, 1), 4, 0);
+    REFUSED("an ellipsoid that is not there", sillfeather_add_cart(r.at, room, &r.len, 0, 6), 5, 2);
+    REFUSED("4 before 5", sillfeather_add_cart(r.at, room, &r.len, 7, 6), 4, 0);
+    REFUSED("5 before 15", sillfeather_add_cart(r.at, 40, &r.len, 0, 6), 5, 2);
+    REFUSED("no room for another step", sillfeather_add_cart(r.at, 63, &r.len, 0, 1), 15, 0);
+    REFUSED("a flag of Helmert that is not there", sillfeather_add_helmert(r.at, room, &r.len, 0, 16, 0, SILLFEATHER_NUMBERS(&h)), 5, 2);
+    REFUSED("a convention that is not there", sillfeather_add_helmert(r.at, room, &r.len, 0, 0, 3, SILLFEATHER_NUMBERS(&h)), 5, 2);
+    h.scale = 1.0 / ZERO;
+    REFUSED("a number that is infinite", sillfeather_add_helmert(r.at, room, &r.len, 0, 0, 0, SILLFEATHER_NUMBERS(&h)), 5, 2);
+    h.scale = 0.0;
+    h.rxyz[0] = 1.0; /* P11 */
+    REFUSED("rotated, no convention", sillfeather_add_helmert(r.at, room, &r.len, 0, 0, 0, SILLFEATHER_NUMBERS(&h)), 6, 2);
+    h.rxyz[0] = 0.0;
+    h.dxyz[0] = 1.0; /* P12 */
+    REFUSED("dynamic, no epoch", sillfeather_add_helmert(r.at, room, &r.len, 0, 0, 0, SILLFEATHER_NUMBERS(&h)), 7, 2);
+    double two[5] = {1, 2, 3, 0, 0};
+    result_is("two ellipsoids", sillfeather_add_molodensky(r.at, room, &r.len, 0, 2, 2, 3, two), 0, 0);
+    two[3] = -0.0;
+    REFUSED("two ellipsoids and a da of -0", sillfeather_add_molodensky(r.at, room, &r.len, 0, 2, 2, 3, two), 5, 3);
+    two[3] = 0.0;
+    REFUSED("a second ellipsoid without its flag", sillfeather_add_molodensky(r.at, room, &r.len, 0, 0, 2, 3, two), 5, 3);
+    REFUSED("a tide system that is not there", sillfeather_add_permtide(r.at, room, &r.len, 0, 1, 0, 1, SILLFEATHER_PERMTIDE_K), 5, 3);
+    REFUSED("neither dt nor t_epoch", sillfeather_add_deformation(r.at, room, &r.len, 0, 0, 1, SILLFEATHER_NOT_GIVEN, SILLFEATHER_NOT_GIVEN), 8, 3);
+    result_is("a deformation step", add_deformation(&r, room), 0, 0);
+    REFUSED("a second deformation step", add_deformation(&r, room), 11, 4);
+    result_is("a null room of length 0", (before.len = 0, sillfeather_add_cart(NULL, 0, &before.len, 0, 1)), 15, 0);
+#undef REFUSED
+}
+
+/* any NaN of the caller's is "not given", and is written in one way */
+static void nans_of_all_bits(void) {
+    static struct room r;
+    const uint64_t nans[4] = {0x7ff8000000000000u, 0xfff8000000000000u, 0x7ff0000000000001u, 0xffffffffffffffffu};
+    static const uint8_t not_given[8] = {0, 0, 0, 0, 0, 0, 0xf8, 0x7f};
+    for (int i = 0; i < 4; i++) {
+        fresh(&r);
+        result_is("a NaN for dt", sillfeather_add_deformation(r.at, SILLFEATHER_SHEET_MAX, &r.len, 0, 0, 1, of_bits(nans[i]), 2000.0), 0, 0);
+        holds("is written as not given", memcmp(r.at + 40, not_given, 8) == 0 && sillfeather_check(r.at, (size_t)r.len) == 0);
+    }
+}
+
+/* ----- check ---------------------------------------------------------------------------------------------------------------------------------------------------------- */
+
+static void checks(void) {
+    static struct bytes b;
+    const struct kind *two[2] = {&KINDS[1], &KINDS[0]};
+    by_hand(&b, two, 2);
+    result_is("cart and Helmert by hand", sillfeather_check(b.at, b.len), 0, 0);
+    result_is("cut by a byte", sillfeather_check(b.at, b.len - 1), 1, 0);
+    result_is("no bytes, by a null pointer", sillfeather_check(NULL, 0), 1, 0);
+    struct {
+        const char *what;
+        size_t at;
+        uint8_t byte;
+        uint32_t number, step;
+    } damaged[] = {{"form 2", 0, 2, 2, 0},
+                   {"total length", 4, 1, 1, 0},
+                   {"no step", 8, 0, 3, 0},
+                   {"seventeen steps", 8, 17, 3, 0},
+                   {"directory offset", 12, 15, 4, 0},
+                   {"a sixth kind", 16, 6, 4, 0},
+                   {"inverted 2", 20, 2, 4, 0},
+                   {"a gap", 40, 57, 4, 0},
+                   {"ellipsoid 6", 48, 6, 5, 1},
+                   {"a reserved word", 52, 1, 5, 1},
+                   {"a flag of Helmert", 56, 16, 5, 2},
+                   {"rotated, no convention", 60, 0, 6, 2},
+                   {"t_epoch not given", 56 + 232 + 7, 0, 0, 0}};
+    for (size_t i = 0; i < sizeof damaged / sizeof *damaged; i++) {
+        struct bytes d = b;
+        d.at[damaged[i].at] = damaged[i].byte;
+        result_is(damaged[i].what, sillfeather_check(d.at, d.len), damaged[i].number, damaged[i].step);
+    }
+    struct bytes d = b;
+    d.len = 56 + 232;
+    number(&d, SILLFEATHER_NOT_GIVEN);
+    d.len = b.len;
+    result_is("dynamic, t_epoch not given", sillfeather_check(d.at, d.len), 7, 2);
+    d.len = 56 + 232;
+    bits(&d, 0x7ff8000000000001u);
+    d.len = b.len;
+    result_is("another NaN for t_epoch", sillfeather_check(d.at, d.len), 5, 2);
+}
+
+/* ----- shift ----------------------------------------------------------------------------------------------------------------------------------------------------------- */
+
+static int same_doubles(const double *a, const double *b, size_t n) { /* NaNs count as equal, zeros differ by sign */
+    for (size_t i = 0; i < n; i++)
+        if (!(a[i] != a[i] && b[i] != b[i]) && bits_of(a[i]) != bits_of(b[i])) return 0;
+    return 1;
+}
+
+static int all_are(const uint32_t *counts, uint32_t value) {
+    for (int i = 0; i < 16; i++)
+        if (counts[i] != value) return 0;
+    return 1;
+}
+
+static const uint32_t JUNK = 0xdeadbeef;
+
+static void junk(uint32_t *counts) {
+    for (int i = 0; i < 16; i++) counts[i] = JUNK;
+}
+
+static void shifts(void) {
+    static struct room r;
+    uint32_t counts[16];
+    fresh(&r);
+    add_cart(&r, SILLFEATHER_SHEET_MAX);
+    size_t len = (size_t)r.len;
+
+    double p1[4] = {0, 0, 0, 0};
+    junk(counts);
+    result_is("P1 forward", sillfeather_shift(0, r.at, len, p1, 4, NULL, 0, NULL, 0, counts), 0, 0);
+    const double answer[4] = {6378137.0, 0.0, 0.0, 0.0};
+    holds("P1's numbers", same_doubles(p1, answer, 4));
+    holds("P1 counts 1 and fifteen zeros", counts[0] == 1 && (counts[0] = 0, all_are(counts, 0)));
+    junk(counts);
+    result_is("an empty list, by null pointers", sillfeather_shift(0, r.at, len, NULL, 0, NULL, 0, NULL, 0, counts), 0, 0);
+    holds("an empty list counts nothing", all_are(counts, 0));
+
+    /* anything but 0 is inverse; a point on the axis is shifted and not counted (P8) */
+    const uint32_t inverses[4] = {1, 2, 65536, 0x80000000u};
+    const double points[8] = {0.0, 0.0, 7000000.0, 0.0, 6378137.0, 0.0, 0.0, 0.0};
+    double list[8], first[8];
+    for (int i = 0; i < 4; i++) {
+        memcpy(list, points, sizeof list);
+        junk(counts);
+        result_is("inverse is anything but 0", sillfeather_shift(inverses[i], r.at, len, list, 8, NULL, 0, NULL, 0, counts), 0, 0);
+        holds("on the axis: shifted, not counted", list[2] > 643247.0 && list[2] < 643249.0 && list[6] == 0.0 && counts[0] == 1);
+        if (i == 0) memcpy(first, list, sizeof first);
+        holds("every inverse alike", same_doubles(list, first, 8));
+    }
+
+    /* counts stand in the sheet's order, whichever step runs first: from cartesian, then to cartesian */
+    fresh(&r);
+    sillfeather_add_cart(r.at, SILLFEATHER_SHEET_MAX, &r.len, 1, SILLFEATHER_GRS80);
+    sillfeather_add_cart(r.at, SILLFEATHER_SHEET_MAX, &r.len, 0, SILLFEATHER_GRS80);
+    len = (size_t)r.len;
+    for (uint32_t inverse = 0; inverse < 2; inverse++) {
+        memcpy(list, points, sizeof list);
+        junk(counts);
+        result_is("from and to cartesian", sillfeather_shift(inverse, r.at, len, list, 8, NULL, 0, NULL, 0, counts), 0, 0);
+        holds("counts in the sheet's order", counts[0] == 1 + inverse && counts[1] == 2 - inverse && counts[2] == 0 && counts[15] == 0);
+    }
+
+    /* refused: the list as it was, and zeros */
+    double kept[8], some[8] = {1, 2, 3, 4, 5, 6, 7, 8};
+    memcpy(kept, some, sizeof kept);
+    uint8_t marks[2] = {1, 1};
+    const double velocities[6] = {1, 2, 3, 4, 5, 6};
+#define REFUSED(what, call, number)                                            \
+    do {                                                                       \
+        junk(counts);                                                          \
+        result_is(what, call, number, 0);                                      \
+        holds(what " leaves the list, and zeros in counts", same_doubles(some, kept, 8) && all_are(counts, 0)); \
+    } while (0)
+    REFUSED("a sheet cut short", sillfeather_shift(0, r.at, len - 1, some, 8, NULL, 0, NULL, 0, counts), 1);
+    REFUSED("a list of 7 numbers", sillfeather_shift(0, r.at, len, some, 7, NULL, 0, NULL, 0, counts), 9);
+    REFUSED("velocities without a deformation step", sillfeather_shift(0, r.at, len, some, 8, velocities, 6, NULL, 0, counts), 10);
+    REFUSED("marks without a deformation step", sillfeather_shift(0, r.at, len, some, 8, NULL, 0, marks, 2, counts), 10);
+    REFUSED("9 before 10", sillfeather_shift(0, r.at, len, some, 6, velocities, 6, NULL, 0, counts), 9);
+    fresh(&r);
+    add_deformation(&r, SILLFEATHER_SHEET_MAX);
+    len = (size_t)r.len;
+    REFUSED("no velocities", sillfeather_shift(0, r.at, len, some, 8, NULL, 0, marks, 2, counts), 10);
+    REFUSED("no marks", sillfeather_shift(0, r.at, len, some, 8, velocities, 6, NULL, 0, counts), 10);
+    marks[1] = 2;
+    REFUSED("a mark of 2", sillfeather_shift(0, r.at, len, some, 8, velocities, 6, marks, 2, counts), 10);
+#undef REFUSED
+    marks[1] = 0;
+    double deformed[8] = {6378137, 0, 0, 2010, 6378137, 0, 0, 2010};
+    result_is("a mark of 0", sillfeather_shift(0, r.at, len, deformed, 8, velocities, 6, marks, 2, counts), 0, 0);
+    holds("is absent: four NaNs, not counted",
+          counts[0] == 1 && deformed[0] == deformed[0] && deformed[4] != deformed[4] && deformed[7] != deformed[7]);
+
+    static double many[4 * SILLFEATHER_TUPLES_MAX + 4];
+    fresh(&r);
+    add_cart(&r, SILLFEATHER_SHEET_MAX);
+    junk(counts);
+    result_is("2,048 tuples", sillfeather_shift(0, r.at, (size_t)r.len, many, 4 * SILLFEATHER_TUPLES_MAX, NULL, 0, NULL, 0, counts), 0, 0);
+    holds("all counted, the tuple behind them left alone", counts[0] == 2048 && bits_of(many[4 * SILLFEATHER_TUPLES_MAX]) == 0);
+    result_is("2,049 tuples", sillfeather_shift(0, r.at, (size_t)r.len, many, 4 * SILLFEATHER_TUPLES_MAX + 4, NULL, 0, NULL, 0, counts), 9, 0);
+}
+
+/* ----- kept runs ------------------------------------------------------------------------------------------------------------------------------------------------------- */
+
+enum { FIXES = 60, N = 4 * FIXES };
+
+static uint32_t seed = 1;
+
+static uint32_t draw(uint32_t below) {
+    seed = seed * 1664525u + 1013904223u;
+    return (seed >> 8) % below;
+}
+
+static void a_fix(double *fix) {
+    for (int i = 0; i < 3; i++) fix[i] = (double)draw(7000000) - 3500000.0;
+    uint32_t t = draw(12);
+    fix[3] = t == 0 ? SILLFEATHER_NOT_GIVEN : t == 1 ? -0.0 : 2000.0 + draw(3);
+}
+
+static void running(struct room *r, uint32_t flags) {
+    struct sillfeather_helmert h = SILLFEATHER_HELMERT_BLANK;
+    h.translation[0] = 10.0;
+    h.rotation[2] = 0.5;
+    h.translation_rate[1] = 0.25;
+    h.rotation_rate[0] = 0.125;
+    h.ds = 0.5;
+    h.t_epoch = 2000.0;
+    fresh(r);
+    sillfeather_add_helmert(r->at, SILLFEATHER_SHEET_MAX, &r->len, 0, flags, SILLFEATHER_POSITION_VECTOR, SILLFEATHER_NUMBERS(&h));
+}
+
+static void kept_runs(void) {
+    static struct room r;
+    for (uint32_t flags = 0; flags <= SILLFEATHER_HELMERT_OWN_EPOCH; flags += SILLFEATHER_HELMERT_OWN_EPOCH)
+        for (uint32_t inverse = 0; inverse < 2; inverse++) {
+            running(&r, flags);
+            size_t len = (size_t)r.len;
+            double list[N], results[N + 1], track[N + 1], shifted[N], before_list[N];
+            uint32_t counts[16];
+            for (int i = 0; i < FIXES; i++) a_fix(list + 4 * i);
+            results[N] = track[N] = 77.0;
+            memcpy(shifted, list, sizeof list);
+            memcpy(before_list, list, sizeof list);
+            result_is("keep", sillfeather_keep(inverse, r.at, len, list, N, results, N, track, N), 0, 0);
+            sillfeather_shift(inverse, r.at, len, shifted, N, NULL, 0, NULL, 0, counts);
+            holds("keep's results are shift's", same_doubles(results, shifted, N));
+            holds("keep leaves the list, and what stands behind results and track",
+                  same_doubles(list, before_list, N) && results[N] == 77.0 && track[N] == 77.0);
+            int fresh_again = 1, outside = 1, some = 1, one = 1;
+            for (int k = 0; k < 300; k++) {
+                double fix[4], was_results[N], was_track[N], was_list[N], new_results[N], new_track[N];
+                uint64_t redone = 12345;
+                size_t index = draw(FIXES);
+                a_fix(fix);
+                memcpy(was_list, list, sizeof list);
+                memcpy(was_results, results, sizeof was_results);
+                memcpy(was_track, track, sizeof was_track);
+                uint32_t told = sillfeather_correct(inverse, r.at, len, list, N, results, N, track, N, index, fix, &redone);
+                memcpy(was_list + 4 * index, fix, sizeof fix);
+                sillfeather_keep(inverse, r.at, len, list, N, new_results, N, new_track, N);
+                fresh_again &= told == 0 && same_doubles(list, was_list, N) && same_doubles(results, new_results, N) && same_doubles(track, new_track, N);
+                size_t end = 4 * (index + (size_t)redone);
+                some &= redone >= 1 && end <= N;
+                if (flags) one &= redone == 1;
+                outside &= memcmp(results, was_results, 4 * index * sizeof(double)) == 0 && memcmp(track, was_track, 4 * index * sizeof(double)) == 0 &&
+                           memcmp(results + end, was_results + end, (N - end) * sizeof(double)) == 0 &&
+                           memcmp(track + end, was_track + end, (N - end) * sizeof(double)) == 0;
+            }
+            holds("300 corrections: each ends as a fresh run of the corrected list", fresh_again);
+            holds("nothing outside the fixes redone is written", outside);
+            holds("at least one fix is redone, none past the end", some);
+            holds("own-epoch: one fix is redone", one);
+        }
+}
+
+static void marked_point_6(void) {
+    static struct room r;
+    struct sillfeather_helmert h = SILLFEATHER_HELMERT_BLANK;
+    h.dxyz[0] = 1.0;
+    h.t_epoch = 2000.0;
+    fresh(&r);
+    sillfeather_add_helmert(r.at, SILLFEATHER_SHEET_MAX, &r.len, 0, 0, 0, SILLFEATHER_NUMBERS(&h));
+    double list[12] = {0, 0, 0, 2001, 0, 0, 0, 2000, 0, 0, 0, 2002}, results[12], track[12];
+    const double retimed[4] = {0, 0, 0, 2001};
+    uint64_t redone = 99;
+    sillfeather_keep(0, r.at, (size_t)r.len, list, 12, results, 12, track, 12);
+    result_is("P6", sillfeather_correct(0, r.at, (size_t)r.len, list, 12, results, 12, track, 12, 1, retimed, &redone), 0, 0);
+    holds("P6: two redone", redone == 2);
+    holds("P6: X is 1, 1, 3", results[0] == 1.0 && results[4] == 1.0 && results[8] == 3.0);
+}
+
+static void refused_kept_runs(void) {
+    static struct room r;
+    double list[8] = {1, 2, 3, 4, 5, 6, 7, 8}, results[8], track[8], was[8], filled[8];
+    const double fix[4] = {9, 9, 9, 9};
+    for (int i = 0; i < 8; i++) results[i] = track[i] = filled[i] = 7.5;
+    memcpy(was, list, sizeof was);
+    uint64_t redone;
+    running(&r, 0);
+    size_t len = (size_t)r.len;
+#define ALONE (same_doubles(list, was, 8) && same_doubles(results, filled, 8) && same_doubles(track, filled, 8))
+#define KEEP(what, number, step, sheet_len, list_len, results_len, track_len)                                                                   \
+    do {                                                                                                                                        \
+        result_is("keep: " what, sillfeather_keep(0, r.at, sheet_len, list, list_len, results, results_len, track, track_len), number, step);    \
+        holds("keep: " what " leaves the lists", ALONE);                                                                                        \
+        redone = 12345;                                                                                                                         \
+        result_is("correct: " what,                                                                                                             \
+                  sillfeather_correct(0, r.at, sheet_len, list, list_len, results, results_len, track, track_len, 0, fix, &redone), number, step); \
+        holds("correct: " what " leaves the lists, and 0 redone", ALONE && redone == 0);                                                        \
+    } while (0)
+    KEEP("a sheet cut short", 1, 0, len - 1, 8, 8, 8);
+    KEEP("a list of 7 numbers", 9, 0, len, 7, 7, 7);
+    KEEP("results too short", 13, 0, len, 8, 4, 8);
+    KEEP("a track too short", 13, 0, len, 8, 8, 4);
+    KEEP("9 before 13", 9, 0, len, 7, 8, 8);
+    redone = 12345;
+    result_is("an index past the list", sillfeather_correct(0, r.at, len, list, 8, results, 8, track, 8, 2, fix, &redone), 14, 0);
+    holds("an index past the list leaves the lists, and 0 redone", ALONE && redone == 0);
+    result_is("the greatest index", sillfeather_correct(0, r.at, len, list, 8, results, 8, track, 8, SIZE_MAX, fix, &redone), 14, 0);
+    holds("the greatest index leaves the lists", ALONE && redone == 0);
+    add_cart(&r, SILLFEATHER_SHEET_MAX);
+    len = (size_t)r.len;
+    KEEP("two steps", 12, 0, len, 8, 8, 8);
+    KEEP("12 before 9", 12, 0, len, 7, 8, 8);
+    fresh(&r);
+    add_cart(&r, SILLFEATHER_SHEET_MAX);
+    len = (size_t)r.len;
+    KEEP("no Helmert step", 12, 0, len, 8, 8, 8);
+    r.at[32] = 6;
+    KEEP("a field out of rule", 5, 1, len, 8, 8, 8);
+#undef KEEP
+#undef ALONE
+    running(&r, 0);
+    result_is("keep of an empty list, by null pointers", sillfeather_keep(0, r.at, (size_t)r.len, NULL, 0, NULL, 0, NULL, 0), 0, 0);
+}
+
+/* ----- kernels --------------------------------------------------------------------------------------------------------------------------------------------------------- */
+
+static void kernels(void) {
+    const double some[12] = {0.0, -0.0, 0.5, -1.0, 3.0, 1024.0, -1025.0, 1e300, 1.0 / ZERO, -1.0 / ZERO, SILLFEATHER_NOT_GIVEN, 2.5e-310};
+    int both = 1, rooted = 1, reach = 1;
+    for (int i = 0; i < 12; i++) {
+        double s = 7, c = 7, x = some[i];
+        sillfeather_sin_cos(x, &s, &c);
+        double alone[2] = {sillfeather_sin(x), sillfeather_cos(x)}, pair[2] = {s, c}, root[1] = {sillfeather_sqrt(x)}, rounded[1] = {sqrt(x)};
+        both &= same_doubles(alone, pair, 2);
+        rooted &= same_doubles(root, rounded, 1);
+        reach &= (s != s) == !(x >= -1024.0 && x <= 1024.0) && !(s < -1.0 || s > 1.0 || c < -1.0 || c > 1.0);
+    }
+    holds("sin_cos writes what sin and cos give", both);
+    holds("sqrt is the machine's", rooted);
+    holds("NaN beyond 1024, within 1 before it", reach);
+    holds("atan2 of -0 and -1 is -pi", sillfeather_atan2(-0.0, -1.0) == -3.14159265358979323846);
+    holds("hypot of an infinity and a NaN is infinite", sillfeather_hypot(SILLFEATHER_NOT_GIVEN, -1.0 / ZERO) == 1.0 / ZERO);
+}
+
+int main(void) {
+    holds("30 numbers in a Helmert record", sizeof(struct sillfeather_helmert) == 30 * sizeof(double));
+    each_kind_by_hand();
+    several_by_hand();
+    sixteen_steps();
+    refused_additions();
+    nans_of_all_bits();
+    checks();
+    shifts();
+    kept_runs();
+    marked_point_6();
+    refused_kept_runs();
+    kernels();
+    printf("%d passed, %d failed\n", passed, failed);
+    return failed != 0;
+}

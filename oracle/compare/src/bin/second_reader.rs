@@ -1,0 +1,98 @@
+//! Beside the second reader: what the library answers to sheets, lists and kept runs, good, damaged
+//! and at every edge, against oracle/reader, which was written from documents 01 and 02 alone. No
+//! tolerance; all NaNs count as equal.
+//!
+//!     second_reader [cases a part, 5000] [seed, 1]
+use reader::{In, chain, draw, kept, random::Random, sheet};
+use std::process::ExitCode;
+
+/// The requests of document 02 that have landed.
+const LANDED: In = In::NONE;
+
+#[derive(Default)]
+struct Tally {
+    accepted: usize,
+    parted: usize,
+}
+
+impl Tally {
+    /// One case: the refusal, whether library and reader agree, and what was lent.
+    fn count(&mut self, part: &str, refusal: u32, agree: bool, case: impl std::fmt::Debug) {
+        self.accepted += (refusal == 0) as usize;
+        if !agree {
+            self.parted += 1;
+            if self.parted <= 3 {
+                println!("{part} parts: {case:?}");
+            }
+        }
+    }
+}
+
+fn main() -> ExitCode {
+    let mut args = std::env::args().skip(1).map(|a| a.parse::<u64>().expect("a number"));
+    let (cases, seed) = (args.next().unwrap_or(5000), args.next().unwrap_or(1));
+    println!("second reader: {cases} cases a part, seed {seed}");
+    let (mut passed, mut failed) = (0, 0);
+    let parts: [(&str, fn(&str, &mut Random, &mut Tally)); 4] =
+        [("sheets", sheets), ("steps", steps), ("lists", lists), ("kept runs", kept_runs)];
+    for (i, (name, part)) in parts.into_iter().enumerate() {
+        let mut r = Random::new(seed.wrapping_mul(1000) + i as u64);
+        let mut tally = Tally::default();
+        for _ in 0..cases {
+            part(name, &mut r, &mut tally);
+        }
+        println!("{name}: {cases} cases, {} accepted, {} parted", tally.accepted, tally.parted);
+        if tally.parted == 0 { passed += 1 } else { failed += 1 }
+    }
+    println!("{passed} passed, {failed} failed");
+    if failed == 0 { ExitCode::SUCCESS } else { ExitCode::FAILURE }
+}
+
+fn sheets(part: &str, r: &mut Random, tally: &mut Tally) {
+    let bytes = draw::draw_sheet(r, &LANDED);
+    let (number, step) = match sheet::check(&LANDED, &bytes) {
+        Ok(_) => (0, 0),
+        Err(refusal) => (refusal.number, refusal.step),
+    };
+    tally.count(part, number, ours::check(&bytes) == (number, step), bytes);
+}
+
+fn steps(part: &str, r: &mut Random, tally: &mut Tally) {
+    let kind = 1 + r.below(5) as u32;
+    shift(part, draw::draw_step(r, &LANDED, kind), tally);
+}
+
+fn lists(part: &str, r: &mut Random, tally: &mut Tally) {
+    shift(part, draw::draw_shift(r, &LANDED), tally);
+}
+
+fn shift(part: &str, case: draw::Shift, tally: &mut Tally) {
+    let draw::Shift { inverse, sheet, list, velocities, marks, .. } = &case;
+    let expected = chain::shift(&LANDED, *inverse, sheet, list, velocities, marks, None);
+    let told = ours::shift_bytes(*inverse, sheet, list, velocities, marks);
+    let agree = (told.refusal, told.step) == (expected.refusal, expected.step)
+        && told.counts == expected.counts
+        && reader::same_numbers(&told.list, &expected.list);
+    tally.count(part, expected.refusal, agree, case);
+}
+
+/// A fresh run over what the memory held, then each correction on what the one before it left.
+fn kept_runs(part: &str, r: &mut Random, tally: &mut Tally) {
+    let mut run = draw::draw_kept(r, &LANDED);
+    let expected = kept::keep(&LANDED, run.inverse, &run.sheet, &run.memory);
+    let mut memory = run.memory.clone();
+    let told = ours::keep(run.inverse, &run.sheet, &memory.list, &mut memory.results, &mut memory.track);
+    let agree = told == (expected.refusal, expected.step) && memory.same(&expected.memory);
+    tally.count(part, expected.refusal, agree, &run);
+    for (index, fix) in run.corrections.clone() {
+        let expected = kept::correct(&LANDED, run.inverse, &run.sheet, &run.memory, index, fix);
+        let mut memory = run.memory.clone();
+        let lent = [&mut memory.list[..], &mut memory.results, &mut memory.track];
+        let (told, redone) = ours::correct(run.inverse, &run.sheet, lent, index, fix);
+        let agree = told == (expected.refusal, expected.step)
+            && redone == u64::from(expected.redone)
+            && memory.same(&expected.memory);
+        tally.count(part, expected.refusal, agree, (&run, index, fix));
+        run.memory = expected.memory;
+    }
+}
