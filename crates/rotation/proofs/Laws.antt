@@ -1,5 +1,5 @@
 -- What is true of the rotation matrix, for callers to cite. Assumes nothing.
-use mathlib.Core.Path.{_≡_, refl}
+use mathlib.Core.Path.{_≡_, refl, ap, _∙_}
 use mathlib.Core.Bool.{Bool, true, false}
 use mathlib.Core.List.{[], _∷_}
 use lib.Dec.{T}
@@ -37,3 +37,10 @@ small-angle-rows r fx fy fz =
       times-one (neg (r .x)) (neg-fits binary64 (r .x) fx),
       one-times one (ofBits-fits binary64 0x3ff0_0000_0000_0000),
     )
+
+-- In the small-angle form the position vector rows are (1, -rz, ry), (rz, 1, -rx), (-ry, rx, 1).
+pub small-angle-columns : (r : Vec3) → T (fits binary64 (r .x)) → T (fits binary64 (r .y)) → T (fits binary64 (r .z))
+    → rotationMatrixOf r false true
+    ≡ (one ∷ neg (r .z) ∷ r .y ∷ []) ∷ (r .z ∷ one ∷ neg (r .x) ∷ []) ∷ (neg (r .y) ∷ r .x ∷ one ∷ []) ∷ []
+unfolding transposed
+small-angle-columns r fx fy fz = position-vector-is-transpose r false ∙ ap transposed (small-angle-rows r fx fy fz)

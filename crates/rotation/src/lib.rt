@@ -7,7 +7,7 @@
 // specs/Matrix.antt, rounding by rounding, for every number; how exact the sines and cosines are is
 // the crate trig's to say. A crate of its own because steps other than Helmert turn by it too.
 ghost use mathlib.Core.Path.{_≡_};
-ghost use Rattle.rotation.specs.Matrix.{sinesOf, smallOf, firstOrderOf, secondOrderOf, rowsOf, rotationMatrixOf, rotateOf, rotateBackOf};
+ghost use Rattle.rotation.specs.Matrix.{sinesOf, firstOrderOf, secondOrderOf, rowsOf, rotationMatrixOf, rotateOf, rotateBackOf};
 
 pub struct Vec3 {
     pub x: f64,
@@ -53,19 +53,6 @@ fn exact_sines(r: Vec3) -> Sines
         cy: y.c,
         sz: z.s,
         cz: z.c,
-    }
-}
-
-fn small_sines(r: Vec3) -> Sines
-    ensures { λ q. ⌜ q ≡ smallOf r ⌝ }
-{
-    Sines {
-        sx: r.x,
-        cx: 1.0,
-        sy: r.y,
-        cy: 1.0,
-        sz: r.z,
-        cz: 1.0,
     }
 }
 
@@ -129,13 +116,34 @@ pub fn exact_matrix(a: Sines, position_vector: bool) -> [[f64; 3]; 3]
     rows(position_vector, second_order(a))
 }
 
+// The matrix M of M·v, for a data sheet's three angles in radians.
+//
+// The small-angle matrices stand here as IOGP 373-7-2 prints them, so that a fitter can lay them
+// beside the data sheet: rows X, Y, Z, and in each the factors of the x, y and z that come in.
+// Position vector (EPSG method 1033): a positive angle turns the point about its axis,
+// anticlockwise as seen from the axis's positive end towards the origin; rz > 0 moves a point on
+// the X axis towards +Y. Coordinate frame (EPSG method 1032): a positive angle turns the axes that
+// way and the point stands still, so its coordinates go the other way; rz > 0 moves a point on the
+// X axis towards -Y. Each matrix is the other's transpose, and the other's for angles of the other
+// sign. A minus is a negation and not 0 less the angle, which differs at a zero.
 pub fn rotation_matrix(r: Vec3, exact: bool, position_vector: bool) -> [[f64; 3]; 3]
     ensures { λ m. ⌜ m ≡ rotationMatrixOf r exact «position_vector» ⌝ }
 {
     if exact {
         return exact_matrix(exact_sines(r), position_vector);
     }
-    rows(position_vector, first_order(small_sines(r)))
+    if position_vector {
+        return [
+            [1.0, -r.z, r.y], // X
+            [r.z, 1.0, -r.x], // Y
+            [-r.y, r.x, 1.0], // Z
+        ];
+    }
+    [
+        [1.0, r.z, -r.y], // X
+        [-r.z, 1.0, r.x], // Y
+        [r.y, -r.x, 1.0], // Z
+    ]
 }
 
 // ----- application -----------------------------------------------------------------------------

@@ -286,6 +286,51 @@ pub fn helmert(r: &mut Random, mode: Mode) -> Helmert {
     h
 }
 
+/// A Helmert body for the signs of the small-angle matrix: each angle a zero of either sign,
+/// subnormal or ordinary; each rate a zero, ordinary, or so large that a long time makes the angle
+/// infinite. The epoch is 0, running or own-epoch.
+pub fn turning(r: &mut Random) -> Helmert {
+    let mut h = Helmert::blank();
+    h.flags = 8 * r.below(2) as u32;
+    h.convention = 1 + r.below(2) as u32;
+    h.t_epoch = 0.0;
+    h.rotation = [(); 3].map(|()| match r.below(4) {
+        0 => r.sign(0.0),
+        1 => r.magnitude(-1020, -1004), // subnormal in radians
+        _ => r.between(-5.0, 5.0),
+    });
+    h.rotation_rate = [(); 3].map(|()| match r.below(4) {
+        0 | 1 => r.sign(0.0),
+        2 => r.sign(f64::MAX),
+        _ => r.between(-5.0, 5.0),
+    });
+    if r.once_in(2) {
+        h.translation = three(r, Style::Ordinary, 500.0);
+    }
+    h
+}
+
+/// Points whose coordinates are zeros, one or ordinary, at the epoch, long before or after it, or
+/// at times that make an angle NaN.
+pub fn turned_list(r: &mut Random, n: usize) -> Vec<f64> {
+    let missing = r.once_in(4);
+    let mut list = Vec::with_capacity(4 * n);
+    for _ in 0..n {
+        list.extend([(); 3].map(|()| match r.below(3) {
+            0 => r.sign(0.0),
+            1 => r.sign(1.0),
+            _ => r.between(-7e6, 7e6),
+        }));
+        list.push(match r.below(8) {
+            0 if missing => r.pick(&[f64::NAN, f64::INFINITY, f64::NEG_INFINITY]),
+            0..=2 => 0.0,
+            3..=5 => r.sign(1e12),
+            _ => r.between(-40.0, 40.0),
+        });
+    }
+    list
+}
+
 fn rates(r: &mut Random, style: Style, h: &mut Helmert) {
     if !r.once_in(4) {
         (h.translation_rate, h.dxyz) = pair(r, style, 3.0);

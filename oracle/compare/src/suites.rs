@@ -30,6 +30,9 @@ pub const SUITES: [Suite; 12] = [
     Suite { name: "chain of published shifts", draw: published_chain },
 ];
 
+/// Suites beside those that the stored vectors are drawn from.
+pub const FURTHER: [Suite; 1] = [Suite { name: "helmert small angles", draw: small_angles }];
+
 /// One step, asked for in a direction: by the call alone, or turned in the sheet.
 fn one(r: &mut Random, inverse: bool, body: Body, list: Vec<f64>) -> Job {
     let inverted = r.once_in(4);
@@ -73,6 +76,13 @@ fn molodensky(r: &mut Random, inverse: bool, n: usize, abridged: bool) -> Job {
 fn helmert(r: &mut Random, inverse: bool, n: usize, mode: Mode) -> Job {
     let h = draw::helmert(r, mode);
     let list = draw::list(r, n, h.t_epoch, draw::cartesian);
+    one(r, inverse, Body::Helmert(h), list)
+}
+
+/// Every class of angle in both small-angle matrices.
+fn small_angles(r: &mut Random, inverse: bool, n: usize) -> Job {
+    let h = draw::turning(r);
+    let list = draw::turned_list(r, n);
     one(r, inverse, Body::Helmert(h), list)
 }
 

@@ -1,7 +1,9 @@
--- One case for each way through the tests. Calls are replaced by what they ensure; the definition
--- is left. Assumes nothing.
+-- Exact angles go to `exact_matrix`. The two small-angle matrices are written out in the code; that the
+-- definition's products with 1.0 give the same nine numbers, for every angle that binary64 holds, is
+-- `small-angle-rows` and, transposed, `small-angle-columns`. Assumes nothing.
 use Rattle.rotation.specs.Matrix.{rotationMatrixOf}
 use borrow.Author.Needs.{needs}
+use Rattle.rotation.proofs.Laws.{small-angle-rows, small-angle-columns}
 use Rattle.rotation.proofs.rotation_matrix.Statement.{statement}
 use Rattle.rotation.proofs.rotation_matrix.Tie as tie
 
@@ -15,27 +17,19 @@ returns : tie.Need-returns
 unfolding rotationMatrixOf
 returns c = rw (c .exact-matrix .ensures, c .before .exact-sines .ensures, c .before .before .if1 .taken)
 
-small-sines-requires : tie.Need-small-sines-requires
-small-sines-requires c κs = search needs
-
-first-order-requires : tie.Need-first-order-requires
-first-order-requires c κs = search needs
-
-rows-requires : tie.Need-rows-requires
-rows-requires c κs = search needs
-
+-- position vector: that binary64 holds the angles is known where the record's fields are read
 returns-2 : tie.Need-returns-2
-unfolding rotationMatrixOf
-returns-2 c = rw (c .rows .ensures, c .before .first-order .ensures, c .before .before .small-sines .ensures, c .before .before .before .if1 .left)
+returns-2 c =
+    let held = c .struct-known3 .given in
+    let branch = c .before .before .before in
+    rw (branch .if2 .taken, branch .before .if1 .left, small-angle-columns _ (held .0) (held .1 .0) (held .1 .1 .0))
+
+-- coordinate frame
+returns-3 : tie.Need-returns-3
+returns-3 c =
+    let held = c .struct-known6 .given in
+    let branch = c .before .before .before in
+    rw (branch .if2 .left, branch .before .if1 .left, small-angle-rows _ (held .0) (held .1 .0) (held .1 .1 .0))
 
 pub rotation-matrix-spec : {M : Type 1} → statement M
-rotation-matrix-spec =
-    tie.close
-    (tie.spec
-    exact-sines-requires
-    exact-matrix-requires
-    returns
-    small-sines-requires
-    first-order-requires
-    rows-requires
-    returns-2)
+rotation-matrix-spec = tie.close (tie.spec exact-sines-requires exact-matrix-requires returns returns-2 returns-3)

@@ -3,7 +3,7 @@
 //! tolerance.
 //!
 //!     same_bits [tuples a suite and direction, 50000] [seed, 1]
-use compare::{draw, random::Random, suites::SUITES, tell};
+use compare::{draw, random::Random, suites::{FURTHER, SUITES}, tell};
 use std::process::ExitCode;
 
 #[derive(Default)]
@@ -22,7 +22,7 @@ fn main() -> ExitCode {
     let (wanted, seed) = (args.next().unwrap_or(50_000) as usize, args.next().unwrap_or(1));
     println!("same-bits run: {wanted} tuples a suite and direction, seed {seed}");
     let (mut passed, mut failed) = (0, 0);
-    for (i, suite) in SUITES.iter().enumerate() {
+    for (i, suite) in SUITES.iter().chain(&FURTHER).enumerate() {
         for inverse in [false, true] {
             let mut r = Random::new(seed.wrapping_mul(1000) + 2 * i as u64 + inverse as u64);
             let name = format!("{} {}", suite.name, if inverse { "inverse" } else { "forward" });
