@@ -95,6 +95,9 @@ EDGES = [
     [MOVING] * 17,
     [],
 ]
+TIDES = [0, 1, 2, 3, 4, 2**32 - 1]
+LOVE = [1.7976931348623157e308, 5e-324, 0.0, 0.3, NOT_GIVEN, float("inf")]
+EDGES += [[permtide(to=to, source=source, k=s * k)] for to in TIDES for source in TIDES for k in LOVE for s in (1, -1)]
 
 
 # ---- damage -----------------------------------------------------------------------------

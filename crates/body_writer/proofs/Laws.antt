@@ -22,7 +22,7 @@ use Rattle.cart.specs.declared.Cart.{Cart as CartRecord}
 use Rattle.molodensky.specs.declared.Molodensky.{Molodensky as MolodenskyRecord}
 use Rattle.molodensky.specs.Record.{finiteOf, secondInRuleOf, figureInRuleOf, inRuleOf}
 use Rattle.permtide.specs.declared.Permtide.{Permtide as PermtideRecord}
-use Rattle.permtide.specs.Record.{coefficientOf, inRuleOf as permtideInRuleOf}
+use Rattle.permtide.specs.Record.{systemOf, inRuleOf as permtideInRuleOf}
 use Rattle.deformation.specs.declared.Deformation.{Deformation as DeformationRecord}
 use Rattle.bodies.specs.declared.Step.{Step}
 use Rattle.bodies.specs.declared.Step.the-variants.{Cart, Permtide, Deformation, Molodensky, Helmert}
@@ -416,7 +416,7 @@ module _ (b : List ℕ) (bytes : Bytes b) where
       let r = permtideOf b in
       ap bytesOf s
       ∙ permtide-kept b bytes e (body-written-in-rule 4 b h)
-      (second-of (existsOf (r .ellipsoid)) (finite (r .k)) (not (isNan (coefficientOf (r .to) (r .from) (r .k)))) f)
+      (second-of (existsOf (r .ellipsoid)) (finite (r .k)) (systemOf (r .to) && systemOf (r .from)) f)
 
   deformation-again : bodyInRule 5 b ≡ true → bytesOf (stepOf 5 b) ≡ b
   unfolding bytesOf writtenInRule lengthOf

@@ -2,5 +2,6 @@
 pub mod Zero
 pub mod Nan
 pub mod Values
+pub mod Finite
 pub mod Laws
 pub mod Examples

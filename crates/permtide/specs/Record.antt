@@ -1,9 +1,9 @@
 -- The permtide step's record, as a sheet carries it (kind 4): an ellipsoid, the codes of the system
 -- shifted to and from, and Love's number k. Systems: mean 1, zero 2, free 3.
 use Prim.Native.Nat.{ℕ}
-use mathlib.Core.Bool.{Bool, not, cond, false}
+use mathlib.Core.Bool.{Bool, cond, false, _&&_, _||_}
 use lib.Dec.{eqb}
-use lib.Ieee.{Float, nan, isNan, neg}
+use lib.Ieee.{Float, nan, neg}
 use lib.Ieee.Scale.{finite}
 use Rattle.floats.specs.Binary64.{_⊕_, bits}
 use Rattle.ellipsoid.specs.Figure.{one, existsOf}
@@ -26,8 +26,10 @@ coefficientOf to from k =
     (cond (eqb to 3) (fromOf from (neg (one ⊕ k)) (neg k) (bits 0))
     nan))
 
--- rule 5: the table has the ellipsoid, k is finite, and the codes have a coefficient, tested as in
--- the Rust: it is no NaN
+-- the code names one of the three systems
+abbrev pub systemOf : ℕ → Bool
+systemOf code = eqb code 1 || eqb code 2 || eqb code 3
+
+-- rule 5: the table has the ellipsoid, k is finite, and both codes name a system
 abbrev pub inRuleOf : Permtide → Bool
-inRuleOf r =
-    cond (existsOf (r .ellipsoid)) (cond (finite (r .k)) (not (isNan (coefficientOf (r .to) (r .from) (r .k)))) false) false
+inRuleOf r = cond (existsOf (r .ellipsoid)) (cond (finite (r .k)) (systemOf (r .to) && systemOf (r .from)) false) false

@@ -8,7 +8,7 @@ ghost use mathlib.Core.Path.{_≡_};
 ghost use Prim.Native.Nat.{ℕ};
 ghost use Rattle.floats.specs.Binary64.{_⊕_, _⊖_};
 ghost use Rattle.blocks.specs.Each.{at, Each};
-ghost use Rattle.permtide.specs.Record.{blankOf, fromOf, coefficientOf, inRuleOf};
+ghost use Rattle.permtide.specs.Record.{blankOf, fromOf, coefficientOf, systemOf, inRuleOf};
 ghost use Rattle.permtide.specs.Step.{tideOf, geocentricSineOf, heightOf, liftOf, fwdOf, invOf};
 use blocks::WIDTH;
 use ellipsoid::Ellipsoid;
@@ -41,18 +41,28 @@ impl Permtide {
         }
     }
 
-    // Rule 5: the ellipsoid, a finite k, and codes that have a coefficient.
+    // Rule 5: the ellipsoid, a finite k, and two codes that name a system. The coefficient needs no
+    // test for NaN: of a record that passes here it is finite (proofs/Coefficients.antt,
+    // `checked-coefficient-is-finite`), and the test would refuse just the same records
+    // (`rule-is-the-rusts`).
     pub fn in_rule(self) -> bool
         ensures { λ r. ⌜ r ≡ inRuleOf self ⌝ }
     {
         if Ellipsoid::exists(self.ellipsoid) {
             if floats::is_finite(self.k) {
-                return !floats::is_nan(coefficient(self.to, self.from, self.k));
+                return system(self.to) & system(self.from);
             }
             return false;
         }
         false
     }
+}
+
+// Whether a code names one of the three systems.
+fn system(code: u32) -> bool
+    ensures { λ r. ⌜ r ≡ systemOf code ⌝ }
+{
+    (code == 1) | (code == 2) | (code == 3)
 }
 
 fn from_mean_zero_free(from: u32, mean: f64, zero: f64, free: f64) -> f64

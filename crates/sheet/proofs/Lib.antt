@@ -4,5 +4,6 @@ pub mod Entries
 pub mod Examples
 pub mod Each
 pub mod Accepted
+pub mod Tides
 pub mod Back
 pub mod Laws

@@ -390,6 +390,22 @@ pub fn permtide(r: &mut Random) -> Body {
     Body::Permtide { ellipsoid: ellipsoid(r), to, from, k }
 }
 
+/// Codes in rule and beside it, k at the edges of binary64. The Rust refuses just the codes.
+pub fn edge_permtide(r: &mut Random) -> Body {
+    let mut code = || if r.once_in(20) { r.pick(&[0, 4, u32::MAX]) } else { 1 + r.below(3) as u32 };
+    let (to, from) = (code(), code());
+    let k = match r.below(6) {
+        0 => f64::MAX,
+        1 => f64::from_bits(1),
+        2 => 0.0,
+        3 => 1.0,
+        4 => r.magnitude(1020, 1023),
+        _ => r.wild_finite(),
+    };
+    let k = r.sign(k);
+    Body::Permtide { ellipsoid: ellipsoid(r), to, from, k }
+}
+
 /// dt, t_epoch or both; now and then neither, which rule 8 refuses.
 pub fn deformation(r: &mut Random, raw: bool) -> Body {
     let style = style(r);

@@ -31,7 +31,10 @@ pub const SUITES: [Suite; 12] = [
 ];
 
 /// Suites beside those that the stored vectors are drawn from.
-pub const FURTHER: [Suite; 1] = [Suite { name: "helmert small angles", draw: small_angles }];
+pub const FURTHER: [Suite; 2] = [
+    Suite { name: "helmert small angles", draw: small_angles },
+    Suite { name: "permtide at the edges", draw: tides },
+];
 
 /// One step, asked for in a direction: by the call alone, or turned in the sheet.
 fn one(r: &mut Random, inverse: bool, body: Body, list: Vec<f64>) -> Job {
@@ -84,6 +87,13 @@ fn small_angles(r: &mut Random, inverse: bool, n: usize) -> Job {
     let h = draw::turning(r);
     let list = draw::turned_list(r, n);
     one(r, inverse, Body::Helmert(h), list)
+}
+
+/// Every pair of codes with every kind of k.
+fn tides(r: &mut Random, inverse: bool, n: usize) -> Job {
+    let list = draw::list(r, n, 2000.0, |r| draw::geographic(r, 1));
+    let body = draw::edge_permtide(r);
+    one(r, inverse, body, list)
 }
 
 fn deformation(r: &mut Random, inverse: bool, n: usize, raw: bool) -> Job {
