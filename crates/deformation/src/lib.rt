@@ -4,9 +4,9 @@
 // The Rust looks a velocity up in grid files; here the caller lends it, east, north and up in mm a
 // year, with a mark that says whether there is one. Letters and sequence of roundings are the
 // Rust's, over our kernels. Forward adds (t - t_epoch) times the velocity, while comment (3) of the
-// Rust's file subtracts it: the code decides, and the difference is listed. The sum works on all
-// four coordinates, the fourth addend 0.0, so a time of -0 becomes +0. Sixteen tuples at a time:
-// `deformation_block`.
+// Rust's file subtracts it: the code decides, and the difference is listed. With flag 2 the comment
+// decides. The sum works on all four coordinates, the fourth addend 0.0, so a time of -0 becomes
+// +0. Sixteen tuples at a time: `deformation_block`.
 ghost use mathlib.Core.Path.{_≡_};
 ghost use Rattle.deformation.specs.Record.{blankOf, rawOf, byCommentOf, directedOf, finiteOrNot, inRuleOf, neitherOf};
 ghost use Rattle.deformation.specs.Step.{motionOf, lastingOf, durationOf, scaleOf, metreOf, metresOf, eastNorthUpOf, integratedOf, withLengthOf, deformedOf, commonOf};
