@@ -236,9 +236,13 @@ enum {
 uint32_t sillfeather_add_permtide(uint8_t *room, size_t room_len, uint64_t *sheet_len, uint32_t inverted, uint32_t ellipsoid, uint32_t to,
                                   uint32_t from, double k);
 
-/* Deformation: flags. Raw writes the correction and its length in the tuple's place. */
+/* Deformation: flags. Raw writes the correction and its length in the tuple's place. Without the
+ * comment's sign forward adds the motion since t_epoch and inverse removes it, as the Rust's code
+ * does; with it forward removes the motion since t_epoch and inverse adds it, as the comment in the
+ * Rust's file says. */
 enum {
-    SILLFEATHER_DEFORMATION_RAW = 1
+    SILLFEATHER_DEFORMATION_RAW = 1,
+    SILLFEATHER_DEFORMATION_COMMENT_SIGN = 2
 };
 
 /* dt in years where it is given; else the time from t_epoch to each tuple's. */

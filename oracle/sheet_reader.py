@@ -1,4 +1,5 @@
-"""A second reader of sheets, written from document 01 alone ("The sheet", "Numbers of refusal").
+"""A second reader of sheets, written from document 01 alone ("The sheet", "Numbers of refusal"),
+with the requests of document 02 that have landed: A13 (deformation has flag 2).
 
 check(sheet) gives (number, step) of the refusal that document 01 asks for, (0, 0) for an accepted sheet.
 As a program: sheet_reader.py FILE prints the refusal of a sheet.
@@ -134,7 +135,7 @@ def permtide(sheet, at):
 def deformation(sheet, at):
     flags, ellipsoid = word(sheet, at), word(sheet, at + 4)
     dt, t_epoch = bits(sheet, at + 8, 2)
-    if flags > 1 or not is_ellipsoid(ellipsoid) or not (time(dt) and time(t_epoch)):
+    if flags > 3 or not is_ellipsoid(ellipsoid) or not (time(dt) and time(t_epoch)):
         return 5
     return 8 if dt == t_epoch == NOT_GIVEN else 0
 

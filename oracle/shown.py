@@ -154,7 +154,7 @@ def permtide_lines(s, b):
 
 
 def deformation_lines(s, b):
-    yield flags(word(s, b), ["raw"])
+    yield flags(word(s, b), ["raw", "comment's sign"])
     yield ellipsoid("ellipsoid", s, b + 4)
     yield "  dt: " + time(pattern(s, b + 8))
     yield "  t_epoch: " + time(pattern(s, b + 16))

@@ -35,6 +35,7 @@ fn steps(job: &Job, listed: bool) -> Ran {
     }
     for i in order {
         let turned = job.steps[i].inverted != job.inverse;
+        let turned = turned != by_the_comment(&job.steps[i]);
         let before = ran.answer.list.clone();
         ran.answer.counts[i] = apply(&ops[i], &job.steps[i], turned, job, &mut ran.answer.list) as u32;
         if !listed {
@@ -43,6 +44,11 @@ fn steps(job: &Job, listed: bool) -> Ran {
         ran.nan_z_on_the_axis += nan_z_on_the_axis(&ops[i], &job.steps[i], turned, job, &before, &mut ran.answer.list);
     }
     ran
+}
+
+/// Whether a step has deformation's flag 2, with which the Rust is run the other way round.
+fn by_the_comment(step: &Step) -> bool {
+    matches!(step.body, Body::Deformation { flags, .. } if flags & 2 != 0)
 }
 
 /// The number of document 01 for a refusal by the Rust's `new`.

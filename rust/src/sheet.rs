@@ -174,7 +174,7 @@ impl SheetBuilder {
             }
             Step::Deformation(d) => {
                 let (dt, t_epoch) = (or_not_given(d.dt), or_not_given(d.t_epoch));
-                ffi::add_deformation(room, length, inverted, u32::from(d.raw), d.ellipsoid as u32, dt, t_epoch)
+                ffi::add_deformation(room, length, inverted, d.flags(), d.ellipsoid as u32, dt, t_epoch)
             }
         }
     }

@@ -241,12 +241,25 @@ impl Default for Permtide {
 
 /// Kind 5, deformation: geocentric coordinates moved along the velocities that the caller lends, one a fix, for the years between the epoch and the fix.
 ///
-/// Forward adds (time - t_epoch)·velocity. A fix whose mark is 0 has no velocity: it becomes four NaNs and is not counted. A sheet has at most one such step
+/// Forward adds (time - t_epoch)·velocity; with `comment_sign` it removes it. A fix whose mark is 0 has no velocity: it becomes four NaNs and is not counted. A sheet has at most one such step
 /// (refusal 11).
+///
+/// ```
+/// use sillfeather::{Deformation, Direction, Sheet};
+/// // The ground rises by a metre a year. Forward takes the fix of 2010 back to the epoch 2000.
+/// let step = Deformation { comment_sign: true, t_epoch: Some(2000.0), ..Deformation::BLANK };
+/// let sheet = Sheet::builder().step(step).build().unwrap();
+/// let mut fixes = [[6378137.0, 0.0, 0.0, 2010.0]];
+/// sheet.shift_with(Direction::Forward, &mut fixes, &[[0.0, 0.0, 1000.0]], &[1]).unwrap();
+/// assert_eq!(fixes[0][0], 6378127.0);
+/// ```
 #[derive(Clone, Copy, Debug, PartialEq)]
 pub struct Deformation {
     /// Flag 1: the correction and its length are written, not the corrected place.
     pub raw: bool,
+    /// Flag 2: the sign of the comment in the original's file. Forward removes the motion since the
+    /// epoch, and inverse adds it.
+    pub comment_sign: bool,
     /// The ellipsoid on which east, north and up are taken.
     pub ellipsoid: Ellipsoid,
     /// The years, the same for all fixes; given, it goes before `t_epoch`. None, or a NaN: not given.
@@ -256,8 +269,14 @@ pub struct Deformation {
 }
 
 impl Deformation {
-    /// On GRS80, not raw, and no times: one must be set (refusal 8).
-    pub const BLANK: Deformation = Deformation { raw: false, ellipsoid: Ellipsoid::Grs80, dt: None, t_epoch: None };
+    /// On GRS80, not raw, by the crate's sign, and no times: one must be set (refusal 8).
+    pub const BLANK: Deformation =
+        Deformation { raw: false, comment_sign: false, ellipsoid: Ellipsoid::Grs80, dt: None, t_epoch: None };
+
+    /// The flags as the sheet carries them.
+    pub(crate) fn flags(&self) -> u32 {
+        u32::from(self.raw) + 2 * u32::from(self.comment_sign)
+    }
 }
 
 impl Default for Deformation {

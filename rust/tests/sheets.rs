@@ -109,6 +109,8 @@ fn permtide() {
 fn deformation() {
     let step = Deformation { raw: true, ellipsoid: Ellipsoid::Bessel1841, dt: Some(2.5), ..Deformation::BLANK };
     assert_built(step, 5, Bytes::default().words(&[1, 4]).numbers(&[2.5]).long(NOT_GIVEN).0);
+    let removing = Deformation { comment_sign: true, ..step };
+    assert_built(removing, 5, Bytes::default().words(&[3, 4]).numbers(&[2.5]).long(NOT_GIVEN).0);
     let by_epoch = Deformation { t_epoch: Some(2000.0), ..Deformation::default() };
     assert_built(by_epoch, 5, Bytes::default().words(&[0, 1]).long(NOT_GIVEN).numbers(&[2000.0]).0);
 }

@@ -96,6 +96,22 @@ fn marks_tell_who_has_a_velocity() {
 }
 
 #[test]
+fn the_comments_sign_is_the_other_direction() {
+    let velocities = [[12.5, -3.0, 40.0], [0.0, -0.0, f64::NAN], [1.0, 2.0, 3.0]];
+    let start = [[4.0e6, 1.0e6, 5.0e6, -0.0], [0.0, 0.0, 6.4e6, 2010.0], [1.0, 2.0, 3.0, f64::NAN]];
+    for raw in [false, true] {
+        let plain = Deformation { raw, t_epoch: Some(2000.0), ..Deformation::BLANK };
+        let flagged = Deformation { comment_sign: true, ..plain };
+        for (one, other) in [(FORWARD, INVERSE), (INVERSE, FORWARD)] {
+            let (mut by_comment, mut by_crate) = (start, start);
+            let counts = sheet_of(flagged).shift_with(one, &mut by_comment, &velocities, &[1, 1, 0]);
+            assert_eq!(counts, sheet_of(plain).shift_with(other, &mut by_crate, &velocities, &[1, 1, 0]));
+            assert_eq!(bits(by_comment.as_flattened()), bits(by_crate.as_flattened()));
+        }
+    }
+}
+
+#[test]
 fn refusals_leave_the_list() {
     let (cart, moved) = (sheet_of(Cart::BLANK), deformation());
     let quiet = f64::from_bits(0x7ff8_0000_0000_0abc);

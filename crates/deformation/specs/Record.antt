@@ -1,7 +1,7 @@
 -- The deformation step's record, as a sheet carries it (kind 5): flags, an ellipsoid, and a
 -- duration dt or an epoch, each NaN where it is not given.
-use Prim.Native.Nat.{ℕ, _%_}
-use mathlib.Core.Bool.{Bool, _&&_, _||_}
+use Prim.Native.Nat.{ℕ, _/_, _%_}
+use mathlib.Core.Bool.{Bool, not, cond, _&&_, _||_}
 use lib.Dec.{eqb, ltb}
 use lib.Ieee.{Float, nan, isNan}
 use lib.Ieee.Scale.{finite}
@@ -17,13 +17,21 @@ blankOf = record { flags = 0; ellipsoid = 1; dt = nan; epoch = nan }
 abbrev pub rawOf : Deformation → Bool
 rawOf r = eqb (r .flags % 2) 1
 
+-- flag 2: the sign of comment (3) in the Rust's file
+abbrev pub byCommentOf : Deformation → Bool
+byCommentOf r = eqb (r .flags / 2 % 2) 1
+
+-- Whether a run in a direction uses the inverse sign of the Rust's code: flag 2 turns the direction round.
+unfoldable pub directedOf : Deformation → Bool → Bool
+directedOf r inverse = cond (byCommentOf r) (not inverse) inverse
+
 -- a number that may be left out: finite, or "not given"
 abbrev pub finiteOrNot : Float → Bool
 finiteOrNot x = finite x || isNan x
 
 -- rule 5
 abbrev pub inRuleOf : Deformation → Bool
-inRuleOf r = ltb (r .flags) 2 && existsOf (r .ellipsoid) && finiteOrNot (r .dt) && finiteOrNot (r .epoch)
+inRuleOf r = ltb (r .flags) 4 && existsOf (r .ellipsoid) && finiteOrNot (r .dt) && finiteOrNot (r .epoch)
 
 -- rule 8: neither dt nor t_epoch
 abbrev pub neitherOf : Deformation → Bool

@@ -4,18 +4,19 @@
 // The Rust looks a velocity up in grid files; here the caller lends it, east, north and up in mm a
 // year, with a mark that says whether there is one. Letters and sequence of roundings are the
 // Rust's, over our kernels. Forward adds (t - t_epoch) times the velocity, while comment (3) of the
-// Rust's file subtracts it: the code decides, and the difference is listed. The sum works on all
-// four coordinates, the fourth addend 0.0, so a time of -0 becomes +0. Sixteen tuples at a time:
-// `deformation_block`.
+// Rust's file subtracts it: the code decides, and the difference is listed. With flag 2 the comment
+// decides. The sum works on all four coordinates, the fourth addend 0.0, so a time of -0 becomes
+// +0. Sixteen tuples at a time: `deformation_block`.
 ghost use mathlib.Core.Path.{_≡_};
-ghost use Rattle.deformation.specs.Record.{blankOf, rawOf, finiteOrNot, inRuleOf, neitherOf};
+ghost use Rattle.deformation.specs.Record.{blankOf, rawOf, byCommentOf, directedOf, finiteOrNot, inRuleOf, neitherOf};
 ghost use Rattle.deformation.specs.Step.{motionOf, lastingOf, durationOf, scaleOf, metreOf, metresOf, eastNorthUpOf, integratedOf, withLengthOf, deformedOf, commonOf};
 use ellipsoid::Ellipsoid;
 use trig::SinCos;
 use tuple::Shifted;
 use tuple::Tuple;
 
-// The record that a sheet carries. Flag 1: raw. dt and epoch are NaN where not given.
+// The record that a sheet carries. Flags: 1 raw, 2 the comment's sign. dt and epoch are NaN where not
+// given.
 pub struct Deformation {
     pub flags: u32,
     pub ellipsoid: u32,
@@ -65,12 +66,30 @@ impl Deformation {
         self.flags % 2 == 1
     }
 
+    // Whether the step has the sign of comment (3) in the Rust's file: forward removes the motion.
+    pub fn by_comment(self) -> bool
+        ensures { λ r. ⌜ r ≡ byCommentOf self ⌝ }
+    {
+        self.flags / 2 % 2 == 1
+    }
+
+    // Whether a run in a direction uses the inverse sign of the Rust's code. This is the one place
+    // where flag 2 is asked for: the loops and the step take the direction that they are told.
+    pub fn directed(self, inverse: bool) -> bool
+        ensures { λ r. ⌜ r ≡ directedOf self inverse ⌝ }
+    {
+        if self.by_comment() {
+            return !inverse;
+        }
+        inverse
+    }
+
     // Rule 5.
     pub fn in_rule(self) -> bool
         ensures { λ r. ⌜ r ≡ inRuleOf self ⌝ }
     {
         let flags = self.flags;
-        if flags < 2 {
+        if flags < 4 {
             if Ellipsoid::exists(self.ellipsoid) {
                 if finite_or_not(self.dt) {
                     return finite_or_not(self.epoch);

@@ -9,6 +9,7 @@ use lib.Ieee.{Float, nan}
 use Rattle.deformation.specs.declared.Deformation.{Deformation}
 use Rattle.deformation.specs.declared.Motion.{Motion}
 use Rattle.deformation.specs.declared.Velocity.{Velocity}
+use Rattle.deformation.specs.Record.{directedOf}
 use Rattle.deformation.specs.Step.{motionOf, commonOf as deformationOf}
 use Rattle.helmert.specs.declared.State.{State}
 use Rattle.lists.specs.Run.{Turns}
@@ -30,5 +31,6 @@ movedTurns op inverse velocities marks k state v =
     let shifted = deformationOf op inverse (velocityAt velocities k) (markAt marks k) v in
     record { state = state; tuple = shifted .tuple; counted = shifted .counted }
 
+-- by the sign that the record asks for: flag 2 turns the direction round
 abbrev pub deformationTurns : Bool → Deformation → List Float → List ℕ → Turns State
-deformationTurns inverse r velocities marks = movedTurns (motionOf r) inverse velocities marks
+deformationTurns inverse r velocities marks = movedTurns (motionOf r) (directedOf r inverse) velocities marks

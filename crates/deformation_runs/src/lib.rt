@@ -228,5 +228,11 @@ pub fn run_deformation(
     ensures { λ r. ⌜ (now (list .exit) ≡ ranOf (deformationTurns inverse step (now (velocities .entry)) (now (marks .entry))) 0 noState (now (list .entry)))
         × (r ≡ countOf (deformationTurns inverse step (now (velocities .entry)) (now (marks .entry))) 0 noState (now (list .entry))) ⌝ }
 {
-    deformation_common(list, Motion::new(step), inverse, velocities, marks)
+    deformation_common(
+        list,
+        Motion::new(step),
+        step.directed(inverse),
+        velocities,
+        marks,
+    )
 }

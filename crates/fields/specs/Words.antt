@@ -40,9 +40,14 @@ molodenskyFlags flags =
     ++ flagText (ascii "; two ellipsoids ") (flag2 flags)
     ++ ascii "\n"
 
--- kind 5: 1 raw
+-- kind 5: 1 raw, 2 the comment's sign
 unfoldable pub deformationFlags : ℕ → List ℕ
-deformationFlags flags = ascii "  flags: " ++ decimalOf flags ++ flagText (ascii "; raw ") (flag1 flags) ++ ascii "\n"
+deformationFlags flags =
+    ascii "  flags: "
+    ++ decimalOf flags
+    ++ flagText (ascii "; raw ") (flag1 flags)
+    ++ flagText (ascii "; comment's sign ") (flag2 flags)
+    ++ ascii "\n"
 
 -- 0 none, 1 position vector, 2 coordinate frame
 unfoldable pub conventionText : ℕ → List ℕ

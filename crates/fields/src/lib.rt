@@ -49,7 +49,8 @@ fn put_deformation_flags(room: &mut [u8], at: usize, flags: u32) -> usize
     let p = text::put_bytes(room, at, b"  flags: ");
     let q = put_u32(room, p, flags);
     let r = lines::put_flag(room, q, b"; raw ", flags % 2 == 1);
-    text::put_bytes(room, r, b"\n")
+    let t = lines::put_flag(room, r, b"; comment's sign ", flags / 2 % 2 == 1);
+    text::put_bytes(room, t, b"\n")
 }
 
 fn put_convention_words(room: &mut [u8], at: usize, n: u32) -> usize

@@ -9,6 +9,7 @@ use Rattle.ellipsoid.specs.Figure.{namedOf}
 use Rattle.cart.specs.Step.{cartFwdOf, cartInvOf, inverseFiguresOf}
 use Rattle.permtide.specs.Step.{tideOf, fwdOf, invOf}
 use Rattle.molodensky.specs.Step.{mopedOf, commonOf}
+use Rattle.deformation.specs.Record.{directedOf}
 use Rattle.deformation.specs.Step.{motionOf}
 use Rattle.helmert.specs.declared.State.{State}
 use Rattle.helmert.specs.Modes.{prepareOf, startOf}
@@ -27,7 +28,7 @@ use Rattle.thin.specs.declared.Turned.{Turned}
 unfoldable pub planOf : Bool → Step → Plan
 planOf inverse (Cart r) = cond inverse (CartInverse (inverseFiguresOf (namedOf (r .ellipsoid)))) (CartForward (namedOf (r .ellipsoid)))
 planOf inverse (Permtide r) = cond inverse (PermtideInverse (tideOf r)) (PermtideForward (tideOf r))
-planOf inverse (Deformation r) = DeformationEither (motionOf r) inverse
+planOf inverse (Deformation r) = DeformationEither (motionOf r) (directedOf r inverse)
 planOf inverse (Molodensky r) = MolodenskyEither (mopedOf r) inverse
 planOf inverse (Helmert h) = HelmertEither (prepareOf h) inverse
 

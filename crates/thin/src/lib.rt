@@ -76,7 +76,7 @@ fn plan_of(inverse: bool, step: Step) -> Plan
             return Plan::PermtideForward(op);
         }
         Step::Deformation(r) => {
-            return Plan::DeformationEither(Motion::new(r), inverse);
+            return Plan::DeformationEither(Motion::new(r), r.directed(inverse));
         }
         Step::Molodensky(r) => {
             return Plan::MolodenskyEither(Moped::new(r), inverse);

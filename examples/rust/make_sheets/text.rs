@@ -125,8 +125,10 @@ fn permtide(p: &Permtide) -> Vec<(&'static str, String)> {
 
 fn deformation(d: &Deformation) -> Vec<(&'static str, String)> {
     let mut out = vec![("ellipsoid", ellipsoid(d.ellipsoid))];
-    if d.raw {
-        out.push(("flags", "raw".to_string()));
+    let flags = [(d.raw, "raw"), (d.comment_sign, "comment's sign")];
+    let flags: Vec<&str> = flags.into_iter().filter_map(|(set, name)| set.then_some(name)).collect();
+    if !flags.is_empty() {
+        out.push(("flags", flags.join(", ")));
     }
     times(&mut out, &[("dt", d.dt), ("t_epoch", d.t_epoch)]);
     out

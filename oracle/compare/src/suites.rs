@@ -31,9 +31,10 @@ pub const SUITES: [Suite; 12] = [
 ];
 
 /// Suites beside those that the stored vectors are drawn from.
-pub const FURTHER: [Suite; 2] = [
+pub const FURTHER: [Suite; 3] = [
     Suite { name: "helmert small angles", draw: small_angles },
     Suite { name: "permtide at the edges", draw: tides },
+    Suite { name: "deformation by the comment", draw: by_the_comment },
 ];
 
 /// One step, asked for in a direction: by the call alone, or turned in the sheet.
@@ -94,6 +95,14 @@ fn tides(r: &mut Random, inverse: bool, n: usize) -> Job {
     let list = draw::list(r, n, 2000.0, |r| draw::geographic(r, 1));
     let body = draw::edge_permtide(r);
     one(r, inverse, body, list)
+}
+
+/// Flag 2, with and without raw, alone or between steps of cart.
+fn by_the_comment(r: &mut Random, inverse: bool, n: usize) -> Job {
+    let raw = r.once_in(2);
+    let Body::Deformation { flags, ellipsoid, dt, t_epoch } = draw::deformation(r, raw) else { unreachable!() };
+    let list = draw::list(r, n, t_epoch, draw::cartesian);
+    one(r, inverse, Body::Deformation { flags: flags + 2, ellipsoid, dt, t_epoch }, list)
 }
 
 fn deformation(r: &mut Random, inverse: bool, n: usize, raw: bool) -> Job {

@@ -20,6 +20,12 @@ slice-aggregate-put-flag c = search needs
 put-flag-requires : tie.Need-put-flag-requires
 put-flag-requires c κs = search needs
 
+slice-aggregate-put-flag-2 : tie.Need-slice-aggregate-put-flag-2
+slice-aggregate-put-flag-2 c = search needs
+
+put-flag-requires-2 : tie.Need-put-flag-requires-2
+put-flag-requires-2 c κs = search needs
+
 slice-aggregate-put-bytes-2 : tie.Need-slice-aggregate-put-bytes-2
 slice-aggregate-put-bytes-2 c = search needs
 
@@ -31,7 +37,7 @@ same-length c = search needs
 
 returns : tie.Need-returns
 unfolding deformationFlags
-returns c = then _ _ _ (then _ _ _ (then _ _ _ (c .before .before .before .before .before .before .before .before .before .before .before .before .before .before .before .before .put-bytes .ensures) (c .before .before .before .before .before .before .before .before .before .before .before .before .put-u32 .ensures)) (c .before .before .before .before .before .before .before .put-flag .ensures)) (c .before .before .put-bytes2 .ensures)
+returns c = then _ _ _ (then _ _ _ (then _ _ _ (then _ _ _ (c .before .before .before .before .before .before .before .before .before .before .before .before .before .before .before .before .before .before .before .before .before .put-bytes .ensures) (c .before .before .before .before .before .before .before .before .before .before .before .before .before .before .before .before .before .put-u32 .ensures)) (c .before .before .before .before .before .before .before .before .before .before .before .before .put-flag .ensures)) (c .before .before .before .before .before .before .before .put-flag2 .ensures)) (c .before .before .put-bytes2 .ensures)
 
 pub put-deformation-flags-spec : {M : Type 1} → statement M
 put-deformation-flags-spec =
@@ -42,6 +48,8 @@ put-deformation-flags-spec =
     put-u32-requires
     slice-aggregate-put-flag
     put-flag-requires
+    slice-aggregate-put-flag-2
+    put-flag-requires-2
     slice-aggregate-put-bytes-2
     put-bytes-requires-2
     same-length

@@ -42,9 +42,12 @@ enum-known-step-3 c = search needs
 new-requires-3 : tie.Need-new-requires-3
 new-requires-3 c κs = search needs
 
+directed-requires : tie.Need-directed-requires
+directed-requires c κs = search needs
+
 returns-5 : tie.Need-returns-5
 unfolding planOf
-returns-5 c = rw (c .before .before .step3 .given .1, c .new3 .ensures)
+returns-5 c = rw (c .before .before .before .step3 .given .1, c .directed .ensures, c .before .new3 .ensures)
 
 enum-known-step-4 : tie.Need-enum-known-step-4
 enum-known-step-4 c = search needs
@@ -81,6 +84,7 @@ plan-of-spec =
     returns-4
     enum-known-step-3
     new-requires-3
+    directed-requires
     returns-5
     enum-known-step-4
     new-requires-4
