@@ -1,5 +1,5 @@
 -- The record of a Helmert step as the sheet carries it: its flags, and the blank record.
-use Prim.Native.Nat.{_/_, _%_}
+use Prim.Native.Nat.{ℕ, _/_, _%_}
 use mathlib.Core.Bool.{Bool}
 use lib.Dec.{eqb}
 use lib.Ieee.{nan}
