@@ -196,7 +196,14 @@ struct sillfeather_helmert {
     double t_obs;               /* years, or not given: the one time that all tuples are taken at */
 };
 
-/* Zeros, and no times: struct sillfeather_helmert h = SILLFEATHER_HELMERT_BLANK; */
+/* The blank record to begin with. Its numbers are zeros, and no times:
+ *     struct sillfeather_helmert h = SILLFEATHER_HELMERT_BLANK;
+ * Its flags are SILLFEATHER_HELMERT_BLANK_FLAGS: own-epoch, so that no fix's result depends on the
+ * fixes before it. Add other flags to them; leave them out for the Rust's running mode. */
+enum {
+    SILLFEATHER_HELMERT_BLANK_FLAGS = SILLFEATHER_HELMERT_OWN_EPOCH
+};
+
 #define SILLFEATHER_HELMERT_BLANK                                                                                                                      \
     {                                                                                                                                                  \
         {0.0, 0.0, 0.0}, {0.0, 0.0, 0.0}, {0.0, 0.0, 0.0}, {0.0, 0.0, 0.0}, {0.0, 0.0, 0.0}, {0.0, 0.0, 0.0}, {0.0, 0.0, 0.0}, {0.0, 0.0, 0.0},        \

@@ -33,7 +33,8 @@ static size_t wgs84_to_ed50(uint8_t *room, size_t room_len) {
     ed50_to_wgs84.translation[1] = -98.0;
     ed50_to_wgs84.translation[2] = -121.0;
     done("cart", sillfeather_add_cart(room, room_len, &len, 0, SILLFEATHER_WGS84));
-    done("Helmert", sillfeather_add_helmert(room, room_len, &len, 1, 0, SILLFEATHER_CONVENTION_NONE, SILLFEATHER_NUMBERS(&ed50_to_wgs84)));
+    done("Helmert", sillfeather_add_helmert(room, room_len, &len, 1, SILLFEATHER_HELMERT_BLANK_FLAGS, SILLFEATHER_CONVENTION_NONE,
+                                            SILLFEATHER_NUMBERS(&ed50_to_wgs84)));
     done("cart", sillfeather_add_cart(room, room_len, &len, 1, SILLFEATHER_INTERNATIONAL_1924));
     return (size_t)len;
 }

@@ -560,6 +560,21 @@ static void marked_point_6(void) {
     holds("P6: X is 1, 1, 3", results[0] == 1.0 && results[4] == 1.0 && results[8] == 3.0);
 }
 
+/* A blank with a rate and an epoch is in own-epoch mode: P3's times give 1, 2, 1 and not 1, 3, 4. */
+static void blank_helmert(void) {
+    static struct room r;
+    struct sillfeather_helmert h = SILLFEATHER_HELMERT_BLANK;
+    h.dxyz[0] = 1.0;
+    h.t_epoch = 2000.0;
+    double list[12] = {0, 0, 0, 2001, 0, 0, 0, 2002, 0, 0, 0, 2001};
+    uint32_t counts[16];
+    fresh(&r);
+    result_is("a blank with a rate",
+              sillfeather_add_helmert(r.at, SILLFEATHER_SHEET_MAX, &r.len, 0, SILLFEATHER_HELMERT_BLANK_FLAGS, 0, SILLFEATHER_NUMBERS(&h)), 0, 0);
+    result_is("P3 from the blank", sillfeather_shift(0, r.at, (size_t)r.len, list, 12, NULL, 0, NULL, 0, counts), 0, 0);
+    holds("P3 from the blank: X is 1, 2, 1", list[0] == 1.0 && list[4] == 2.0 && list[8] == 1.0);
+}
+
 static void refused_kept_runs(void) {
     static struct room r;
     double list[8] = {1, 2, 3, 4, 5, 6, 7, 8}, results[8], track[8], was[8], filled[8];
@@ -636,6 +651,7 @@ int main(void) {
     shifts();
     kept_runs();
     marked_point_6();
+    blank_helmert();
     refused_kept_runs();
     kernels();
     printf("%d passed, %d failed\n", passed, failed);

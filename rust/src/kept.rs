@@ -12,7 +12,7 @@ use crate::{Direction, Refusal, Sheet, lent};
 /// use sillfeather::{Direction, Helmert, KeptRun, Sheet};
 ///
 /// let sheet = Sheet::builder()
-///     .step(Helmert { dxyz: [1.0, 0.0, 0.0], t_epoch: Some(2000.0), ..Helmert::BLANK })
+///     .step(Helmert { own_epoch: false, dxyz: [1.0, 0.0, 0.0], t_epoch: Some(2000.0), ..Helmert::BLANK })
 ///     .build()?;
 /// let at = |time| [0.0, 0.0, 0.0, time];
 /// let mut run = KeptRun::keep(&sheet, Direction::Forward, &[at(2001.0), at(2000.0), at(2002.0)])?;

@@ -94,12 +94,13 @@ pub struct Helmert {
 }
 
 impl Helmert {
-    /// Zeros, no flag, no convention, no times.
+    /// The record to begin with: zeros, no convention, no times, and own-epoch, so that no fix's
+    /// result depends on the fixes before it. `own_epoch: false` gives the original's running mode.
     pub const BLANK: Helmert = Helmert {
         exact: false,
         uas: false,
         mm: false,
-        own_epoch: false,
+        own_epoch: true,
         convention: None,
         translation: [0.0; 3],
         xyz: [0.0; 3],

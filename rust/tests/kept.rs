@@ -13,6 +13,7 @@ fn drawn_helmert(random: &mut Random) -> Helmert {
         rotation: three(5.0),
         scale: 1.5,
         convention: Some(Convention::PositionVector),
+        own_epoch: false,
         ..Helmert::BLANK
     };
     if random.below(4) > 0 {

@@ -38,6 +38,7 @@ fn numbered() -> Helmert {
         convention: Some(Convention::CoordinateFrame),
         t_epoch: Some(2010.0),
         t_obs: Some(2020.5),
+        own_epoch: false,
         ..Helmert::BLANK
     }
 }
@@ -62,7 +63,7 @@ fn helmert() {
         let turned = Helmert { convention: position_vector, ..step };
         assert_built(turned, 1, Bytes::default().words(&[flags, 1]).numbers(&numbers()).0);
     }
-    let blank = Bytes::default().words(&[0, 0]).numbers(&[0.0; 28]).long(NOT_GIVEN).long(NOT_GIVEN);
+    let blank = Bytes::default().words(&[8, 0]).numbers(&[0.0; 28]).long(NOT_GIVEN).long(NOT_GIVEN);
     assert_built(Helmert::BLANK, 1, blank.0);
     assert_eq!(Helmert::default(), Helmert::BLANK);
 }

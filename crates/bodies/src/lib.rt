@@ -174,7 +174,7 @@ pub fn read_helmert(b: &[u8]) -> Helmert
     if b.len() == 248 {
         return helmert_fields(b);
     }
-    Helmert::blank()
+    Helmert::zeros()
 }
 
 pub fn read_cart(b: &[u8]) -> Cart

@@ -11,7 +11,7 @@ use Rattle.rotation.specs.declared.Vec3.{Vec3}
 use Rattle.helmert.specs.declared.Helmert.{Helmert}
 use Rattle.helmert.specs.declared.Shift.{Shift}
 use Rattle.helmert.specs.declared.State.{State}
-use Rattle.helmert.specs.Record.{zero3, blankHelmert}
+use Rattle.helmert.specs.Record.{zero3, zerosWith, blankHelmert, zeroHelmert}
 use Rattle.helmert.specs.Units.{winnerOf, lengthsOf, anglesOf, parametersOf}
 use Rattle.helmert.specs.Rules.{someOf, rotatedOf, dynamicOf, finite3Of, timeOf, vectorsFiniteOf, scalesFiniteOf, fieldsInRuleOf, lacksConventionOf, lacksEpochOf}
 use Rattle.rotation.specs.Matrix.{firstOrderOf, rowsOf, rotationMatrixOf}
@@ -94,6 +94,38 @@ marked :
 unfolding one y2000 y2001 y2002 along-x sheet running own-epoch from xs prepareOf parametersOf winnerOf lengthsOf anglesOf rotatedOf dynamicOf someOf startOf stepOf runningOf nextOf ownEpochStepOf ownTimeOf grownOf scaleAtOf rotationMatrixOf firstOrderOf rowsOf forwardOf offsetOf ofBits add sub mul div eq ne isNan
 marked = (refl, refl, refl, refl, refl)
 
+-- ---- a record begun from the blank
+
+-- DT = (1, 0, 0) and t_epoch 2000 set in a record
+begun : Helmert → Helmert
+unfolding one y2000 along-x
+begun h =
+    record {
+      flags = h .flags;
+      convention = h .convention;
+      translation = h .translation;
+      xyz = h .xyz;
+      «translation_rate» = h .«translation_rate»;
+      dxyz = along-x one;
+      rotation = h .rotation;
+      rxyz = h .rxyz;
+      «rotation_rate» = h .«rotation_rate»;
+      drxyz = h .drxyz;
+      scale = h .scale;
+      s = h .s;
+      «scale_rate» = h .«scale_rate»;
+      ds = h .ds;
+      «t_epoch» = y2000;
+      «t_obs» = h .«t_obs»;
+    }
+
+-- a blank with a rate and an epoch gives P3, the record of zeros gives P2
+from-the-blank :
+    (xs (prepareOf (begun blankHelmert)) (y2001 ∷ y2002 ∷ y2001 ∷ []) ≡ one ∷ bits 0x4000_0000_0000_0000 ∷ one ∷ [])
+    × (xs (prepareOf (begun zeroHelmert)) (y2001 ∷ y2002 ∷ y2001 ∷ []) ≡ one ∷ bits 0x4008_0000_0000_0000 ∷ bits 0x4010_0000_0000_0000 ∷ [])
+unfolding begun blankHelmert zeroHelmert zerosWith one y2000 y2001 y2002 along-x from xs prepareOf parametersOf winnerOf lengthsOf anglesOf rotatedOf dynamicOf someOf startOf stepOf runningOf nextOf ownEpochStepOf ownTimeOf grownOf scaleAtOf rotationMatrixOf firstOrderOf rowsOf forwardOf offsetOf ofBits add sub mul div eq ne isNan
+from-the-blank = (refl, refl)
+
 -- ---- the rules
 
 -- P11: rx = 1, no convention. P12: dx = 1, no epoch. The blank record breaks no rule.
@@ -106,7 +138,7 @@ rules :
     -- a rate of 2^-1074 mm a year scales to zero, and is no rate; in metres it is one
     × (lacksEpochOf (sheet 4 (bits 1) (bits 0) (bits 0) nan nan) ≡ false)
     × (lacksEpochOf (sheet 0 (bits 1) (bits 0) (bits 0) nan nan) ≡ true)
-unfolding one along-x sheet blankHelmert fieldsInRuleOf vectorsFiniteOf scalesFiniteOf finite3Of timeOf isNan lacksConventionOf lacksEpochOf parametersOf winnerOf lengthsOf anglesOf rotatedOf dynamicOf someOf ofBits add mul div eq ne
+unfolding one along-x sheet blankHelmert zerosWith fieldsInRuleOf vectorsFiniteOf scalesFiniteOf finite3Of timeOf isNan lacksConventionOf lacksEpochOf parametersOf winnerOf lengthsOf anglesOf rotatedOf dynamicOf someOf ofBits add mul div eq ne
 rules = (refl, refl, refl, refl, refl, refl, refl)
 
 -- ---- the listed difference of t_obs

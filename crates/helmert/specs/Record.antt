@@ -1,5 +1,5 @@
 -- The record of a Helmert step as the sheet carries it: its flags, and the blank record.
-use Prim.Native.Nat.{_/_, _%_}
+use Prim.Native.Nat.{ℕ, _/_, _%_}
 use mathlib.Core.Bool.{Bool}
 use lib.Dec.{eqb}
 use lib.Ieee.{nan}
@@ -21,15 +21,15 @@ mmOf h = eqb (h .flags / 4 % 2) 1
 abbrev pub ownEpochOf : Helmert → Bool
 ownEpochOf h = eqb (h .flags / 8 % 2) 1
 
--- ---- the blank record, with the crate's defaults: zeros, no flag, no convention, both times not given
+-- ---- records to begin with: zeros, no convention, both times not given
 
 abbrev pub zero3 : Vec3
 zero3 = record { x = bits 0; y = bits 0; z = bits 0 }
 
-unfoldable pub blankHelmert : Helmert
-blankHelmert =
+unfoldable pub zerosWith : ℕ → Helmert
+zerosWith flags =
     record {
-      flags = 0;
+      flags = flags;
       convention = 0;
       translation = zero3;
       xyz = zero3;
@@ -46,3 +46,12 @@ blankHelmert =
       «t_epoch» = nan;
       «t_obs» = nan;
     }
+
+-- The blank record: own-epoch, so that a fitter who begins here meets no order effect.
+unfoldable pub blankHelmert : Helmert
+blankHelmert = zerosWith 8
+
+-- The record of zeros, without a flag. Bytes that are no Helmert body read as this one, and so does a
+-- step of another kind; it is nothing to begin a sheet with.
+unfoldable pub zeroHelmert : Helmert
+zeroHelmert = zerosWith 0

@@ -15,7 +15,7 @@
 // decides the mode once, by `is_running` and `is_own_epoch`, and builds the matrix anew only when
 // the time changes, from the pieces that are public for it.
 ghost use mathlib.Core.Path.{_≡_};
-ghost use Rattle.helmert.specs.Record.{exactOf, uasOf, mmOf, ownEpochOf, blankHelmert};
+ghost use Rattle.helmert.specs.Record.{exactOf, uasOf, mmOf, ownEpochOf, zerosWith, blankHelmert, zeroHelmert};
 ghost use Rattle.helmert.specs.Units.{linearScaleOf, angularScaleOf, winnerOf, lengthsOf, anglesOf, parametersOf};
 ghost use Rattle.helmert.specs.Rules.{someOf, rotatedOf, dynamicOf, finite3Of, timeOf, vectorsFiniteOf, scalesFiniteOf, fieldsInRuleOf, lacksConventionOf, lacksEpochOf};
 ghost use Rattle.helmert.specs.Apply.{offsetOf, deoffsetOf, forwardOf, inverseOf, applyOf};
@@ -60,35 +60,49 @@ pub struct Parameters {
     pub ds: f64,
 }
 
+fn zeros_with(flags: u32) -> Helmert
+    ensures { λ r. ⌜ r ≡ zerosWith flags ⌝ }
+{
+    let none = 0.0 / 0.0;
+    let zero = Vec3 {
+        x: 0.0,
+        y: 0.0,
+        z: 0.0,
+    };
+    Helmert {
+        flags: flags,
+        convention: 0,
+        translation: zero,
+        xyz: zero,
+        translation_rate: zero,
+        dxyz: zero,
+        rotation: zero,
+        rxyz: zero,
+        rotation_rate: zero,
+        drxyz: zero,
+        scale: 0.0,
+        s: 0.0,
+        scale_rate: 0.0,
+        ds: 0.0,
+        t_epoch: none,
+        t_obs: none,
+    }
+}
+
 impl Helmert {
-    // The record with the crate's defaults.
+    // The record that a fitter begins with: the crate's defaults, in own-epoch mode, where no fix's
+    // result depends on the fixes before it. Without flag 8 the sheet shifts as the crate does.
     pub fn blank() -> Self
         ensures { λ r. ⌜ r ≡ blankHelmert ⌝ }
     {
-        let none = 0.0 / 0.0;
-        let zero = Vec3 {
-            x: 0.0,
-            y: 0.0,
-            z: 0.0,
-        };
-        Helmert {
-            flags: 0,
-            convention: 0,
-            translation: zero,
-            xyz: zero,
-            translation_rate: zero,
-            dxyz: zero,
-            rotation: zero,
-            rxyz: zero,
-            rotation_rate: zero,
-            drxyz: zero,
-            scale: 0.0,
-            s: 0.0,
-            scale_rate: 0.0,
-            ds: 0.0,
-            t_epoch: none,
-            t_obs: none,
-        }
+        zeros_with(8)
+    }
+
+    // The record of zeros, without a flag: what bytes that are no Helmert body read as.
+    pub fn zeros() -> Self
+        ensures { λ r. ⌜ r ≡ zeroHelmert ⌝ }
+    {
+        zeros_with(0)
     }
 
     pub fn exact(self) -> bool

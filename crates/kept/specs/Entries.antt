@@ -8,7 +8,7 @@ use lib.ListN.{length}
 use Rattle.tuple.specs.declared.Tuple.{Tuple}
 use Rattle.helmert.specs.declared.Helmert.{Helmert}
 use Rattle.helmert.specs.declared.Shift.{Shift}
-use Rattle.helmert.specs.Record.{blankHelmert}
+use Rattle.helmert.specs.Record.{zeroHelmert}
 use Rattle.helmert.specs.Modes.{prepareOf}
 use Rattle.bodies.specs.declared.Step.{Step}
 use Rattle.bodies.specs.declared.Step.the-variants as step
@@ -56,10 +56,10 @@ correctRefusalOf s old index =
 
 abbrev pub helmertOf : Step → Helmert
 helmertOf (step.Helmert h) = h
-helmertOf (step.Cart r) = blankHelmert
-helmertOf (step.Permtide r) = blankHelmert
-helmertOf (step.Deformation r) = blankHelmert
-helmertOf (step.Molodensky r) = blankHelmert
+helmertOf (step.Cart r) = zeroHelmert
+helmertOf (step.Permtide r) = zeroHelmert
+helmertOf (step.Deformation r) = zeroHelmert
+helmertOf (step.Molodensky r) = zeroHelmert
 
 -- the shift of the sheet's step, and the direction that it runs in
 abbrev pub shiftIn : List ℕ → Shift

@@ -25,16 +25,16 @@ use tuple::Tuple;
 
 // ----- the sheet's one step ------------------------------------------------------------------
 
-// The record of a Helmert step; blank for any other.
+// The record of a Helmert step; zeros for any other.
 fn helmert_of(step: Step) -> Helmert
     ensures { λ r. ⌜ r ≡ helmertOf step ⌝ }
 {
     match step {
         Step::Helmert(h) => h,
-        Step::Cart(_) => Helmert::blank(),
-        Step::Molodensky(_) => Helmert::blank(),
-        Step::Permtide(_) => Helmert::blank(),
-        Step::Deformation(_) => Helmert::blank(),
+        Step::Cart(_) => Helmert::zeros(),
+        Step::Molodensky(_) => Helmert::zeros(),
+        Step::Permtide(_) => Helmert::zeros(),
+        Step::Deformation(_) => Helmert::zeros(),
     }
 }
 

@@ -102,6 +102,7 @@ fn between_datums() -> Vec<Published> {
                 translation: [0.0, 0.0, 4.5],
                 rotation: [0.0, 0.0, 0.554],
                 scale: 0.219,
+                own_epoch: false,
                 ..Helmert::BLANK
             }),
             from: Geocentric,
@@ -118,6 +119,7 @@ fn between_datums() -> Vec<Published> {
                     translation: [-89.5, -93.8, -123.1],
                     rotation: [0.0, 0.0, -0.156],
                     scale: 1.2,
+                    own_epoch: false,
                     ..Helmert::BLANK
                 },
                 Wgs84,
@@ -133,6 +135,7 @@ fn between_datums() -> Vec<Published> {
                     translation: [-116.641, -56.931, -110.559],
                     rotation: [0.893, 0.921, -0.917],
                     scale: -3.52,
+                    own_epoch: false,
                     ..Helmert::BLANK
                 },
                 Wgs84,
@@ -148,6 +151,7 @@ fn between_datums() -> Vec<Published> {
                     translation: [598.1, 73.7, 418.2],
                     rotation: [0.202, 0.045, -2.455],
                     scale: 6.7,
+                    own_epoch: false,
                     ..Helmert::BLANK
                 },
                 Wgs84,
@@ -164,6 +168,7 @@ fn between_datums() -> Vec<Published> {
                     translation: [23.57, -140.95, -79.8],
                     rotation: [0.0, -0.35, -0.79],
                     scale: -0.22,
+                    own_epoch: false,
                     ..Helmert::BLANK
                 },
                 Wgs84,
@@ -179,6 +184,7 @@ fn between_datums() -> Vec<Published> {
                 translation: [61.55, -10.87, -40.19],
                 rotation: [-39492.4, -32722.1, -32897.9],
                 scale: -0.009994,
+                own_epoch: false,
                 ..Helmert::BLANK
             }),
             from: Geocentric,

@@ -28,10 +28,11 @@ pub struct Helmert {
 }
 
 impl Helmert {
-    /// Zeros, no flag, no convention, no times.
+    /// Zeros, own-epoch, no convention, no times (document 02, A9). What is compared with the crate
+    /// sets its flags itself.
     pub fn blank() -> Helmert {
         Helmert {
-            flags: 0,
+            flags: 8,
             convention: 0,
             translation: [0.0; 3],
             xyz: [0.0; 3],

@@ -102,6 +102,7 @@ pub fn frames() -> Vec<Published> {
 /// Metres, arcseconds and parts in 10^6.
 fn datum(name: &'static str, source: &'static str, convention: u32, t: [f64; 3], r: [f64; 3], s: f64) -> Published {
     let mut h = Helmert::blank();
+    h.flags = 0;
     h.convention = convention;
     h.xyz = t;
     h.rxyz = r;

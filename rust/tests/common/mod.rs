@@ -29,9 +29,9 @@ pub fn refused(step: impl Into<Step>) -> Refusal {
     Sheet::builder().step(step).build().unwrap_err()
 }
 
-/// The sheet of P2 to P6: DT = (1, 0, 0) from 2000.
+/// The sheet of P2 and P4 to P6, in running mode: DT = (1, 0, 0) from 2000.
 pub fn moving() -> Helmert {
-    Helmert { dxyz: [1.0, 0.0, 0.0], t_epoch: Some(2000.0), ..Helmert::BLANK }
+    Helmert { own_epoch: false, dxyz: [1.0, 0.0, 0.0], t_epoch: Some(2000.0), ..Helmert::BLANK }
 }
 
 /// X = 0 at a time.

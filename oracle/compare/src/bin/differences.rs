@@ -13,7 +13,7 @@ fn main() {
         let nothing_moved = Body::Molodensky { flags, first: 1, second: 0, offsets: [0.0; 5] };
         show(name, false, nothing_moved, &[0.0, after_512, 0.0, 0.0], &[]);
     }
-    let endless = Helmert { xyz: [f64::INFINITY, 0.0, 0.0], ..Helmert::blank() };
+    let endless = Helmert { flags: 0, xyz: [f64::INFINITY, 0.0, 0.0], ..Helmert::blank() };
     show("a number that is not finite, Helmert (ours refused)", false, Body::Helmert(endless), &[0.0; 4], &[]);
     let for_ever = Body::Deformation { flags: 0, ellipsoid: 1, dt: f64::INFINITY, t_epoch: 2000.0 };
     let risen = [6378137.0, 0.0, 0.0, 2010.0];
@@ -32,11 +32,11 @@ fn main() {
         let times = [2001.0, nan, 2001.0];
         show(name, false, moving(flags), &times.map(|t| [0.0, 0.0, 0.0, t]).concat(), &[]);
     }
-    let fixed = Helmert { scale_rate: 1.0, t_epoch: 2000.0, t_obs: 2001.0, ..Helmert::blank() };
+    let fixed = Helmert { flags: 0, scale_rate: 1.0, t_epoch: 2000.0, t_obs: 2001.0, ..Helmert::blank() };
     show("S moved three times, fixed", false, Body::Helmert(fixed), &[1e6, 0.0, 0.0, 0.0], &[]);
     show("forward adds, deformation", false, by_epoch.clone(), &[6378137.0, 0.0, 0.0, 2010.0], &[0.0, 0.0, 1000.0]);
     show("a time of -0, deformation", false, by_epoch, &[6378137.0, 0.0, 0.0, -0.0], &[0.0, 0.0, 0.0]);
-    let doubled = Helmert { scale: 1e6, ..Helmert::blank() };
+    let doubled = Helmert { flags: 0, scale: 1e6, ..Helmert::blank() };
     show("undone, not negated, Helmert inverse", true, Body::Helmert(doubled), &[1.0, 0.0, 0.0, 0.0], &[]);
     for (name, flags) in [("a quarter turn, small-angle", 0), ("a quarter turn, exact", 1)] {
         let turned = Helmert { flags, convention: 1, rxyz: [0.0, 0.0, 324_000.0], ..Helmert::blank() };

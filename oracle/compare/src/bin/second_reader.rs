@@ -7,7 +7,7 @@ use reader::{In, chain, draw, kept, random::Random, sheet};
 use std::process::ExitCode;
 
 /// The requests of document 02 that have landed.
-const LANDED: In = In { a13: true, ..In::NONE };
+const LANDED: In = In { a9: true, a13: true, ..In::NONE };
 
 #[derive(Default)]
 struct Tally {

@@ -100,8 +100,8 @@ fn marked_points() -> Vec<Job> {
     let cart = Body::Cart { ellipsoid: 1 };
     let molodensky = Body::Molodensky { flags: 0, first: 1, second: 0, offsets: [0.0; 5] };
     let tide = Body::Permtide { ellipsoid: 1, to: 1, from: 2, k: 0.3 };
-    let no_convention = Helmert { rxyz: [1.0, 0.0, 0.0], ..Helmert::blank() };
-    let no_epoch = Helmert { dxyz: [1.0, 0.0, 0.0], ..Helmert::blank() };
+    let no_convention = Helmert { flags: 0, rxyz: [1.0, 0.0, 0.0], ..Helmert::blank() };
+    let no_epoch = Helmert { flags: 0, dxyz: [1.0, 0.0, 0.0], ..Helmert::blank() };
     vec![
         single(false, cart.clone(), &[0.0; 4]),
         moving(0, &[2001.0, 2002.0, 2001.0]),
@@ -120,8 +120,8 @@ fn marked_points() -> Vec<Job> {
 fn refused() -> Vec<Job> {
     let wrong = [
         Body::Permtide { ellipsoid: 1, to: 4, from: 1, k: 0.3 },
-        Body::Helmert(Helmert { drxyz: [0.0, 0.0, 1.0], t_epoch: 2000.0, ..Helmert::blank() }),
-        Body::Helmert(Helmert { convention: 2, ds: 1.0, ..Helmert::blank() }),
+        Body::Helmert(Helmert { flags: 0, drxyz: [0.0, 0.0, 1.0], t_epoch: 2000.0, ..Helmert::blank() }),
+        Body::Helmert(Helmert { flags: 0, convention: 2, ds: 1.0, ..Helmert::blank() }),
         Body::Deformation { flags: 0, ellipsoid: 1, dt: NOT_GIVEN, t_epoch: NOT_GIVEN },
     ];
     let mut jobs = Vec::new();
