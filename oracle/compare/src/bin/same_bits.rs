@@ -3,7 +3,12 @@
 //! tolerance.
 //!
 //!     same_bits [tuples a suite and direction, 50000] [seed, 1]
-use compare::{draw, random::Random, suites::{FURTHER, SUITES}, tell};
+use compare::{
+    draw,
+    random::Random,
+    suites::{FURTHER, SUITES},
+    tell,
+};
 use std::process::ExitCode;
 
 #[derive(Default)]

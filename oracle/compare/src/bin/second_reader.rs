@@ -89,9 +89,8 @@ fn kept_runs(part: &str, r: &mut Random, tally: &mut Tally) {
         let mut memory = run.memory.clone();
         let lent = [&mut memory.list[..], &mut memory.results, &mut memory.track];
         let (told, redone) = ours::correct(run.inverse, &run.sheet, lent, index, fix);
-        let agree = told == (expected.refusal, expected.step)
-            && redone == u64::from(expected.redone)
-            && memory.same(&expected.memory);
+        let agree =
+            told == (expected.refusal, expected.step) && redone == u64::from(expected.redone) && memory.same(&expected.memory);
         tally.count(part, expected.refusal, agree, (&run, index, fix));
         run.memory = expected.memory;
     }
