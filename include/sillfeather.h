@@ -198,6 +198,9 @@ struct sillfeather_helmert {
 
 /* The blank record to begin with. Its numbers are zeros, and no times:
  *     struct sillfeather_helmert h = SILLFEATHER_HELMERT_BLANK;
+ *     h.translation[0] = -87.0;
+ *     sillfeather_add_helmert(room, room_len, &sheet_len, 0, SILLFEATHER_HELMERT_BLANK_FLAGS,
+ *                             SILLFEATHER_CONVENTION_NONE, SILLFEATHER_NUMBERS(&h));
  * Its flags are SILLFEATHER_HELMERT_BLANK_FLAGS: own-epoch, so that no fix's result depends on the
  * fixes before it. Add other flags to them; leave them out for the Rust's running mode. */
 enum {

@@ -104,6 +104,15 @@ JOBS = {
         job(sheet([deformation()]), [(6378137.0, 0.0, 0.0, 2010.0)], [(0.0, 0.0, 1000.0)], b"\0"),
         ran([0], [(NOT_GIVEN,) * 4]),
     ),
+    # document 02, A13: with flag 2 forward removes the motion since the epoch, and inverse adds it
+    "sunk": (
+        job(sheet([deformation(flags=2)]), [(6378137.0, 0.0, 0.0, 2010.0)], [(0.0, 0.0, 1000.0)], b"\1"),
+        ran([1], [(6378127.0, 0.0, 0.0, 2010.0)]),
+    ),
+    "sunk_inverse": (
+        job(sheet([deformation(flags=2)]), [(6378127.0, 0.0, 0.0, 2010.0)], [(0.0, 0.0, 1000.0)], b"\1", inverse=1),
+        ran([1], [(6378137.0, 0.0, 0.0, 2010.0)]),
+    ),
 }
 
 # ---- refusals, each under its number --------------------------------------------------------
@@ -124,6 +133,7 @@ JOBS |= {
     "4_body_length": (job(with_word(GRS80, 28, 7), [ORIGIN]), refused(4)),
     "5_ellipsoid": (job(sheet([cart(6)]), [ORIGIN]), refused(5, 1)),
     "5_second_step": (job(sheet([cart(), permtide(to=0)]), [ORIGIN]), refused(5, 2)),
+    "5_deformation_flag": (job(sheet([deformation(flags=4)]), [ORIGIN], UP, b"\1"), refused(5, 1)),
     "6_turned": (job(sheet([cart(), helmert(convention=0, n12=1.0)]), [ORIGIN]), refused(6, 2)),
     "7_no_epoch": (job(sheet([helmert(n6=1.0, t_epoch=NOT_GIVEN)]), [ORIGIN]), refused(7, 1)),
     "8_neither": (job(sheet([deformation(t_epoch=NOT_GIVEN)]), [ORIGIN], UP, b"\1"), refused(8, 1)),
