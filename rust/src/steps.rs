@@ -96,6 +96,16 @@ pub struct Helmert {
 impl Helmert {
     /// The record to begin with: zeros, no convention, no times, and own-epoch, so that no fix's
     /// result depends on the fixes before it. `own_epoch: false` gives the original's running mode.
+    ///
+    /// ```
+    /// use sillfeather::{Direction, Helmert, Sheet};
+    /// // A metre a year along X from 2000. The third fix is as late as the first, and moves as far.
+    /// let step = Helmert { dxyz: [1.0, 0.0, 0.0], t_epoch: Some(2000.0), ..Helmert::BLANK };
+    /// let sheet = Sheet::builder().step(step).build().unwrap();
+    /// let mut fixes = [2001.0, 2002.0, 2001.0].map(|time| [0.0, 0.0, 0.0, time]);
+    /// sheet.shift(Direction::Forward, &mut fixes).unwrap();
+    /// assert_eq!(fixes.map(|fix| fix[0]), [1.0, 2.0, 1.0]);
+    /// ```
     pub const BLANK: Helmert = Helmert {
         exact: false,
         uas: false,
@@ -242,7 +252,8 @@ impl Default for Permtide {
 
 /// Kind 5, deformation: geocentric coordinates moved along the velocities that the caller lends, one a fix, for the years between the epoch and the fix.
 ///
-/// Forward adds (time - t_epoch)·velocity; with `comment_sign` it removes it. A fix whose mark is 0 has no velocity: it becomes four NaNs and is not counted. A sheet has at most one such step
+/// Forward adds (time - t_epoch)·velocity; with `comment_sign` it removes it. A fix whose mark is 0
+/// has no velocity: it becomes four NaNs and is not counted. A sheet has at most one such step
 /// (refusal 11).
 ///
 /// ```
