@@ -34,13 +34,8 @@ fn main() -> ExitCode {
     let (cases, seed) = (args.next().unwrap_or(5000), args.next().unwrap_or(1));
     println!("second reader: {cases} cases a part, seed {seed}");
     let (mut passed, mut failed) = (0, 0);
-    let parts: [(&str, fn(&str, &mut Random, &mut Tally)); 5] = [
-        ("sheets", sheets),
-        ("steps", steps),
-        ("lists", lists),
-        ("kept runs", kept_runs),
-        ("missing times", missing_times),
-    ];
+    let parts: [(&str, fn(&str, &mut Random, &mut Tally)); 5] =
+        [("sheets", sheets), ("steps", steps), ("lists", lists), ("kept runs", kept_runs), ("missing times", missing_times)];
     for (i, (name, part)) in parts.into_iter().enumerate() {
         let mut r = Random::new(seed.wrapping_mul(1000) + i as u64);
         let mut tally = Tally::default();
