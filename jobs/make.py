@@ -118,6 +118,12 @@ JOBS = {
         job(sheet([helmert(flags=8, n9=1.0, t_epoch=2000.0, t_obs=2001.0)]), at_times(NOT_GIVEN)),
         ran([1], at_times(NOT_GIVEN, x=[1.0])),
     ),
+    # a time that a step before made NaN is missing; an infinite time is a time
+    "missing_time_after_a_step": (
+        job(sheet([deformation(), helmert(flags=8, n9=1.0, t_epoch=2000.0)]), [(6378137.0, 0.0, 0.0, 2010.0)], [(0.0, 0.0, 1000.0)], b"\0"),
+        ran([0, 0], [(NOT_GIVEN,) * 4]),
+    ),
+    "infinite_time": (job(OWN, at_times(math.inf)), ran([1], [(NOT_GIVEN,) * 3 + (math.inf,)])),
     # document 02, A13: with flag 2 forward removes the motion since the epoch, and inverse adds it
     "sunk": (
         job(sheet([deformation(flags=2)]), [(6378137.0, 0.0, 0.0, 2010.0)], [(0.0, 0.0, 1000.0)], b"\1"),
