@@ -69,7 +69,13 @@ fn corrections_end_as_fresh_runs() {
 fn a_time_goes_missing_and_comes_back() {
     let missing = at(f64::NAN);
     for exact in [false, true] {
-        let helmert = Helmert { own_epoch: true, exact, rotation_rate: [0.0, 0.0, 0.5], convention: Some(Convention::PositionVector), ..moving() };
+        let helmert = Helmert {
+            own_epoch: true,
+            exact,
+            rotation_rate: [0.0, 0.0, 0.5],
+            convention: Some(Convention::PositionVector),
+            ..moving()
+        };
         let sheet = sheet_of(helmert);
         for direction in DIRECTIONS {
             let mut list: Vec<[f64; 4]> = (0..40).map(|i| [i as f64, 1.0, -1.0, 2001.0 + i as f64]).collect();

@@ -47,7 +47,8 @@ fn there_and_back() {
 #[test]
 fn a_missing_time_is_not_the_epoch() {
     for exact in [false, true] {
-        let helmert = Helmert { own_epoch: true, exact, drxyz: [0.0, 0.5, 0.0], convention: Some(Convention::CoordinateFrame), ..moving() };
+        let helmert =
+            Helmert { own_epoch: true, exact, drxyz: [0.0, 0.5, 0.0], convention: Some(Convention::CoordinateFrame), ..moving() };
         let (sheet, fixed) = (sheet_of(helmert), sheet_of(Helmert { t_obs: Some(2001.0), ..helmert }));
         let given: Vec<[f64; 4]> = (0..48).map(|i| [i as f64, -1.0, 2.0, 2000.0 + i as f64]).collect();
         let missing: [fn(usize) -> bool; 5] = [|i| i == 0, |i| i == 47, |i| i % 16 == 15, |i| i / 16 == 1, |_| true];
