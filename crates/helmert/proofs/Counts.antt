@@ -1,8 +1,7 @@
 -- What a step over a list counts, where it goes by the tuple alone: as many as there are tuples of
--- which that holds. So a step that counts every tuple counts as many as the list has, a rest shorter
--- than a tuple being none; and Helmert counts every tuple in static, fixed and running mode, and in
--- own-epoch mode those whose time is given.
--- Assumes nothing.
+-- which that holds. So a step that counts every tuple counts as many as the list has, a rest
+-- shorter than a tuple being none; and Helmert counts every tuple in static, fixed and running
+-- mode, and in own-epoch mode those whose time is given. Assumes nothing.
 use Prim.Native.Nat.{ℕ, suc, _+_, _/_, _≤_}
 use mathlib.Core.Path.{_≡_, refl, ap, _∙_}
 use mathlib.Core.Bool.{Bool, true, false, cond}

@@ -7,8 +7,8 @@
 // for a while, or fewer than sixteen fixes are left, a fix's sines are taken when its turn comes.
 // Every function is proved equal to the step's own definition from tuple to tuple
 // (helmert/specs/Turns.antt over `lists`), for any shift; what `helmert_runs` sends here are the
-// exact ones, and of own-epoch those that are not rotated. No loop tests for a missing time: at a NaN
-// time T is NaN, and so are the three coordinates. Exact: no rounding but the step's own.
+// exact ones, and of own-epoch those that are not rotated. No loop tests for a missing time: at a
+// NaN time T is NaN, and so are the three coordinates. Exact: no rounding but the step's own.
 ghost use mathlib.Core.Path.{_≡_};
 ghost use mathlib.Core.Bool.{true, false};
 ghost use Prim.Native.Nat.{ℕ, _+_, _-_, _*_, _≤_};
