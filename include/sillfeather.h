@@ -170,6 +170,11 @@ enum {
     SILLFEATHER_HELMERT_OWN_EPOCH = 8 /* each tuple at its own time, not running */
 };
 
+/* A tuple whose time is a NaN has lost it. In own-epoch mode, with rates and without t_obs, such a
+ * tuple becomes three NaNs, its time stays, and it is not counted; the others are untouched. In
+ * running mode one NaN time spoils its own tuple and all that follow, and all are counted. Without
+ * rates, or with t_obs, a tuple's time is not asked for. */
+
 enum {
     SILLFEATHER_CONVENTION_NONE = 0, /* only where nothing is rotated */
     SILLFEATHER_POSITION_VECTOR = 1,

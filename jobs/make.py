@@ -104,6 +104,26 @@ JOBS = {
         job(sheet([deformation()]), [(6378137.0, 0.0, 0.0, 2010.0)], [(0.0, 0.0, 1000.0)], b"\0"),
         ran([0], [(NOT_GIVEN,) * 4]),
     ),
+    # document 02, A3: in own-epoch mode a fix without a time is lost and not counted, and the fixes
+    # beside it stay; a fixed sheet ignores the flag and the time
+    "missing_time": (
+        job(OWN, at_times(2001.0, NOT_GIVEN, 2001.0)),
+        ran([2], [(1.0, 0.0, 0.0, 2001.0), (NOT_GIVEN,) * 4, (1.0, 0.0, 0.0, 2001.0)]),
+    ),
+    "missing_time_inverse": (
+        job(OWN, at_times(NOT_GIVEN, 2001.0, NOT_GIVEN), inverse=1),
+        ran([1], [(NOT_GIVEN,) * 4, (-1.0, 0.0, 0.0, 2001.0), (NOT_GIVEN,) * 4]),
+    ),
+    "missing_time_fixed": (
+        job(sheet([helmert(flags=8, n9=1.0, t_epoch=2000.0, t_obs=2001.0)]), at_times(NOT_GIVEN)),
+        ran([1], at_times(NOT_GIVEN, x=[1.0])),
+    ),
+    # a time that a step before made NaN is missing; an infinite time is a time
+    "missing_time_after_a_step": (
+        job(sheet([deformation(), helmert(flags=8, n9=1.0, t_epoch=2000.0)]), [(6378137.0, 0.0, 0.0, 2010.0)], [(0.0, 0.0, 1000.0)], b"\0"),
+        ran([0, 0], [(NOT_GIVEN,) * 4]),
+    ),
+    "infinite_time": (job(OWN, at_times(math.inf)), ran([1], [(NOT_GIVEN,) * 3 + (math.inf,)])),
     # document 02, A13: with flag 2 forward removes the motion since the epoch, and inverse adds it
     "sunk": (
         job(sheet([deformation(flags=2)]), [(6378137.0, 0.0, 0.0, 2010.0)], [(0.0, 0.0, 1000.0)], b"\1"),

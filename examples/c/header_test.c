@@ -575,6 +575,58 @@ static void blank_helmert(void) {
     holds("P3 from the blank: X is 1, 2, 1", list[0] == 1.0 && list[4] == 2.0 && list[8] == 1.0);
 }
 
+/* Own-epoch: a tuple without a time is lost and not counted, forward and inverse, exact and not; a
+ * fixed sheet with the same flag does not ask for it. In a kept run a time goes missing and comes
+ * back, one fix redone each time. */
+static void missing_times(void) {
+    static struct room r;
+    for (uint32_t exact = 0; exact < 2; exact++)
+        for (uint32_t inverse = 0; inverse < 2; inverse++) {
+            double list[N], whole[N], results[N], track[N], again[N];
+            uint32_t counts[16];
+            running(&r, SILLFEATHER_HELMERT_OWN_EPOCH + exact);
+            size_t len = (size_t)r.len;
+            for (int i = 0; i < FIXES; i++) {
+                a_fix(list + 4 * i);
+                list[4 * i + 3] = 2000.0 + i;
+            }
+            memcpy(whole, list, sizeof list);
+            sillfeather_shift(inverse, r.at, len, whole, N, NULL, 0, NULL, 0, counts);
+            holds("own-epoch: all are counted", counts[0] == FIXES);
+            sillfeather_keep(inverse, r.at, len, list, N, results, N, track, N);
+            int lost = 1, back = 1, one = 1;
+            for (size_t index = 0; index < FIXES; index++) {
+                double *given = list + 4 * index;
+                const double fix[4] = {given[0], given[1], given[2], given[3]};
+                const double missing[4] = {given[0], given[1], given[2], SILLFEATHER_NOT_GIVEN};
+                uint64_t redone = 0;
+                sillfeather_correct(inverse, r.at, len, list, N, results, N, track, N, index, missing, &redone);
+                one &= redone == 1;
+                memcpy(again, list, sizeof again);
+                sillfeather_shift(inverse, r.at, len, again, N, NULL, 0, NULL, 0, counts);
+                lost &= counts[0] == FIXES - 1 && same_doubles(results, again, N);
+                for (int j = 0; j < N; j++)
+                    lost &= (size_t)j / 4 == index ? isnan(results[j]) != 0 : results[j] == whole[j];
+                sillfeather_correct(inverse, r.at, len, list, N, results, N, track, N, index, fix, &redone);
+                one &= redone == 1;
+                back &= same_doubles(results, whole, N);
+            }
+            holds("a missing time: three NaNs, not counted, the others untouched", lost);
+            holds("a time that comes back: as if it had not been missing", back);
+            holds("a missing time and back: one fix is redone each time", one);
+        }
+    struct sillfeather_helmert h = SILLFEATHER_HELMERT_BLANK;
+    h.dxyz[0] = 1.0;
+    h.t_epoch = 2000.0;
+    h.t_obs = 2001.0;
+    double fixed[4] = {0, 0, 0, SILLFEATHER_NOT_GIVEN};
+    uint32_t counts[16];
+    fresh(&r);
+    sillfeather_add_helmert(r.at, SILLFEATHER_SHEET_MAX, &r.len, 0, SILLFEATHER_HELMERT_OWN_EPOCH, 0, SILLFEATHER_NUMBERS(&h));
+    sillfeather_shift(0, r.at, (size_t)r.len, fixed, 4, NULL, 0, NULL, 0, counts);
+    holds("a fixed sheet does not ask for the time", fixed[0] == 1.0 && fixed[1] == 0.0 && isnan(fixed[3]) && counts[0] == 1);
+}
+
 static void refused_kept_runs(void) {
     static struct room r;
     double list[8] = {1, 2, 3, 4, 5, 6, 7, 8}, results[8], track[8], was[8], filled[8];
@@ -652,6 +704,7 @@ int main(void) {
     kept_runs();
     marked_point_6();
     blank_helmert();
+    missing_times();
     refused_kept_runs();
     kernels();
     printf("%d passed, %d failed\n", passed, failed);

@@ -70,22 +70,19 @@ fn apply(op: &Op, step: &Step, inverse: bool, job: &Job, list: &mut [f64]) -> us
         && op.params.boolean("dynamic")
         && !op.params.boolean("fixed_time")
     {
-        return own_epoch(op, h, inverse, list);
+        return own_epoch(op, inverse, list);
     }
     op.apply(&Lent::new(&job.velocities, &job.marks), &mut Flat(list), inverse)
 }
 
 /// Own-epoch mode, which the crate does not have: each tuple as a list of its own, where T grows once from the sheet's. A NaN
-/// time is read as t_epoch, and stays in the tuple.
-fn own_epoch(op: &Op, h: &Helmert, inverse: bool, list: &mut [f64]) -> usize {
+/// time makes that T NaN, so the crate's own arithmetic loses the fix; what is ours is that it is not counted (document 02, A3).
+fn own_epoch(op: &Op, inverse: bool, list: &mut [f64]) -> usize {
     let mut count = 0;
     for tuple in list.chunks_exact_mut(4) {
-        let time = tuple[3];
-        if time.is_nan() {
-            tuple[3] = h.t_epoch;
-        }
-        count += op.apply(&Lent::new(&[], &[]), &mut Flat(tuple), inverse);
-        tuple[3] = time;
+        let missing = tuple[3].is_nan();
+        let counted = op.apply(&Lent::new(&[], &[]), &mut Flat(tuple), inverse);
+        count += if missing { 0 } else { counted };
     }
     count
 }

@@ -51,6 +51,9 @@ pub enum TideSystem {
 /// A step is *dynamic* where a rate is not zero; it then needs `t_epoch` (refusal 7). With `t_obs` it is taken once at that time. Without, in *running* mode,
 /// T grows by rate·(time - t_epoch) whenever a fix's time differs from the last one's, as the crate geodesy has it, so that a result depends on the fixes
 /// before it; with `own_epoch` each fix is shifted by the parameters at its own time.
+///
+/// A NaN time is a missing one. With `own_epoch`, and without `t_obs`, such a fix of a dynamic step becomes three NaNs, its time stays, and it is not
+/// counted; the fixes beside it are untouched. In running mode one NaN time spoils its own fix and all that follow, and all count.
 #[derive(Clone, Copy, Debug, PartialEq)]
 pub struct Helmert {
     /// Flag 1: the exact rotation matrix, not that of small angles.
@@ -59,7 +62,7 @@ pub struct Helmert {
     pub uas: bool,
     /// Flag 4: lengths in millimetres.
     pub mm: bool,
-    /// Flag 8: each fix by the parameters at its own time, in running's place.
+    /// Flag 8: each fix by the parameters at its own time, in running's place; a fix without a time is lost and not counted.
     pub own_epoch: bool,
     /// Which way the angles turn; none is refused by 6 where an angle or its rate is not zero.
     pub convention: Option<Convention>,

@@ -63,6 +63,41 @@ fn corrections_end_as_fresh_runs() {
     }
 }
 
+/// Own-epoch: a fix whose time goes missing is lost, and comes back with its time. One fix is redone each time, first, last or
+/// between, and the run is what a fresh one is.
+#[test]
+fn a_time_goes_missing_and_comes_back() {
+    let missing = at(f64::NAN);
+    for exact in [false, true] {
+        let helmert = Helmert {
+            own_epoch: true,
+            exact,
+            rotation_rate: [0.0, 0.0, 0.5],
+            convention: Some(Convention::PositionVector),
+            ..moving()
+        };
+        let sheet = sheet_of(helmert);
+        for direction in DIRECTIONS {
+            let mut list: Vec<[f64; 4]> = (0..40).map(|i| [i as f64, 1.0, -1.0, 2001.0 + i as f64]).collect();
+            let mut run = KeptRun::keep(&sheet, direction, &list).unwrap();
+            let whole = run.clone();
+            for index in [0, 15, 16, 17, 39] {
+                let given = list[index];
+                for fix in [missing, given, missing, given] {
+                    list[index] = fix;
+                    assert_eq!(run.correct(index, fix), Ok(1));
+                    let fresh = KeptRun::keep(&sheet, direction, &list).unwrap();
+                    assert_same(run.list(), &list);
+                    assert_same(run.results(), fresh.results());
+                    assert_same(run.track(), fresh.track());
+                    assert_eq!(run.results()[index][..3].iter().all(|x| x.is_nan()), fix[3].is_nan());
+                    assert_same(&run.results()[index + 1..], &whole.results()[index + 1..]);
+                }
+            }
+        }
+    }
+}
+
 #[test]
 fn results_are_those_of_a_shift() {
     let mut random = Random(0x1957);

@@ -42,6 +42,43 @@ fn there_and_back() {
     }
 }
 
+/// Own-epoch: fixes without a time, first, last, beside a block of sixteen and the whole of one, are lost and not counted; the
+/// others are as if they were alone. A fixed sheet with the same flag does not ask for the time.
+#[test]
+fn a_missing_time_is_not_the_epoch() {
+    for exact in [false, true] {
+        let helmert =
+            Helmert { own_epoch: true, exact, drxyz: [0.0, 0.5, 0.0], convention: Some(Convention::CoordinateFrame), ..moving() };
+        let (sheet, fixed) = (sheet_of(helmert), sheet_of(Helmert { t_obs: Some(2001.0), ..helmert }));
+        let given: Vec<[f64; 4]> = (0..48).map(|i| [i as f64, -1.0, 2.0, 2000.0 + i as f64]).collect();
+        let missing: [fn(usize) -> bool; 5] = [|i| i == 0, |i| i == 47, |i| i % 16 == 15, |i| i / 16 == 1, |_| true];
+        for direction in [FORWARD, INVERSE] {
+            for missing in missing {
+                let mut list = given.clone();
+                (0..48).filter(|i| missing(*i)).for_each(|i| list[i][3] = f64::NAN);
+                let mut expected = list.clone();
+                for (i, fix) in expected.iter_mut().enumerate() {
+                    if missing(i) {
+                        *fix = [f64::NAN; 4];
+                    } else {
+                        sheet.shift(direction, std::slice::from_mut(fix)).unwrap();
+                    }
+                }
+                let mut still = list.clone();
+                let counts = sheet.shift(direction, &mut list).unwrap();
+                assert_eq!(counts.steps(), [(0..48).filter(|i| !missing(*i)).count() as u32]);
+                assert_same(&list, &expected);
+
+                let mut timed = given.clone();
+                assert_eq!(fixed.shift(direction, &mut still).unwrap().steps(), [48]);
+                fixed.shift(direction, &mut timed).unwrap();
+                (0..48).filter(|i| missing(*i)).for_each(|i| timed[i][3] = f64::NAN);
+                assert_same(&still, &timed);
+            }
+        }
+    }
+}
+
 #[test]
 fn inverted_steps_run_the_other_way() {
     let mut by_step = [[0.25, 0.75, 120.0, 2024.5]];

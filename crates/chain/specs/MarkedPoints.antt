@@ -107,3 +107,12 @@ OfTheChain =
     × (shiftOf false (helmertSheet 0 0 0x3ff00000 0x7ff80000) [] [] [] ≡ outcome (refusedAnswer (ofStep 6 0)) [])
     -- P12: dx = 1, no epoch
     × (shiftOf false (helmertSheet 0 0x3ff00000 0 0x7ff80000) [] [] [] ≡ outcome (refusedAnswer (ofStep 7 0)) [])
+
+-- ---- document 02, A3: own-epoch, times 2001, NaN, 2001. The fix without a time is three NaNs, its
+-- time kept, and two are counted.
+
+abbrev pub MissingTime : Type 0
+MissingTime =
+    shiftOf false (helmertSheet 8 0x3ff00000 0 0x409f4000) (fixes (y2001 ∷ nan ∷ y2001 ∷ [])) [] []
+    ≡ outcome (ranAnswer (only 2))
+    (one ∷ bits 0 ∷ bits 0 ∷ y2001 ∷ nan ∷ nan ∷ nan ∷ nan ∷ one ∷ bits 0 ∷ bits 0 ∷ y2001 ∷ [])

@@ -10,7 +10,8 @@ use Rattle.helmert.specs.declared.Shift.{Shift}
 use Rattle.helmert.specs.declared.State.{State}
 use Rattle.helmert.specs.declared.Stepped.{Stepped}
 use Rattle.helmert.specs.Apply.{forwardOf, inverseOf, applyOf}
-use Rattle.helmert.specs.Modes.{grownOf, rotationAtOf, scaleAtOf, nextOf, runningOf, ownTimeOf, ownEpochStepOf}
+use Rattle.helmert.specs.Modes.{grownOf, rotationAtOf, scaleAtOf, nextOf, runningOf, ownEpochStepOf}
+use Rattle.helmert.proofs.Laws.{own-epoch-anyway}
 
 -- S and the matrix at a time
 abbrev pub scaleOf : Shift → Float → Float
@@ -74,10 +75,9 @@ unfolding runningOf forwardOf inverseOf
 unrotated-turn shift true state v h m met e = rw (e, met .held .scale, met .next, h)
 unrotated-turn shift false state v h m met e = rw (e, met .held .scale, met .next, h)
 
--- ---- own-epoch: the same at a tuple's own time
+-- ---- own-epoch: the same at a tuple's own time, and with no test where it has none
 
-pub own-epoch-turn : (shift : Shift) (inverse : Bool) (v : Tuple) {w : Tuple} (time : Float) → time ≡ ownTimeOf shift (v .t)
-    → w ≡ applyOf inverse (grownOf (shift .parameters .t) (time ⊖ shift .epoch) (shift .parameters .dt)) (scaleOf shift time) (shift .rotated) (matrixOf shift time) v
+pub own-epoch-turn : (shift : Shift) (inverse : Bool) (v : Tuple) {w : Tuple}
+    → w ≡ applyOf inverse (grownOf (shift .parameters .t) (v .t ⊖ shift .epoch) (shift .parameters .dt)) (scaleOf shift (v .t)) (shift .rotated) (matrixOf shift (v .t)) v
     → w ≡ ownEpochStepOf shift inverse v
-unfolding ownEpochStepOf
-own-epoch-turn shift inverse v time et e = e ∙ rw et
+own-epoch-turn shift inverse v e = e ∙ sym (own-epoch-anyway shift inverse v)

@@ -1,10 +1,10 @@
--- Known values: document 01's marked points P2 to P5, P11 and P12 on one step after another, the
--- blank record, and the listed differences. Assumes nothing.
+-- Known values: document 01's marked points P2 to P5, P11 and P12 on one step after another, a
+-- missing time, the blank record, and the listed differences. Assumes nothing.
 use mathlib.Core.Path.{_≡_, refl}
-use mathlib.Core.Bool.{true, false}
+use mathlib.Core.Bool.{Bool, true, false}
 use mathlib.Core.List.{List, [], _∷_}
 use Prim.Native.Nat.{ℕ}
-use lib.Ieee.{Float, nan, ofBits, add, sub, mul, div, neg, eq, ne, isNan}
+use lib.Ieee.{Float, nan, inf, ofBits, add, sub, mul, div, neg, eq, ne, isNan}
 use Rattle.floats.specs.Binary64.{bits}
 use Rattle.tuple.specs.declared.Tuple.{Tuple}
 use Rattle.rotation.specs.declared.Vec3.{Vec3}
@@ -16,7 +16,7 @@ use Rattle.helmert.specs.Units.{winnerOf, lengthsOf, anglesOf, parameter
 use Rattle.helmert.specs.Rules.{someOf, rotatedOf, dynamicOf, finite3Of, timeOf, vectorsFiniteOf, scalesFiniteOf, fieldsInRuleOf, lacksConventionOf, lacksEpochOf}
 use Rattle.rotation.specs.Matrix.{firstOrderOf, rowsOf, rotationMatrixOf}
 use Rattle.helmert.specs.Apply.{offsetOf, deoffsetOf, forwardOf, inverseOf}
-use Rattle.helmert.specs.Modes.{observedOf, prepareOf, grownOf, scaleAtOf, fixedStepOf, startOf, nextOf, runningOf, ownTimeOf, ownEpochStepOf, stepOf}
+use Rattle.helmert.specs.Modes.{observedOf, prepareOf, grownOf, scaleAtOf, fixedStepOf, startOf, nextOf, runningOf, ownEpochStepOf, stepOf, countedOf}
 
 -- ---- records to look at
 
@@ -89,10 +89,42 @@ marked :
     × (xs running (y2001 ∷ y2001 ∷ []) ≡ one ∷ one ∷ [])
     -- P5
     × (xs running (y2001 ∷ nan ∷ y2001 ∷ []) ≡ one ∷ nan ∷ nan ∷ [])
-    -- in own-epoch mode the same times give 1, 0, 1: a NaN time is read as t_epoch
-    × (xs own-epoch (y2001 ∷ nan ∷ y2001 ∷ []) ≡ one ∷ bits 0 ∷ one ∷ [])
-unfolding one y2000 y2001 y2002 along-x sheet running own-epoch from xs prepareOf parametersOf winnerOf lengthsOf anglesOf rotatedOf dynamicOf someOf startOf stepOf runningOf nextOf ownEpochStepOf ownTimeOf grownOf scaleAtOf rotationMatrixOf firstOrderOf rowsOf forwardOf offsetOf ofBits add sub mul div eq ne isNan
+    -- in own-epoch mode the same times give 1, NaN, 1: a fix without a time is lost, and no other
+    × (xs own-epoch (y2001 ∷ nan ∷ y2001 ∷ []) ≡ one ∷ nan ∷ one ∷ [])
+unfolding one y2000 y2001 y2002 along-x sheet running own-epoch from xs prepareOf parametersOf winnerOf lengthsOf anglesOf rotatedOf dynamicOf someOf startOf stepOf runningOf nextOf ownEpochStepOf grownOf scaleAtOf rotationMatrixOf firstOrderOf rowsOf forwardOf offsetOf ofBits add sub mul div eq ne isNan
 marked = (refl, refl, refl, refl, refl)
+
+-- ---- a missing time: the same sheet with the own-epoch flag, and with t_obs 2001 given besides
+
+fixed : Shift
+unfolding sheet one y2000 y2001
+fixed = prepareOf (sheet 8 one (bits 0) (bits 0) y2000 y2001)
+
+-- a fix at X = 0 with this time, and what the step makes of it
+fix : Float → Tuple
+fix time = record { x = bits 0; y = bits 0; z = bits 0; t = time }
+
+made : Shift → Bool → Float → Tuple
+unfolding fix
+made shift inv time = stepOf shift inv (startOf shift) (fix time) .tuple
+
+missing :
+    -- three NaNs, the time kept, both ways, and not counted
+    (made own-epoch false nan ≡ record { x = nan; y = nan; z = nan; t = nan })
+    × (made own-epoch true nan ≡ record { x = nan; y = nan; z = nan; t = nan })
+    × (countedOf own-epoch (fix nan) ≡ false)
+    -- an infinite time is a time, and counts: S goes by infinity times no rate, which is NaN
+    × (made own-epoch false (inf false) ≡ record { x = nan; y = nan; z = nan; t = inf false })
+    × (countedOf own-epoch (fix (inf false)) ≡ true)
+    -- t_epoch itself is a time
+    × (made own-epoch false y2000 ≡ fix y2000)
+    × (countedOf own-epoch (fix y2000) ≡ true)
+    -- a fixed sheet ignores the flag and the time; running mode counts every fix
+    × (made fixed false nan ≡ record { x = one; y = bits 0; z = bits 0; t = nan })
+    × (countedOf fixed (fix nan) ≡ true)
+    × (countedOf running (fix nan) ≡ true)
+unfolding one y2000 y2001 along-x sheet running own-epoch fixed fix made prepareOf parametersOf observedOf winnerOf lengthsOf anglesOf rotatedOf dynamicOf someOf startOf stepOf fixedStepOf ownEpochStepOf countedOf grownOf scaleAtOf rotationMatrixOf firstOrderOf rowsOf forwardOf inverseOf offsetOf deoffsetOf ofBits neg add sub mul div eq ne isNan
+missing = (refl, refl, refl, refl, refl, refl, refl, refl, refl, refl)
 
 -- ---- a record begun from the blank
 
@@ -123,7 +155,7 @@ begun h =
 from-the-blank :
     (xs (prepareOf (begun blankHelmert)) (y2001 ∷ y2002 ∷ y2001 ∷ []) ≡ one ∷ bits 0x4000_0000_0000_0000 ∷ one ∷ [])
     × (xs (prepareOf (begun zeroHelmert)) (y2001 ∷ y2002 ∷ y2001 ∷ []) ≡ one ∷ bits 0x4008_0000_0000_0000 ∷ bits 0x4010_0000_0000_0000 ∷ [])
-unfolding begun blankHelmert zeroHelmert zerosWith one y2000 y2001 y2002 along-x from xs prepareOf parametersOf winnerOf lengthsOf anglesOf rotatedOf dynamicOf someOf startOf stepOf runningOf nextOf ownEpochStepOf ownTimeOf grownOf scaleAtOf rotationMatrixOf firstOrderOf rowsOf forwardOf offsetOf ofBits add sub mul div eq ne isNan
+unfolding begun blankHelmert zeroHelmert zerosWith one y2000 y2001 y2002 along-x from xs prepareOf parametersOf winnerOf lengthsOf anglesOf rotatedOf dynamicOf someOf startOf stepOf runningOf nextOf ownEpochStepOf grownOf scaleAtOf rotationMatrixOf firstOrderOf rowsOf forwardOf offsetOf ofBits add sub mul div eq ne isNan
 from-the-blank = (refl, refl)
 
 -- ---- the rules

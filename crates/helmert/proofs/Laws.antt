@@ -1,15 +1,15 @@
 -- What is true of the Helmert step, for callers to cite. Assumes nothing.
-use mathlib.Core.Path.{_≡_, refl, sym}
-use mathlib.Core.Bool.{Bool, true, false, not, _&&_, true≢false}
-use lib.Ieee.{Float, nan, inf, fin, add, sub, mul, eq, ne}
-use Rattle.floats.specs.Binary64.{_⊕_}
+use mathlib.Core.Path.{_≡_, refl, sym, ap, _∙_}
+use mathlib.Core.Bool.{Bool, true, false, not, cond, _&&_, true≢false}
+use lib.Ieee.{Float, nan, inf, fin, add, sub, mul, div, neg, isNan, eq, ne}
+use Rattle.floats.specs.Binary64.{_⊕_, _⊖_}
 use Rattle.tuple.specs.declared.Tuple.{Tuple}
 use Rattle.rotation.specs.declared.Vec3.{Vec3}
 use Rattle.helmert.specs.declared.Shift.{Shift}
 use Rattle.helmert.specs.declared.State.{State}
-use Rattle.helmert.specs.Apply.{forwardOf, inverseOf, applyOf}
+use Rattle.helmert.specs.Apply.{offsetOf, deoffsetOf, forwardOf, inverseOf, applyOf}
 use Rattle.rotation.specs.Matrix.{Matrix}
-use Rattle.helmert.specs.Modes.{nothing3, fixedStepOf, grownOf, nextOf, runningOf, ownEpochStepOf, timeVaryingOf, isOwnEpochOf, isRunningOf, stepOf}
+use Rattle.helmert.specs.Modes.{nothing3, shiftedOf, fixedStepOf, grownOf, rotationAtOf, scaleAtOf, nextOf, runningOf, lostOf, ownEpochStepOf, timeVaryingOf, isOwnEpochOf, isRunningOf, stepOf, countedOf}
 
 -- ---- the step by its mode: what a loop that decides the mode beforehand leans on
 
@@ -84,9 +84,13 @@ pub time-stays : (shift : Shift) (inv : Bool) (state : State) (v : Tuple) → st
 unfolding stepOf runningOf ownEpochStepOf fixedStepOf
 time-stays shift inv state v = go (isRunningOf shift) (isOwnEpochOf shift) refl refl
   where
+    own : (lost : Bool) (w : Tuple) → w .t ≡ v .t → cond lost (lostOf v) w .t ≡ v .t
+    own true w e = refl
+    own false w e = e
+
     go : (a b : Bool) → isRunningOf shift ≡ a → isOwnEpochOf shift ≡ b → stepOf shift inv state v .tuple .t ≡ v .t
     go true b e f = rw e (applied-time-stays inv _ _ _ _ v)
-    go false true e f = rw (e, f) (applied-time-stays inv _ _ _ _ v)
+    go false true e f = rw (e, f) (own (isNan (v .t)) _ (applied-time-stays inv _ _ _ _ v))
     go false false e f = rw (e, f) (applied-time-stays inv _ _ _ _ v)
 
 -- ---- one NaN time spoils T for the rest
@@ -108,3 +112,71 @@ spoilt-stays-spoilt shift state time h = go (ne time (state .last)) refl
     go : (b : Bool) → ne time (state .last) ≡ b → nextOf shift state time .t ≡ nothing3
     go true e = rw (e, h)
     go false e = rw (e, h)
+
+-- ---- one tuple through a T of NaNs: three NaNs, whatever S and the matrix are
+
+pub lost-by-T : (inv : Bool) (s : Float) (rotated : Bool) (m : Matrix) (v : Tuple) → applyOf inv nothing3 s rotated m v ≡ lostOf v
+unfolding forwardOf inverseOf offsetOf deoffsetOf add sub mul div neg
+lost-by-T true s true m v = rw (plus-nan (v .x))
+lost-by-T true s false m v = rw (plus-nan (v .x), plus-nan (v .y), plus-nan (v .z))
+lost-by-T false s true m v = rw (plus-nan, plus-nan, plus-nan)
+lost-by-T false s false m v = rw (plus-nan, plus-nan, plus-nan)
+
+-- ---- own-epoch: a fix whose time is missing
+
+-- one NaN is as good as another: a number that is not a number is `nan`
+is-nan : (x : Float) → isNan x ≡ true → x ≡ nan
+unfolding isNan
+is-nan nan h = refl
+is-nan (inf s) h = absurd (true≢false (sym h))
+is-nan (fin s m e) h = absurd (true≢false (sym h))
+
+-- T at its dt is spoilt, whatever the rates are
+grown-by-nan : (v rate : Vec3) (epoch : Float) → grownOf v (nan ⊖ epoch) rate ≡ nothing3
+unfolding grownOf sub add mul
+grown-by-nan v rate epoch = rw (plus-nan (v .x), plus-nan (v .y), plus-nan (v .z))
+
+-- so the arithmetic agrees with the definition's own case: taken at the tuple's dt with no test for
+-- a time, the step is the same
+pub own-epoch-anyway : (shift : Shift) (inv : Bool) (v : Tuple)
+    → let dt = v .t ⊖ shift .epoch in
+    let p = shift .parameters in
+    ownEpochStepOf shift inv v ≡ shiftedOf shift inv (grownOf (p .t) dt (p .dt)) (rotationAtOf p dt) (scaleAtOf p dt) v
+unfolding ownEpochStepOf
+own-epoch-anyway shift inv v = go (isNan (v .t)) refl
+  where
+    shifted : Vec3 → Tuple
+    shifted t =
+        let dt = v .t ⊖ shift .epoch in
+        let p = shift .parameters in
+        shiftedOf shift inv t (rotationAtOf p dt) (scaleAtOf p dt) v
+
+    t : Vec3
+    t = grownOf (shift .parameters .t) (v .t ⊖ shift .epoch) (shift .parameters .dt)
+
+    go : (b : Bool) → isNan (v .t) ≡ b → cond b (lostOf v) (shifted t) ≡ shifted t
+    go true h =
+        let e : t ≡ nothing3 =
+        ap (λ (time : Float). grownOf (shift .parameters .t) (time ⊖ shift .epoch) (shift .parameters .dt)) (is-nan (v .t) h) ∙ grown-by-nan _ _ _ in
+        sym (ap shifted e ∙ lost-by-T inv _ _ _ v)
+    go false h = refl
+
+-- the request's own words: three NaNs, the time kept, not counted, and the state passes through
+pub missing-time-is-lost : (shift : Shift) (inv : Bool) (state : State) (v : Tuple) → isOwnEpochOf shift ≡ true → isNan (v .t) ≡ true
+    → (stepOf shift inv state v ≡ record { state = state; tuple = lostOf v }) × (countedOf shift v ≡ false)
+unfolding ownEpochStepOf countedOf
+missing-time-is-lost shift inv state v own missing = (step-in-own-epoch shift inv state v own ∙ rw missing, rw (own, missing))
+
+-- and a time that is given, an infinite one too, counts
+pub given-time-counts : (shift : Shift) (v : Tuple) → isNan (v .t) ≡ false → countedOf shift v ≡ true
+unfolding countedOf
+given-time-counts shift v given = by-flag (isOwnEpochOf shift)
+  where
+    by-flag : (own : Bool) → not (own && isNan (v .t)) ≡ true
+    by-flag true = rw given
+    by-flag false = refl
+
+-- in static, fixed and running mode every tuple counts, whatever its time
+pub counts-but-in-own-epoch : (shift : Shift) (v : Tuple) → isOwnEpochOf shift ≡ false → countedOf shift v ≡ true
+unfolding countedOf
+counts-but-in-own-epoch shift v other = rw other

@@ -9,28 +9,17 @@ use mathlib.Core.Bool.{Bool, true, false}
 use mathlib.Core.List.{List, [], _∷_}
 use lib.Dec.{eqb}
 use lib.ListN.{length, take}
-use lib.Ieee.{Float, nan, add, sub, mul, div, neg}
+use lib.Ieee.{Float, nan}
 use borrow.Author.Tests.{eqb-true, eqb-false}
 use Rattle.tuple.specs.declared.Tuple.{Tuple}
-use Rattle.rotation.specs.Matrix.{Matrix}
 use Rattle.lists.specs.Flat.{fourOf, tupleAt}
 use Rattle.lists.specs.Run.{Turns, ranOf, stateAfterOf}
 use Rattle.lists.proofs.Results.{tuple-first, tuple-beyond, result-at, state-keeps}
 use Rattle.helmert.specs.declared.Shift.{Shift}
 use Rattle.helmert.specs.declared.State.{State}
-use Rattle.helmert.specs.Apply.{offsetOf, deoffsetOf, forwardOf, inverseOf, applyOf}
 use Rattle.helmert.specs.Modes.{nothing3, startOf, nextOf, runningOf, isRunningOf}
 use Rattle.helmert.specs.Turns.{helmertTurns}
-use Rattle.helmert.proofs.Laws.{plus-nan, nan-time-spoils, spoilt-stays-spoilt, state-in-running, step-in-running}
-
--- ---- one tuple through a T of NaNs
-
-spoilt-tuple : (inv : Bool) (s : Float) (rotated : Bool) (m : Matrix) (v : Tuple) → applyOf inv nothing3 s rotated m v ≡ fourOf nan nan nan (v .t)
-unfolding forwardOf inverseOf offsetOf deoffsetOf add sub mul div neg
-spoilt-tuple true s true m v = rw (plus-nan (v .x))
-spoilt-tuple true s false m v = rw (plus-nan (v .x), plus-nan (v .y), plus-nan (v .z))
-spoilt-tuple false s true m v = rw (plus-nan, plus-nan, plus-nan)
-spoilt-tuple false s false m v = rw (plus-nan, plus-nan, plus-nan)
+use Rattle.helmert.proofs.Laws.{nan-time-spoils, spoilt-stays-spoilt, lost-by-T, state-in-running, step-in-running}
 
 module _ (shift : Shift) (inv : Bool) (running : isRunningOf shift ≡ true) where
   abbrev f : Turns State
@@ -42,7 +31,7 @@ module _ (shift : Shift) (inv : Bool) (running : isRunningOf shift ≡ true) whe
   -- a turn that ends with T spoilt gives three NaNs
   spoilt-turn : (k : ℕ) (state : State) (v : Tuple) → Spoilt (nextOf shift state (v .t)) → f k state v .tuple ≡ fourOf nan nan nan (v .t)
   unfolding runningOf
-  spoilt-turn k state v h = rw (step-in-running shift inv state v running, h) (spoilt-tuple inv _ _ _ v)
+  spoilt-turn k state v h = rw (step-in-running shift inv state v running, h) (lost-by-T inv _ _ _ v)
 
   stays : (k : ℕ) (state : State) (v : Tuple) → Spoilt state → Spoilt (f k state v .state)
   stays k state v h = rw (state-in-running shift inv state v running) (spoilt-stays-spoilt shift state (v .t) h)

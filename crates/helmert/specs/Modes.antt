@@ -106,16 +106,17 @@ runningOf shift inv state v =
 
 -- ---- own-epoch: in running's place
 
--- A NaN time is read as t_epoch.
-unfoldable pub ownTimeOf : Shift → Float → Float
-ownTimeOf shift time = cond (isNan time) (shift .epoch) time
+-- A fix whose time is missing is lost: three NaNs, its time kept.
+abbrev pub lostOf : Tuple → Tuple
+lostOf v = record { x = nan; y = nan; z = nan; t = v .t }
 
--- T, R and S each from the sheet's at the tuple's dt
+-- T, R and S each from the sheet's at the tuple's dt; a tuple without a time, a NaN, has none
 unfoldable pub ownEpochStepOf : Shift → Bool → Tuple → Tuple
 ownEpochStepOf shift inv v =
-    let dt = ownTimeOf shift (v .t) ⊖ shift .epoch in
+    let dt = v .t ⊖ shift .epoch in
     let p = shift .parameters in
-    shiftedOf shift inv (grownOf (p .t) dt (p .dt)) (rotationAtOf p dt) (scaleAtOf p dt) v
+    cond (isNan (v .t)) (lostOf v)
+    (shiftedOf shift inv (grownOf (p .t) dt (p .dt)) (rotationAtOf p dt) (scaleAtOf p dt) v)
 
 -- ---- the step: the mode that the shift calls for
 
@@ -134,3 +135,7 @@ unfoldable pub stepOf : Shift → Bool → State → Tuple → Stepped
 stepOf shift inv state v =
     cond (isRunningOf shift) (runningOf shift inv state v)
     (record { state = state; tuple = cond (isOwnEpochOf shift) (ownEpochStepOf shift inv v) (fixedStepOf shift inv v) })
+
+-- Every tuple counts, save in own-epoch mode one whose time is missing.
+unfoldable pub countedOf : Shift → Tuple → Bool
+countedOf shift v = not (isOwnEpochOf shift && isNan (v .t))

@@ -19,7 +19,7 @@ ghost use Rattle.helmert.specs.Record.{exactOf, uasOf, mmOf, ownEpochOf,
 ghost use Rattle.helmert.specs.Units.{linearScaleOf, angularScaleOf, winnerOf, lengthsOf, anglesOf, parametersOf};
 ghost use Rattle.helmert.specs.Rules.{someOf, rotatedOf, dynamicOf, finite3Of, timeOf, vectorsFiniteOf, scalesFiniteOf, fieldsInRuleOf, lacksConventionOf, lacksEpochOf};
 ghost use Rattle.helmert.specs.Apply.{offsetOf, deoffsetOf, forwardOf, inverseOf, applyOf};
-ghost use Rattle.helmert.specs.Modes.{advancedOf, observedOf, prepareOf, grownOf, rotationAtOf, scaleAtOf, shiftedOf, fixedStepOf, startOf, nextOf, runningOf, ownTimeOf, ownEpochStepOf, isOwnEpochOf, isRunningOf, stepOf};
+ghost use Rattle.helmert.specs.Modes.{advancedOf, observedOf, prepareOf, grownOf, rotationAtOf, scaleAtOf, shiftedOf, fixedStepOf, startOf, nextOf, runningOf, ownEpochStepOf, isOwnEpochOf, isRunningOf, stepOf, countedOf};
 use rotation::Vec3;
 use tuple::Tuple;
 
@@ -528,22 +528,13 @@ pub fn running(shift: Shift, inv: bool, state: State, v: Tuple) -> Stepped
     }
 }
 
-// A NaN time is read as t_epoch.
-pub fn own_time(shift: Shift, time: f64) -> f64
-    ensures { λ r. ⌜ r ≡ ownTimeOf shift time ⌝ }
-{
-    if floats::is_nan(time) {
-        shift.epoch
-    } else {
-        time
-    }
-}
-
-// The mode in running's place that has no order effect.
+// The mode in running's place that has no order effect. A fix whose time is missing, a NaN, becomes
+// three NaNs with its time kept, and no test is needed for it: its dt is NaN, so T is, and so are
+// its three coordinates.
 pub fn own_epoch_step(shift: Shift, inv: bool, v: Tuple) -> Tuple
     ensures { λ r. ⌜ r ≡ ownEpochStepOf shift inv v ⌝ }
 {
-    let dt = own_time(shift, v.t) - shift.epoch;
+    let dt = v.t - shift.epoch;
     let p = shift.parameters;
     let t = grown(p.t, dt, p.dt);
     shifted(shift, inv, t, rotation_at(p, dt), scale_at(p, dt), v)
@@ -582,4 +573,11 @@ pub fn step(shift: Shift, inv: bool, state: State, v: Tuple) -> Stepped
         state: state,
         tuple: w,
     }
+}
+
+// Whether a tuple counts: every one, save in own-epoch mode one whose time is missing.
+pub fn counted(shift: Shift, v: Tuple) -> bool
+    ensures { λ r. ⌜ r ≡ countedOf shift v ⌝ }
+{
+    !(is_own_epoch(shift) & floats::is_nan(v.t))
 }

@@ -4,7 +4,7 @@ use Prim.Native.Nat.{ℕ, _+_, _-_, _*_, _≤_, _<_}
 use native.Mathlib.Omega.{arith}
 use native.Mathlib.Nat.{not-suc-le-zero}
 use mathlib.Core.Path.{_≡_, refl, sym, ap, _∙_}
-use mathlib.Core.Bool.{Bool, true}
+use mathlib.Core.Bool.{true}
 use mathlib.Core.List.{List}
 use lib.ListN.{length, getD, set}
 use lib.Seq.{getD-set-other}
@@ -46,15 +46,15 @@ through : {s a dt : List Float} {lapse : ℕ → Float} (kernel angle : Float �
     → (k : ℕ) → k < 16 → at s k ≡ kernel (angle (lapse k))
 through kernel angle es ea et k h = es .held k h ∙ ap kernel (ea .held k h ∙ ap angle (et .held k h))
 
-module _ {own : Bool} {shift : Shift} {l : List Float} {i : ℕ} {sx cx sy cy sz cz : List Float} where
-  pub none-ahead : i ≤ length l → Ahead own shift l i 0 sx cx sy cy sz cz
+module _ {shift : Shift} {l : List Float} {i : ℕ} {sx cx sy cy sz cz : List Float} where
+  pub none-ahead : i ≤ length l → Ahead shift l i 0 sx cx sy cy sz cz
   none-ahead h = record { few = omega arith; whole = omega arith; exact = λ k. absurd (not-suc-le-zero k); held = λ j k. absurd (not-suc-le-zero k) }
 
-  pub sixteen-ahead : shift .exact ≡ true → i + 64 ≤ length l → {dt ax ay az : List Float} → Each dt (λ (j : ℕ). lapseOf own shift (tupleAt l (i + 4 * j) .t))
+  pub sixteen-ahead : shift .exact ≡ true → i + 64 ≤ length l → {dt ax ay az : List Float} → Each dt (λ (j : ℕ). lapseOf shift (tupleAt l (i + 4 * j) .t))
       → Each ax (λ (j : ℕ). shift .parameters .r .x ⊕ at dt j ⊗ shift .parameters .dr .x) → Each sx (λ (j : ℕ). sinOf (at ax j)) × Each cx (λ (j : ℕ). cosOf (at ax j))
       → Each ay (λ (j : ℕ). shift .parameters .r .y ⊕ at dt j ⊗ shift .parameters .dr .y) → Each sy (λ (j : ℕ). sinOf (at ay j)) × Each cy (λ (j : ℕ). cosOf (at ay j))
       → Each az (λ (j : ℕ). shift .parameters .r .z ⊕ at dt j ⊗ shift .parameters .dr .z) → Each sz (λ (j : ℕ). sinOf (at az j)) × Each cz (λ (j : ℕ). cosOf (at az j))
-      → Ahead own shift l i 16 sx cx sy cy sz cz
+      → Ahead shift l i 16 sx cx sy cy sz cz
   unfolding grownOf
   sixteen-ahead exact h et ex px ey py ez pz =
       record {
@@ -70,7 +70,7 @@ module _ {own : Bool} {shift : Shift} {l : List Float} {i : ℕ} {sx cx sy cy sz
   -- ---- one fewer
 
   pub ahead-on : i + 4 ≤ length l → {l′ : List Float} (w : Tuple) → l′ ≡ putAt l i w → {left left′ : ℕ} → left′ ≡ left - 1
-      → Ahead own shift l i left sx cx sy cy sz cz → Ahead own shift l′ (i + 4) left′ sx cx sy cy sz cz
+      → Ahead shift l i left sx cx sy cy sz cz → Ahead shift l′ (i + 4) left′ sx cx sy cy sz cz
   ahead-on h {l′} w el {left} {left′} en now =
       record {
         few = omega (arith, now .few);
@@ -81,20 +81,20 @@ module _ {own : Bool} {shift : Shift} {l : List Float} {i : ℕ} {sx cx sy cy sz
             let there : i + 4 + 4 * k ≡ i + 4 * (k + 1) = omega arith in
             ap (sinesAt sx cx sy cy sz cz) place
             ∙ now .held (k + 1) (omega arith)
-            ∙ ap (λ (v : Tuple). sinesOf (anglesOf own shift (v .t)))
+            ∙ ap (λ (v : Tuple). sinesOf (anglesOf shift (v .t)))
             (sym (ap (λ (n : ℕ). tupleAt l′ n) there ∙ ap (λ (u : List Float). tupleAt u (i + 4 * (k + 1))) el ∙ tuple-stays l i w h (i + 4 * (k + 1)) (omega arith) (omega (arith, now .whole))));
       }
 
   -- ---- told by other names
 
   pub same-ahead : {left : ℕ} {sx′ cx′ sy′ cy′ sz′ cz′ : List Float} {left′ : ℕ} → sx′ ≡ sx → cx′ ≡ cx → sy′ ≡ sy → cy′ ≡ cy → sz′ ≡ sz → cz′ ≡ cz → left′ ≡ left
-      → Ahead own shift l i left sx cx sy cy sz cz → Ahead own shift l i left′ sx′ cx′ sy′ cy′ sz′ cz′
+      → Ahead shift l i left sx cx sy cy sz cz → Ahead shift l i left′ sx′ cx′ sy′ cy′ sz′ cz′
   same-ahead e1 e2 e3 e4 e5 e6 e7 now = rw (e1, e2, e3, e4, e5, e6, e7) now
 
   -- ---- the first of them
 
-  pub ahead-here : {left : ℕ} {v : Tuple} {dt : Float} → v ≡ tupleAt l i → dt ≡ lapseOf own shift (v .t)
-      → Ahead own shift l i left sx cx sy cy sz cz → Here shift (rotationAtOf (shift .parameters) dt) left sx cx sy cy sz cz
+  pub ahead-here : {left : ℕ} {v : Tuple} {dt : Float} → v ≡ tupleAt l i → dt ≡ lapseOf shift (v .t)
+      → Ahead shift l i left sx cx sy cy sz cz → Here shift (rotationAtOf (shift .parameters) dt) left sx cx sy cy sz cz
   ahead-here {left} {v} {dt} ev ed now =
       record {
         few = now .few;
@@ -104,8 +104,8 @@ module _ {own : Bool} {shift : Shift} {l : List Float} {i : ℕ} {sx cx sy cy sz
             let there : i + 4 * 0 ≡ i = omega arith in
             ap (sinesAt sx cx sy cy sz cz) place
             ∙ now .held 0 k
-            ∙ ap (λ (n : ℕ). sinesOf (anglesOf own shift (tupleAt l n .t))) there
-            ∙ ap (λ (u : Tuple). sinesOf (anglesOf own shift (u .t))) (sym ev)
+            ∙ ap (λ (n : ℕ). sinesOf (anglesOf shift (tupleAt l n .t))) there
+            ∙ ap (λ (u : Tuple). sinesOf (anglesOf shift (u .t))) (sym ev)
             ∙ ap (λ (d : Float). sinesOf (rotationAtOf (shift .parameters) d)) (sym ed);
       }
 

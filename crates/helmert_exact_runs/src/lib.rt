@@ -7,7 +7,8 @@
 // for a while, or fewer than sixteen fixes are left, a fix's sines are taken when its turn comes.
 // Every function is proved equal to the step's own definition from tuple to tuple
 // (helmert/specs/Turns.antt over `lists`), for any shift; what `helmert_runs` sends here are the
-// exact ones, and of own-epoch those that are not rotated. Exact: no rounding but the step's own.
+// exact ones, and of own-epoch those that are not rotated. No loop tests for a missing time: at a
+// NaN time T is NaN, and so are the three coordinates. Exact: no rounding but the step's own.
 ghost use mathlib.Core.Path.{_≡_};
 ghost use mathlib.Core.Bool.{true, false};
 ghost use Prim.Native.Nat.{ℕ, _+_, _-_, _*_, _≤_};
@@ -26,26 +27,16 @@ use rotation::Sines;
 
 // ----- sines taken ahead -------------------------------------------------------------------
 
-// From t_epoch to the time that a fix goes by.
-fn lapse(own: bool, shift: Shift, t: f64) -> f64
-    ensures { λ r. ⌜ r ≡ lapseOf own shift t ⌝ }
-{
-    if own {
-        return helmert::own_time(shift, t) - shift.epoch;
-    }
-    t - shift.epoch
-}
-
-// The same of sixteen fixes.
-fn lapses(list: &[f64], i: usize, own: bool, shift: Shift, dt: &mut [f64; WIDTH])
+// From t_epoch to the times of sixteen fixes.
+fn lapses(list: &[f64], i: usize, shift: Shift, dt: &mut [f64; WIDTH])
     requires { ⌜ i + 64 ≤ length (now list) ⌝ }
-    ensures { λ _. ⌜ Each (now (dt .exit)) (λ (j : ℕ). lapseOf own shift (tupleAt (now (list .entry)) (i + 4 * j) .t)) ⌝ }
+    ensures { λ _. ⌜ Each (now (dt .exit)) (λ (j : ℕ). lapseOf shift (tupleAt (now (list .entry)) (i + 4 * j) .t)) ⌝ }
 {
     *dt = [0.0; WIDTH];
     let mut j = 0;
     while j < WIDTH {
         let v = lists::read4(list, i + 4 * j);
-        dt[j] = lapse(own, shift, v.t);
+        dt[j] = v.t - shift.epoch;
         j += 1;
     }
 }
@@ -66,7 +57,6 @@ fn turned(r: f64, rate: f64, dt: &[f64; WIDTH], a: &mut [f64; WIDTH])
 fn fill(
     list: &[f64],
     i: usize,
-    own: bool,
     shift: Shift,
     sx: &mut [f64; WIDTH],
     cx: &mut [f64; WIDTH],
@@ -76,13 +66,13 @@ fn fill(
     cz: &mut [f64; WIDTH],
 )
     requires { ⌜ (shift .exact ≡ true) × (i + 64 ≤ length (now list)) ⌝ }
-    ensures { λ _. ⌜ Ahead own shift (now (list .entry)) i 16 (now (sx .exit)) (now (cx .exit)) (now (sy .exit)) (now (cy .exit)) (now (sz .exit)) (now (cz .exit)) ⌝ }
+    ensures { λ _. ⌜ Ahead shift (now (list .entry)) i 16 (now (sx .exit)) (now (cx .exit)) (now (sy .exit)) (now (cy .exit)) (now (sz .exit)) (now (cz .exit)) ⌝ }
 {
     let p = shift.parameters;
     let r = p.r;
     let rate = p.dr;
     let mut a = [0.0; WIDTH];
-    lapses(list, i, own, shift, sz); // the last column to be filled holds them until then
+    lapses(list, i, shift, sz); // the last column to be filled holds them until then
     turned(r.x, rate.x, sz, &mut a);
     trig_block::sin_cos_block(&a, sx, cx);
     turned(r.y, rate.y, sz, &mut a);
@@ -126,10 +116,10 @@ fn ahead(
     cz: &mut [f64; WIDTH],
 ) -> usize
     requires { ⌜ i ≤ length (now list) ⌝ }
-    ensures { λ r. ⌜ Ahead own shift (now (list .entry)) i r (now (sx .exit)) (now (cx .exit)) (now (sy .exit)) (now (cy .exit)) (now (sz .exit)) (now (cz .exit)) ⌝ }
+    ensures { λ r. ⌜ Ahead shift (now (list .entry)) i r (now (sx .exit)) (now (cx .exit)) (now (sy .exit)) (now (cy .exit)) (now (sz .exit)) (now (cz .exit)) ⌝ }
 {
     if worth(list, i, own, shift) {
-        fill(list, i, own, shift, sx, cx, sy, cy, sz, cz);
+        fill(list, i, shift, sx, cx, sy, cy, sz, cz);
         return WIDTH;
     }
     0
@@ -300,7 +290,7 @@ fn own_epoch_forward(list: &mut [f64], shift: Shift)
     let mut i = 0;
     while 4 <= list.len() - i {
         let v = lists::read4(list, i);
-        let dt = lapse(true, shift, v.t);
+        let dt = v.t - shift.epoch;
         let t = helmert::grown(p.t, dt, p.dt);
         let s = helmert::scale_at(p, dt);
         if left == 0 {
@@ -339,7 +329,7 @@ fn own_epoch_inverse(list: &mut [f64], shift: Shift)
     let mut i = 0;
     while 4 <= list.len() - i {
         let v = lists::read4(list, i);
-        let dt = lapse(true, shift, v.t);
+        let dt = v.t - shift.epoch;
         let t = helmert::grown(p.t, dt, p.dt);
         let s = helmert::scale_at(p, dt);
         if left == 0 {

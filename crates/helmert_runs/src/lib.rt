@@ -11,7 +11,8 @@ ghost use mathlib.Core.Bool.{true, false};
 ghost use Rattle.helmert.specs.Apply.{forwardOf, inverseOf};
 ghost use Rattle.helmert.specs.Modes.{prepareOf, startOf, fixedStepOf, runningOf, ownEpochStepOf};
 ghost use Rattle.lists.specs.Run.{ranOf, countOf};
-ghost use Rattle.helmert.specs.Turns.{noState, allTurns, steppedTurns, helmertTurns};
+ghost use Rattle.helmert.specs.Turns.{noState, allTurns, steppedTurns, helmertTurns, numberOf, timedOf};
+use blocks::one_if;
 use helmert::Helmert;
 use helmert::Shift;
 use rotation::Vec3;
@@ -41,7 +42,8 @@ fn helmert_inverse(list: &mut [f64], t: Vec3, s: f64, rotated: bool, m: [[f64; 3
     }
 }
 
-// Own-epoch with small angles: a loop for each convention, as in running mode below.
+// Own-epoch with small angles: a loop for each convention, as in running mode below. No loop tests
+// for a missing time: at a NaN time T is NaN, and so are the three coordinates.
 fn own_epoch_position_vector_forward(list: &mut [f64], shift: Shift)
     requires { ⌜ (shift .rotated ≡ true) × (shift .exact ≡ false) × (shift .«position_vector» ≡ true) ⌝ }
     ensures { λ _. ⌜ now (list .exit) ≡ ranOf (allTurns (ownEpochStepOf shift false)) 0 noState (now (list .entry)) ⌝ }
@@ -50,7 +52,7 @@ fn own_epoch_position_vector_forward(list: &mut [f64], shift: Shift)
     let mut i = 0;
     while 4 <= list.len() - i {
         let v = lists::read4(list, i);
-        let dt = helmert::own_time(shift, v.t) - shift.epoch;
+        let dt = v.t - shift.epoch; // NaN where the time is missing
         let t = helmert::grown(p.t, dt, p.dt);
         let s = helmert::scale_at(p, dt);
         let m = rotation::rotation_matrix(helmert::rotation_at(p, dt), false, true);
@@ -68,11 +70,11 @@ fn own_epoch_position_vector_inverse(list: &mut [f64], shift: Shift)
     let mut i = 0;
     while 4 <= list.len() - i {
         let v = lists::read4(list, i);
-        let dt = helmert::own_time(shift, v.t) - shift.epoch;
+        let dt = v.t - shift.epoch;
         let t = helmert::grown(p.t, dt, p.dt);
         let s = helmert::scale_at(p, dt);
         let m = rotation::rotation_matrix(helmert::rotation_at(p, dt), false, true);
-        let w = helmert::inverse(t, s, true, m, v);
+        let w = helmert::inverse(t, s, true, m, v); // Mᵀ·((v - T)/S) at the fix's own time
         lists::write4(list, i, w);
         i += 4;
     }
@@ -86,7 +88,7 @@ fn own_epoch_coordinate_frame_forward(list: &mut [f64], shift: Shift)
     let mut i = 0;
     while 4 <= list.len() - i {
         let v = lists::read4(list, i);
-        let dt = helmert::own_time(shift, v.t) - shift.epoch;
+        let dt = v.t - shift.epoch;
         let t = helmert::grown(p.t, dt, p.dt);
         let s = helmert::scale_at(p, dt);
         let m = rotation::rotation_matrix(helmert::rotation_at(p, dt), false, false);
@@ -104,7 +106,7 @@ fn own_epoch_coordinate_frame_inverse(list: &mut [f64], shift: Shift)
     let mut i = 0;
     while 4 <= list.len() - i {
         let v = lists::read4(list, i);
-        let dt = helmert::own_time(shift, v.t) - shift.epoch;
+        let dt = v.t - shift.epoch;
         let t = helmert::grown(p.t, dt, p.dt);
         let s = helmert::scale_at(p, dt);
         let m = rotation::rotation_matrix(helmert::rotation_at(p, dt), false, false);
@@ -383,6 +385,20 @@ fn run_running(list: &mut [f64], inverse: bool, shift: Shift)
     }
 }
 
+// How many fixes have their time: own-epoch's count, from the times alone.
+fn timed(list: &[f64]) -> usize
+    ensures { λ r. ⌜ r ≡ numberOf timedOf (now (list .entry)) ⌝ }
+{
+    let mut n = 0;
+    let mut i = 0;
+    while 4 <= list.len() - i {
+        let v = lists::read4(list, i);
+        n += one_if(!floats::is_nan(v.t));
+        i += 4;
+    }
+    n
+}
+
 // The mode is decided once. Helmert's state starts afresh for each list.
 pub fn run_helmert(list: &mut [f64], inverse: bool, step: Helmert) -> usize
     ensures { λ r. ⌜ (now (list .exit) ≡ ranOf (helmertTurns inverse (prepareOf step)) 0 (startOf (prepareOf step)) (now (list .entry)))
@@ -394,8 +410,9 @@ pub fn run_helmert(list: &mut [f64], inverse: bool, step: Helmert) -> usize
         return list.len() / 4;
     }
     if helmert::is_own_epoch(shift) {
+        let n = timed(list);
         run_own_epoch(list, inverse, shift);
-        return list.len() / 4;
+        return n;
     }
     run_fixed(list, inverse, shift);
     list.len() / 4

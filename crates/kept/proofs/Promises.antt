@@ -442,3 +442,13 @@ module _ (inverse : Bool) (s : List ℕ) (old : Kept) (passes : keepRefusalOf s 
       done inverse s (keepOf inverse s old) index fix (nothing-refuses inverse s old passes index fix h) .0
       ∙ ap (λ (k : Kept). correctedOf (shiftIn s) (reversedIn inverse s) k index fix .count) (keep-runs inverse s old passes)
       ∙ still-redoes-one (shiftIn s) (reversedIn inverse s) (old .list) (still-is-not-running (shiftIn s) still) index fix (omega arith)
+
+-- also after any corrections: a time that goes missing, and comes back, is one fix redone each time
+pub still-count-is-one-always : (inverse : Bool) (s : List ℕ) (old : Kept) → keepRefusalOf s old .number ≡ 0 → Still (shiftIn s) → (corrections : List Correction)
+    (index : ℕ) (fix : Tuple) → index < length (old .list) / 4
+    → correctOf inverse s (keptAfterOf inverse s (keepOf inverse s old) corrections) index fix .answer .redone ≡ 1
+still-count-is-one-always inverse s old passes still [] index fix h = still-count-is-one inverse s old passes still index fix h
+still-count-is-one-always inverse s old passes still (c ∷ later) index fix h =
+    ap (λ (k : Kept). correctOf inverse s (keptAfterOf inverse s k later) index fix .answer .redone) (corrected-is-kept-afresh inverse s old passes (c .index) (c .fix))
+    ∙ still-count-is-one-always inverse s (putFix old (c .index) (c .fix)) (corrected-passes inverse s old passes (c .index) (c .fix)) still later index fix
+    (rw (put-keeps-length (old .list) (4 * c .index) (c .fix)) h)

@@ -175,7 +175,7 @@ fn turn(plan: Plan, at: Carried, k: usize, u: Tuple, velocities: &[f64], marks: 
         }
         Plan::HelmertEither(shift, inverse) => {
             let r = helmert::step(shift, inverse, state, u);
-            return carried_on(at, r.state, r.tuple, true);
+            return carried_on(at, r.state, r.tuple, helmert::counted(shift, u));
         }
     }
 }

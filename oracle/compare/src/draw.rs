@@ -173,6 +173,27 @@ pub fn list(r: &mut Random, n: usize, epoch: f64, mut place: impl FnMut(&mut Ran
     list
 }
 
+/// A list of n tuples of which some have no time: the first, the last, a whole block of sixteen, those at the edges of blocks,
+/// or some here and there.
+pub fn untimed_list(r: &mut Random, n: usize, epoch: f64) -> Vec<f64> {
+    let mut list = list(r, n, epoch, cartesian);
+    let blocks = n.div_ceil(16).max(1) as u64;
+    let (pattern, block) = (r.below(5), r.below(blocks) as usize);
+    for i in 0..n {
+        let missing = match pattern {
+            0 => i == 0,
+            1 => i + 1 == n,
+            2 => i / 16 == block,
+            3 => i % 16 == 0 || i % 16 == 15,
+            _ => r.once_in(3),
+        };
+        if missing {
+            list[4 * i + 3] = r.nan();
+        }
+    }
+    list
+}
+
 /// Mostly short, so that many sheets are met; sometimes as long as a list may be, or empty.
 pub fn list_length(r: &mut Random) -> usize {
     match r.below(100) {

@@ -75,6 +75,11 @@ impl Random {
         }
     }
 
+    /// A NaN of any bits, a signalling one too.
+    pub fn nan(&mut self) -> f64 {
+        if self.once_in(5) { f64::from_bits(0x7ff0_0000_0000_0001) } else { self.pick(&NANS) }
+    }
+
     pub fn wild_finite(&mut self) -> f64 {
         loop {
             let x = self.wild();

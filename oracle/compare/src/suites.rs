@@ -31,10 +31,11 @@ pub const SUITES: [Suite; 12] = [
 ];
 
 /// Suites beside those that the stored vectors are drawn from.
-pub const FURTHER: [Suite; 3] = [
+pub const FURTHER: [Suite; 4] = [
     Suite { name: "helmert small angles", draw: small_angles },
     Suite { name: "permtide at the edges", draw: tides },
     Suite { name: "deformation by the comment", draw: by_the_comment },
+    Suite { name: "helmert missing times", draw: missing_times },
 ];
 
 /// One step, asked for in a direction: by the call alone, or turned in the sheet.
@@ -87,6 +88,15 @@ fn helmert(r: &mut Random, inverse: bool, n: usize, mode: Mode) -> Job {
 fn small_angles(r: &mut Random, inverse: bool, n: usize) -> Job {
     let h = draw::turning(r);
     let list = draw::turned_list(r, n);
+    one(r, inverse, Body::Helmert(h), list)
+}
+
+/// Missing times in own-epoch mode, exact or by small angles; and on a fixed sheet with the same flag, which asks for no time.
+pub fn missing_times(r: &mut Random, inverse: bool, n: usize) -> Job {
+    let mode = if r.once_in(4) { Mode::Fixed } else { Mode::OwnEpoch };
+    let mut h = draw::helmert(r, mode);
+    h.flags |= 8;
+    let list = draw::untimed_list(r, n, h.t_epoch);
     one(r, inverse, Body::Helmert(h), list)
 }
 

@@ -1,11 +1,9 @@
--- Calls are replaced by what they ensure; the definition is left. Assumes nothing.
-use Rattle.helmert.specs.Modes.{ownEpochStepOf}
+-- Calls are replaced by what they ensure; what is left is `own-epoch-anyway`: the definition, with
+-- no test for a missing time. Assumes nothing.
+use Rattle.helmert.proofs.Laws.{own-epoch-anyway}
 use borrow.Author.Needs.{needs}
 use Rattle.helmert.proofs.own_epoch_step.Statement.{statement}
 use Rattle.helmert.proofs.own_epoch_step.Tie as tie
-
-own-time-requires : tie.Need-own-time-requires
-own-time-requires c κs = search needs
 
 grown-requires : tie.Need-grown-requires
 grown-requires c κs = search needs
@@ -20,21 +18,19 @@ shifted-requires : tie.Need-shifted-requires
 shifted-requires c κs = search needs
 
 returns : tie.Need-returns
-unfolding ownEpochStepOf
 returns c =
     rw (
+      own-epoch-anyway _ _ _,
       c .shifted .ensures,
       c .before .scale-at .ensures,
       c .before .before .rotation-at .ensures,
       c .before .before .before .grown .ensures,
-      c .before .before .before .before .before .before .own-time .ensures,
     )
 
 pub own-epoch-step-spec : {M : Type 1} → statement M
 own-epoch-step-spec =
     tie.close
     (tie.spec
-    own-time-requires
     grown-requires
     rotation-at-requires
     scale-at-requires

@@ -1,6 +1,6 @@
 -- Invariant: the first j numbers of dt are the lapses of the first j fixes from number i of the
--- list on (`UpTo`, `lapseOf`). A turn reads the next fix (`read4`) and writes its lapse (`lapse`,
--- `one-more`). At j = 16 the whole block is filled (`all-filled`). The measure is 16 - j.
+-- list on (`UpTo`, `lapseOf`). A turn reads the next fix (`read4`) and writes its lapse
+-- (`one-more`). At j = 16 the whole block is filled (`all-filled`). The measure is 16 - j.
 -- Assumes nothing.
 use Prim.Native.Nat.{ℕ, _+_, _-_, _*_}
 use borrow.Author.Needs.{needs}
@@ -14,10 +14,10 @@ use Rattle.helmert_exact_runs.proofs.lapses.Statement.{statement}
 use Rattle.helmert_exact_runs.proofs.lapses.Tie as tie
 
 abbrev Inv-loop : tie.InvT-loop
-Inv-loop list i own shift dt₀ j₀ dt j = UpTo j dt (λ (k : ℕ). lapseOf own shift (tupleAt list (i + 4 * k) .t))
+Inv-loop list i shift dt₀ j₀ dt j = UpTo j dt (λ (k : ℕ). lapseOf shift (tupleAt list (i + 4 * k) .t))
 
 abbrev μ-loop : tie.MeasureT-loop
-μ-loop list i own shift dt₀ j₀ dt j = 16 - j
+μ-loop list i shift dt₀ j₀ dt j = 16 - j
 
 loop-holds : tie.Need-loop-holds Inv-loop μ-loop
 loop-holds c = none-filled refl
@@ -30,9 +30,6 @@ add-read4 c = search needs
 
 read4-requires : tie.Need-read4-requires Inv-loop μ-loop
 read4-requires c κs = search needs
-
-lapse-requires : tie.Need-lapse-requires Inv-loop μ-loop
-lapse-requires c κs = search needs
 
 mul-dt : tie.Need-mul-dt Inv-loop μ-loop
 mul-dt c = search needs
@@ -47,7 +44,7 @@ loop-less : tie.Need-loop-less Inv-loop μ-loop
 loop-less c = search needs
 
 loop-again : tie.Need-loop-again Inv-loop μ-loop
-loop-again c = one-more (search needs) (rw (c .before .read4 .ensures) at (c .lapse .ensures)) (c .before .before .before .loop .inv)
+loop-again c = one-more (search needs) (ap (λ (v : Tuple). lapseOf (c .before .before .before .before .before .before .before .args .shift) (v .t)) (c .before .before .read4 .ensures)) (c .before .before .before .before .loop .inv)
 
 returns : tie.Need-returns Inv-loop μ-loop
 returns c = all-filled (search needs) (c .before .loop .inv)
@@ -62,7 +59,6 @@ lapses-spec =
     mul-read4
     add-read4
     read4-requires
-    lapse-requires
     mul-dt
     element-write-dt
     add-j

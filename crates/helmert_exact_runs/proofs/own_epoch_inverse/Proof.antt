@@ -13,7 +13,7 @@ use lib.ListN.{length}
 use mathlib.Core.Bool.{true, false}
 use mathlib.Core.Logic.{⊎-elim}
 use mathlib.Core.Path.{_≡_, refl}
-use Rattle.helmert.specs.Modes.{ownTimeOf, ownEpochStepOf}
+use Rattle.helmert.specs.Modes.{ownEpochStepOf}
 use Rattle.lists.proofs.Laws.{Ran, ran-start, ran-again, ran-end}
 use Rattle.helmert.specs.Turns.{noState, allTurns}
 use Rattle.helmert.proofs.Current.{own-epoch-turn}
@@ -24,7 +24,7 @@ use Rattle.helmert_exact_runs.proofs.own_epoch_inverse.Tie as tie
 
 abbrev Inv-loop : tie.InvT-loop
 Inv-loop list₀ shift p sx₀ cx₀ sy₀ cy₀ sz₀ cz₀ left₀ i₀ list sx cx sy cy sz cz left i =
-    Ran (allTurns (ownEpochStepOf shift true)) noState list₀ i noState list × (length list < 2 ^ 64) × Ahead true shift list i left sx cx sy cy sz cz
+    Ran (allTurns (ownEpochStepOf shift true)) noState list₀ i noState list × (length list < 2 ^ 64) × Ahead shift list i left sx cx sy cy sz cz
 
 abbrev μ-loop : tie.MeasureT-loop
 μ-loop list₀ shift p sx₀ cx₀ sy₀ cy₀ sz₀ cz₀ left₀ i₀ list sx cx sy cy sz cz left i = length list₀ - i
@@ -38,9 +38,6 @@ sub-loop c = search (needs, c .loop .inv .0 .within)
 read4-requires : tie.Need-read4-requires Inv-loop μ-loop
 read4-requires c κs = search needs
 
-lapse-requires : tie.Need-lapse-requires Inv-loop μ-loop
-lapse-requires c κs = search needs
-
 grown-requires : tie.Need-grown-requires Inv-loop μ-loop
 grown-requires c κs = search needs
 
@@ -48,14 +45,14 @@ scale-at-requires : tie.Need-scale-at-requires Inv-loop μ-loop
 scale-at-requires c κs = search needs
 
 ahead-requires : tie.Need-ahead-requires Inv-loop μ-loop
-ahead-requires c κs = c .before .before .before .before .before .before .before .before .before .before .before .before .before .before .loop .inv .0 .within
+ahead-requires c κs = c .before .before .before .before .before .before .before .before .before .before .before .before .before .before .before .loop .inv .0 .within
 
 matrix-at-requires : tie.Need-matrix-at-requires Inv-loop μ-loop
 matrix-at-requires c κs =
-    ahead-here (c .before .before .before .before .before .before .before .before .before .before .read4 .ensures) (c .before .before .before .before .before .before .before .before .before .lapse .ensures)
+    ahead-here (c .before .before .before .before .before .before .before .before .before .before .before .read4 .ensures) refl
     (⊎-elim
     (λ t. same-ahead (t .9) (t .10) (t .11) (t .12) (t .13) (t .14) (t .15) (t .8 .ensures))
-    (λ t. same-ahead (t .1) (t .2) (t .3) (t .4) (t .5) (t .6) (t .7) (c .before .before .before .before .before .before .before .before .before .before .before .before .before .loop .inv .2))
+    (λ t. same-ahead (t .1) (t .2) (t .3) (t .4) (t .5) (t .6) (t .7) (c .before .before .before .before .before .before .before .before .before .before .before .before .before .before .loop .inv .2))
     (c .before .before .before .before .before .before .if1 .came))
 
 inverse-requires : tie.Need-inverse-requires Inv-loop μ-loop
@@ -68,24 +65,24 @@ less-requires : tie.Need-less-requires Inv-loop μ-loop
 less-requires c κs = search needs
 
 add-i : tie.Need-add-i Inv-loop μ-loop
-add-i c = search (needs, c .before .before .before .before .before .before .before .before .before .before .before .before .before .before .before .before .before .before .before .loop-test .taken, c .before .before .before .before .before .before .before .before .before .before .before .before .before .before .before .before .before .before .before .before .loop .inv .0 .within, c .before .before .before .before .before .before .before .before .before .before .before .before .before .before .before .before .before .before .before .before .loop .inv .0 .long, c .before .before .before .before .before .before .before .before .before .before .before .before .before .before .before .before .before .before .before .before .loop .inv .1)
+add-i c = search (needs, c .before .before .before .before .before .before .before .before .before .before .before .before .before .before .before .before .before .before .before .before .loop-test .taken, c .before .before .before .before .before .before .before .before .before .before .before .before .before .before .before .before .before .before .before .before .before .loop .inv .0 .within, c .before .before .before .before .before .before .before .before .before .before .before .before .before .before .before .before .before .before .before .before .before .loop .inv .0 .long, c .before .before .before .before .before .before .before .before .before .before .before .before .before .before .before .before .before .before .before .before .before .loop .inv .1)
 
 loop-less : tie.Need-loop-less Inv-loop μ-loop
-loop-less c = omega (arith, c .before .before .before .before .before .before .before .before .before .before .before .before .before .before .before .before .before .before .before .loop-test .taken, c .before .before .before .before .before .before .before .before .before .before .before .before .before .before .before .before .before .before .before .before .loop .inv .0 .within, c .before .before .before .before .before .before .before .before .before .before .before .before .before .before .before .before .before .before .before .before .loop .inv .0 .long)
+loop-less c = omega (arith, c .before .before .before .before .before .before .before .before .before .before .before .before .before .before .before .before .before .before .before .before .loop-test .taken, c .before .before .before .before .before .before .before .before .before .before .before .before .before .before .before .before .before .before .before .before .before .loop .inv .0 .within, c .before .before .before .before .before .before .before .before .before .before .before .before .before .before .before .before .before .before .before .before .before .loop .inv .0 .long)
 
 loop-again : tie.Need-loop-again Inv-loop μ-loop
 loop-again c =
-    let l = c .before .before .before .before .before .before .before .before .before .before .before .before .before .before .before .before .before .before .before .before in
-    let v = c .before .before .before .before .before .before .before .before .before .before .before .before .before .before .before .before .before .read4 in
+    let l = c .before .before .before .before .before .before .before .before .before .before .before .before .before .before .before .before .before .before .before .before .before in
+    let v = c .before .before .before .before .before .before .before .before .before .before .before .before .before .before .before .before .before .before .read4 in
     let w = c .before .before .before .before .before .inverse in
     let a = l .before .before .before .args in
-    let fits : l .loop .i + 4 ≤ length (l .loop .list) = omega (arith, c .before .before .before .before .before .before .before .before .before .before .before .before .before .before .before .before .before .before .before .loop-test .taken) in
+    let fits : l .loop .i + 4 ≤ length (l .loop .list) = omega (arith, c .before .before .before .before .before .before .before .before .before .before .before .before .before .before .before .before .before .before .before .before .loop-test .taken) in
     let sines = ⊎-elim
     (λ t. same-ahead (t .9) (t .10) (t .11) (t .12) (t .13) (t .14) (t .15) (t .8 .ensures))
     (λ t. same-ahead (t .1) (t .2) (t .3) (t .4) (t .5) (t .6) (t .7) (l .loop .inv .2))
     (c .before .before .before .before .before .before .before .before .before .before .before .before .before .if1 .came) in
-    let turn = own-epoch-turn (a .shift) true (v .result) {w = w .result} (ownTimeOf (a .shift) (v .result .t)) refl
-    (rw (w .ensures, c .before .before .before .before .before .before .matrix-at .ensures, c .before .before .before .before .before .before .before .before .before .before .before .before .before .before .scale-at .ensures, c .before .before .before .before .before .before .before .before .before .before .before .before .before .before .before .grown .ensures, c .before .before .before .before .before .before .before .before .before .before .before .before .before .before .before .before .lapse .ensures)) in
+    let turn = own-epoch-turn (a .shift) true (v .result) {w = w .result}
+    (rw (w .ensures, c .before .before .before .before .before .before .matrix-at .ensures, c .before .before .before .before .before .before .before .before .before .before .before .before .before .before .scale-at .ensures, c .before .before .before .before .before .before .before .before .before .before .before .before .before .before .before .grown .ensures)) in
     (ran-again fits (rw (v .ensures) at turn) (c .before .before .before .write4 .ensures) (l .loop .inv .0), search needs, ahead-on fits _ (c .before .before .before .write4 .ensures) (c .less .ensures) sines)
 
 same-length : tie.Need-same-length Inv-loop μ-loop
@@ -103,7 +100,6 @@ own-epoch-inverse-spec =
     loop-holds
     sub-loop
     read4-requires
-    lapse-requires
     grown-requires
     scale-at-requires
     ahead-requires

@@ -26,7 +26,7 @@ use Rattle.helmert_exact_runs.proofs.running_forward.Tie as tie
 
 abbrev Inv-loop : tie.InvT-loop
 Inv-loop list₀ shift p sx₀ cx₀ sy₀ cy₀ sz₀ cz₀ left₀ state₀ s₀ m₀ i₀ list sx cx sy cy sz cz left state s m i =
-    Ran (steppedTurns (runningOf shift false)) state₀ list₀ i state list × Current shift state s m × (length list < 2 ^ 64) × Ahead false shift list i left sx cx sy cy sz cz
+    Ran (steppedTurns (runningOf shift false)) state₀ list₀ i state list × Current shift state s m × (length list < 2 ^ 64) × Ahead shift list i left sx cx sy cy sz cz
 
 abbrev μ-loop : tie.MeasureT-loop
 μ-loop list₀ shift p sx₀ cx₀ sy₀ cy₀ sz₀ cz₀ left₀ state₀ s₀ m₀ i₀ list sx cx sy cy sz cz left state s m i = length list₀ - i

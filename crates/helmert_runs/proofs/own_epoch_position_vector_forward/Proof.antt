@@ -31,9 +31,6 @@ sub-loop c = search needs
 read4-requires : tie.Need-read4-requires Inv-loop μ-loop
 read4-requires c κs = search needs
 
-own-time-requires : tie.Need-own-time-requires Inv-loop μ-loop
-own-time-requires c κs = search needs
-
 grown-requires : tie.Need-grown-requires Inv-loop μ-loop
 grown-requires c κs = search needs
 
@@ -63,7 +60,7 @@ loop-again c =
     let l = c .before .before .before .before .before .before .before .before .before .before .before .before .before .before in
     let o = l .before .before .before in
     let fits : l .loop .i + 4 ≤ length (l .loop .list) = omega (arith, c .before .before .before .before .before .before .before .before .before .before .before .before .before .loop-test .taken) in
-    let turn = own-epoch-turn (o .args .shift) false (c .before .before .before .before .before .before .before .before .before .before .before .read4 .result) {w = c .before .before .before .before .forward .result} (c .before .before .before .before .before .before .before .before .before .before .own-time .result) (c .before .before .before .before .before .before .before .before .before .before .own-time .ensures)
+    let turn = own-epoch-turn (o .args .shift) false (c .before .before .before .before .before .before .before .before .before .before .before .read4 .result) {w = c .before .before .before .before .forward .result}
     (rw (c .before .before .before .before .forward .ensures, c .before .before .before .before .before .rotation-matrix .ensures, c .before .before .before .before .before .before .rotation-at .ensures, c .before .before .before .before .before .before .before .scale-at .ensures, c .before .before .before .before .before .before .before .before .grown .ensures, o .pre .0, o .pre .1, o .pre .2)) in
     (ran-again fits (rw (c .before .before .before .before .before .before .before .before .before .before .before .read4 .ensures) at turn) (c .before .before .write4 .ensures) (l .loop .inv .0), search needs)
 
@@ -82,7 +79,6 @@ own-epoch-position-vector-forward-spec =
     loop-holds
     sub-loop
     read4-requires
-    own-time-requires
     grown-requires
     scale-at-requires
     rotation-at-requires

@@ -95,12 +95,15 @@ enum-known-plan-7 c = search needs
 step-requires : tie.Need-step-requires
 step-requires c κs = search needs
 
+counted-requires : tie.Need-counted-requires
+counted-requires c κs = search needs
+
 carried-on-requires-7 : tie.Need-carried-on-requires-7
 carried-on-requires-7 c κs = search needs
 
 returns-7 : tie.Need-returns-7
 unfolding turnOf
-returns-7 c = rw (c .before .before .before .plan7 .given .1, c .carried-on7 .ensures, c .before .step .ensures)
+returns-7 c = rw (c .before .before .before .before .plan7 .given .1, c .carried-on7 .ensures, c .before .counted .ensures, c .before .before .step .ensures)
 
 pub turn-spec : {M : Type 1} → statement M
 turn-spec =
@@ -134,5 +137,6 @@ turn-spec =
     returns-6
     enum-known-plan-7
     step-requires
+    counted-requires
     carried-on-requires-7
     returns-7)

@@ -3,11 +3,12 @@
 //! tolerance; all NaNs count as equal.
 //!
 //!     second_reader [cases a part, 5000] [seed, 1]
+use compare::suites;
 use reader::{In, chain, draw, kept, random::Random, sheet};
 use std::process::ExitCode;
 
 /// The requests of document 02 that have landed.
-const LANDED: In = In { a9: true, a13: true, ..In::NONE };
+const LANDED: In = In { a3: true, a9: true, a13: true, ..In::NONE };
 
 #[derive(Default)]
 struct Tally {
@@ -33,8 +34,8 @@ fn main() -> ExitCode {
     let (cases, seed) = (args.next().unwrap_or(5000), args.next().unwrap_or(1));
     println!("second reader: {cases} cases a part, seed {seed}");
     let (mut passed, mut failed) = (0, 0);
-    let parts: [(&str, fn(&str, &mut Random, &mut Tally)); 4] =
-        [("sheets", sheets), ("steps", steps), ("lists", lists), ("kept runs", kept_runs)];
+    let parts: [(&str, fn(&str, &mut Random, &mut Tally)); 5] =
+        [("sheets", sheets), ("steps", steps), ("lists", lists), ("kept runs", kept_runs), ("missing times", missing_times)];
     for (i, (name, part)) in parts.into_iter().enumerate() {
         let mut r = Random::new(seed.wrapping_mul(1000) + i as u64);
         let mut tally = Tally::default();
@@ -93,5 +94,44 @@ fn kept_runs(part: &str, r: &mut Random, tally: &mut Tally) {
             told == (expected.refusal, expected.step) && redone == u64::from(expected.redone) && memory.same(&expected.memory);
         tally.count(part, expected.refusal, agree, (&run, index, fix));
         run.memory = expected.memory;
+    }
+}
+
+/// Missing times in own-epoch mode, and on a fixed sheet with the same flag: as a list; and as a kept
+/// run, in which a fix's time goes missing or is given and then is as before. Each of these writes one
+/// fix, and leaves what a fresh run of the corrected list leaves.
+fn missing_times(part: &str, r: &mut Random, tally: &mut Tally) {
+    let (inverse, n) = (r.once_in(2), 1 + r.below(50));
+    let job = suites::missing_times(&mut compare::random::Random::new(r.bits()), inverse, n as usize);
+    let (inverse, sheet) = (job.inverse, job::sheet(&job.steps));
+    let expected = chain::shift(&LANDED, inverse, &sheet, &job.list, &[], &[], None);
+    let told = ours::shift(&job);
+    let agree = (told.refusal, told.step) == (expected.refusal, expected.step)
+        && told.counts == expected.counts
+        && reader::same_numbers(&told.list, &expected.list);
+    tally.count(part, expected.refusal, agree, &job);
+    if expected.refusal != 0 {
+        return;
+    }
+
+    let of = |list: &[f64]| {
+        let empty = vec![0.0; list.len()];
+        let memory = kept::Memory { list: list.to_vec(), results: empty.clone(), track: empty, words: vec![] };
+        kept::keep(&LANDED, inverse, &sheet, &memory).memory
+    };
+    let mut memory = kept::Memory { results: vec![0.0; 4 * n as usize], track: vec![0.0; 4 * n as usize], ..of(&job.list) };
+    let told = ours::keep(inverse, &sheet, &memory.list, &mut memory.results, &mut memory.track);
+    tally.count(part, 0, told == (0, 0) && memory.same(&of(&job.list)), &job);
+    let index = r.below(n);
+    let at = 4 * index as usize;
+    let before: [f64; 4] = memory.list[at..at + 4].try_into().unwrap();
+    let time = if before[3].is_nan() { 2001.0 } else { r.nan() };
+    for fix in [[before[0], before[1], before[2], time], before] {
+        let lent = [&mut memory.list[..], &mut memory.results, &mut memory.track];
+        let (told, redone) = ours::correct(inverse, &sheet, lent, index, fix);
+        let mut list = job.list.clone();
+        list[at..at + 4].copy_from_slice(&fix);
+        let agree = told == (0, 0) && redone == 1 && memory.same(&of(&list));
+        tally.count(part, 0, agree, (&job, index, fix));
     }
 }

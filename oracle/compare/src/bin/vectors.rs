@@ -1,7 +1,11 @@
 //! The files of fixed answers: made of the same-bits oracle's, and the first of them replayed against the library.
 //!
 //!     vectors write FOLDER     vectors check FOLDER
-use compare::{draw, random::Random, suites::SUITES};
+use compare::{
+    draw,
+    random::Random,
+    suites::{self, SUITES},
+};
 use job::{Answer, Body, Helmert, Job, NOT_GIVEN, Step, canonical, vectors};
 use std::path::Path;
 use std::process::ExitCode;
@@ -25,7 +29,7 @@ const ANSWERS: &str = "answers.bin";
 const GEOGRAPHIC: &str = "geographic.bin";
 
 fn write(folder: &Path) -> ExitCode {
-    let jobs = marked_points().into_iter().chain(refused()).chain(drawn());
+    let jobs = marked_points().into_iter().chain(refused()).chain(drawn()).chain(untimed());
     let answered: Vec<(Job, Answer)> = jobs.map(|job| (job.clone(), over_kernels::run(&job).answer)).collect();
     let tuples: usize = answered.iter().map(|(job, _)| job.list.len() / 4).sum();
     std::fs::create_dir_all(folder).unwrap();
@@ -77,6 +81,19 @@ fn drawn() -> Vec<Job> {
                 let n = 1 + r.below(LONGEST) as usize;
                 jobs.push(suite.job(&mut r, inverse, n));
             }
+        }
+    }
+    jobs
+}
+
+/// Missing times (document 02, A3), forward and inverse, in lists longer than a block of sixteen.
+fn untimed() -> Vec<Job> {
+    let mut r = Random::new(SEED);
+    let mut jobs = Vec::new();
+    for inverse in [false, true] {
+        for _ in 0..JOBS {
+            let n = 17 + r.below(LONGEST - 16) as usize;
+            jobs.push(suites::missing_times(&mut r, inverse, n));
         }
     }
     jobs
