@@ -40,7 +40,7 @@
  *             multiplication and each addition apart; whoever compiles it again must not let the
  *             compiler contract the two into one operation.
  *   Stack     sillfeather_check, sillfeather_shift, sillfeather_keep and sillfeather_correct need
- *             up to 5 kB of stack, sillfeather_rescue up to 8 kB, each sillfeather_add_ function up
+ *             up to 5 kB of stack, sillfeather_rescue up to 6 kB, each sillfeather_add_ function up
  *             to 32 kB. examples/c/stack.c holds these limits.
  */
 #ifndef SILLFEATHER_H

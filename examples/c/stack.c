@@ -95,7 +95,7 @@ int main(void) {
                  {"shift", shift, 5120},
                  {"keep", keep, 4096},
                  {"correct", correct, 4096},
-                 {"rescue", rescue, 8192},
+                 {"rescue", rescue, 6144},
                  {"add", add, 32768}};
     int passed = 0, failed = 0;
     void *stack;
