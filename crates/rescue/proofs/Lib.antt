@@ -4,5 +4,6 @@ pub mod Rebuilding
 pub mod Reading
 pub mod Listing
 pub mod Giving
+pub mod Few
 pub mod Whole
 pub mod Laws
