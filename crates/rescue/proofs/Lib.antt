@@ -7,3 +7,4 @@ pub mod Giving
 pub mod Few
 pub mod Whole
 pub mod Laws
+pub mod Examples

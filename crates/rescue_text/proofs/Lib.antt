@@ -1,2 +1,3 @@
--- What the proofs of this crate share.
+-- What the proofs of this crate share, and known lines.
 pub mod Lines
+pub mod Examples
