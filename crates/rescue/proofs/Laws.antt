@@ -3,21 +3,17 @@
 -- that differ; that a whole sheet comes out as it is, and a damaged one as it was. Assumes nothing.
 use mathlib.Core.Path.{_≡_, refl, sym, ap, _∙_}
 use mathlib.Core.Logic.{_↔_}
-use Prim.Native.Nat.{ℕ, zero, suc, _+_, _*_, _<_, _≤_}
-use mathlib.Core.Bool.{Bool, true, false, _||_}
-use mathlib.Core.List.{List, [], _++_}
+use Prim.Native.Nat.{ℕ, zero, suc, _*_, _<_, _≤_}
+use mathlib.Core.Bool.{Bool, true, false}
+use mathlib.Core.List.{List}
 use native.Mathlib.Omega.{arith}
-use native.Mathlib.Nat.{zero-add}
-use borrow.Author.Tests.{le-ltb, ltb-false, ne-eqb}
-use lib.Dec.{ltb}
+use borrow.Author.Tests.{le-ltb, ne-eqb}
 use lib.ListN.{length, take, drop}
-use lib.Seq.{drop-at}
-use Rattle.words.specs.Words.{Bytes, word32, le32, put}
+use Rattle.words.specs.Words.{Bytes, put}
 use Rattle.words.proofs.Laws.{put-none}
-use Rattle.bodies.specs.Kinds.{lengthOf}
 use Rattle.sheet.specs.declared.Refusal.{Refusal}
 use Rattle.sheet.specs.Rules.{accepted, refusalOf}
-use Rattle.sheet.proofs.Order.{reader-never-gives, neither}
+use Rattle.sheet.proofs.Order.{reader-never-gives}
 use Rattle.sheet.proofs.Accepted.{accepted-keeps, keeps-accepted}
 use Rattle.rescue.specs.Rebuilt.{countWord, kindWord, invertedWord, headLength, startOf, headerBytes, entryBytes, directoryBytes, rebuiltOf}
 use Rattle.rescue.specs.Changes.{Change, headWords, changesOf, listOf}

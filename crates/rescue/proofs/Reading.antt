@@ -1,9 +1,9 @@
 -- What the reader finds in a rebuilt sheet: each word of header and directory, so that rules 1 to 4
 -- are kept and only a step's rules or 11 can be broken. Assumes nothing.
-use mathlib.Core.Path.{_≡_, refl, sym, ap, _∙_}
+use mathlib.Core.Path.{_≡_, sym, ap, _∙_}
 use Prim.Native.Nat.{ℕ, zero, suc, _+_, _*_, _-_, _^_, _<_, _≤_}
 use mathlib.Core.List.{List, [], _++_, append-nil, append-assoc}
-use mathlib.Core.Bool.{true, false}
+use mathlib.Core.Bool.{false}
 use native.Mathlib.Omega.{arith}
 use native.Mathlib.Nat.{zero-add, add-zero, add-suc}
 use borrow.Author.Tests.{eq-eqb, ne-eqb, le-ltb}

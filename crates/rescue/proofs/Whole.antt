@@ -1,8 +1,8 @@
 -- A sheet that the reader accepts is rebuilt as it stands. Assumes nothing.
 use mathlib.Core.Path.{_≡_, refl, sym, ap, _∙_}
 use Prim.Native.Nat.{ℕ, zero, suc, _+_, _*_, _<_, _≤_}
-use mathlib.Core.Bool.{true, false}
-use mathlib.Core.List.{List, [], _++_, append-nil}
+use mathlib.Core.Bool.{false}
+use mathlib.Core.List.{List, [], _++_}
 use native.Mathlib.Omega.{arith}
 use native.Mathlib.Nat.{zero-add}
 use borrow.Author.Tests.{eq-eqb, ne-eqb, le-ltb}
@@ -11,7 +11,7 @@ use lib.Seq.{take-add, drop-drop}
 use Rattle.words.specs.Words.{Bytes, word32, le32}
 use Rattle.words.proofs.Laws.{le32-word32}
 use Rattle.bodies.specs.Kinds.{lengthOf}
-use Rattle.sheet.specs.Layout.{offsetAt, lengthAt}
+use Rattle.sheet.specs.Layout.{offsetAt}
 use Rattle.sheet.specs.Rules.{endBefore, someFrom}
 use Rattle.sheet.proofs.Accepted.{Accepted}
 use Rattle.sheet.proofs.Each.{every-kept}

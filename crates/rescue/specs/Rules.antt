@@ -1,6 +1,6 @@
 -- When a rescue is refused, by document 02's numbers, and what it leaves. The order stands in
 -- `rescueOrder`; an answer is the first rule that is broken.
-use Prim.Native.Nat.{ℕ, _+_, _*_}
+use Prim.Native.Nat.{ℕ, _*_}
 use mathlib.Core.Bool.{Bool, not, cond, _||_}
 use mathlib.Core.List.{List, _∷_}
 use lib.Dec.{eqb, ltb}

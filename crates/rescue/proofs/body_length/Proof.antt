@@ -1,8 +1,6 @@
 -- The kind's length, which is at most Helmert's 248. Assumes nothing.
-use native.Mathlib.Omega.{arith}
-use mathlib.Core.Path.{_≡_, _∙_, ap}
+use mathlib.Core.Path.{_∙_, ap}
 use Rattle.bodies.specs.Kinds.{lengthOf}
-use Prim.Native.Nat.{_≤_}
 use Rattle.rescue.proofs.Rebuildable.{length-small}
 use borrow.Author.Needs.{needs}
 use Rattle.rescue.proofs.body_length.Statement.{statement}

@@ -1,8 +1,8 @@
 -- Invariant: `changed` is how many of the first i words differ (`changesIn`). A turn adds the word
 -- at 4 i (`counted-next`). At i = n all are counted. The measure is n - i. Assumes nothing.
 use native.Mathlib.Omega.{arith}
-use mathlib.Core.Path.{_≡_, refl, sym, ap, _∙_}
-use Prim.Native.Nat.{ℕ, _+_, _*_, _-_, _≤_, _<_}
+use mathlib.Core.Path.{_≡_, refl, ap, _∙_}
+use Prim.Native.Nat.{ℕ, _-_, _≤_}
 use lib.ListN.{length}
 use Rattle.rescue.specs.Changes.{changesIn}
 use Rattle.rescue.proofs.Listing.{counted-next}

@@ -1,6 +1,6 @@
 -- By `none-changed` and `one-changed`, from what the calls ensure. Assumes nothing.
 use native.Mathlib.Omega.{arith}
-use mathlib.Core.Path.{_≡_, sym, ap, _∙_}
+use mathlib.Core.Path.{sym, ap, _∙_}
 use lib.ListN.{length}
 use Rattle.rescue.proofs.Listing.{none-changed, one-changed}
 use borrow.Author.Needs.{needs}

@@ -5,16 +5,16 @@
 -- body (`start-next`). With no entry left none is wrong (`some-end`), and the last end is compared
 -- with the length. The measure is n - i. Assumes nothing.
 use native.Mathlib.Omega.{arith}
-use mathlib.Core.Path.{_≡_, refl, sym, ap, _∙_}
-use Prim.Native.Nat.{ℕ, suc, _+_, _*_, _-_, _≤_, _<_}
+use mathlib.Core.Path.{_≡_, sym, _∙_}
+use Prim.Native.Nat.{suc, _+_, _*_, _-_, _≤_}
 use native.Mathlib.Nat.{sub-zero}
-use mathlib.Core.Bool.{true, false, or-true, _||_}
-use borrow.Author.Tests.{eq-eqb, ne-eqb, lt-ltb, le-ltb, ltb-false}
+use mathlib.Core.Bool.{true, false, or-true}
+use borrow.Author.Tests.{lt-ltb, le-ltb, ltb-false}
 use lib.Dec.{eqb, ltb}
 use lib.ListN.{length}
 use Rattle.sheet.specs.Rules.{someFrom}
 use Rattle.sheet.proofs.Order.{neither, some-on, some-off, some-end}
-use Rattle.rescue.specs.Rebuilt.{countWord, headLength, startOf}
+use Rattle.rescue.specs.Rebuilt.{countWord, startOf}
 use Rattle.rescue.specs.Rules.{entryBroken, refusal19}
 use Rattle.rescue.proofs.Rebuildable.{start-next}
 use borrow.Author.Needs.{needs}

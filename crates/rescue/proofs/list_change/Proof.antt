@@ -1,13 +1,11 @@
 -- By `listed-one` and `listed-none`. Assumes nothing.
 use native.Mathlib.Omega.{arith}
-use mathlib.Core.Path.{_≡_, refl, sym, ap, _∙_}
-use mathlib.Core.List.{List, [], _∷_}
-use Prim.Native.Nat.{ℕ, _+_, _≤_}
+use mathlib.Core.Path.{sym, ap, _∙_}
+use Prim.Native.Nat.{_+_, _≤_}
 use native.Mathlib.Nat.{add-zero}
 use lib.ListN.{length, length-set}
 use Rattle.words.specs.Words.{put}
 use Rattle.words.proofs.Laws.{put-none}
-use Rattle.rescue.specs.Changes.{changedOf, listOf}
 use Rattle.rescue.proofs.Listing.{listed-none, listed-one}
 use Rattle.rescue.proofs.Rebuilding.{three-set}
 use borrow.Author.Needs.{needs}

@@ -1,9 +1,9 @@
 -- Rule 19 first (`gives-19`). Where it is kept the sheet has at most 4,240 bytes (`can-be-rebuilt`), so
 -- the rebuilt sheet is the array's first bytes (`put-stands`), and `give` answers. Assumes nothing.
 use native.Mathlib.Omega.{arith}
-use mathlib.Core.Path.{_≡_, refl, sym, ap, _∙_}
+use mathlib.Core.Path.{_≡_, sym, ap, _∙_}
 use mathlib.Core.Bool.{true, false}
-use Prim.Native.Nat.{ℕ, _+_, _*_, _-_, _≤_, _<_}
+use Prim.Native.Nat.{ℕ, _+_, _≤_}
 use mathlib.Core.List.{List}
 use lib.ListN.{length, take, replicate, length-replicate}
 use Rattle.words.proofs.Laws.{length-put}

@@ -3,9 +3,9 @@
 -- `put_rescued` reads there are the rebuilt sheet and the lines of its changes (`lines-are`). Assumes
 -- nothing.
 use native.Mathlib.Omega.{arith}
-use mathlib.Core.Path.{_≡_, refl, sym, ap, _∙_}
+use mathlib.Core.Path.{_≡_, sym, ap, _∙_}
 use mathlib.Core.List.{List}
-use Prim.Native.Nat.{ℕ, _+_, _*_, _≤_}
+use Prim.Native.Nat.{ℕ, _*_}
 use borrow.Author.Tests.{eq-eqb, ne-eqb}
 use lib.ListN.{length, take}
 use lib.Seq.{length-take-le}
@@ -13,7 +13,7 @@ use Rattle.text.specs.Text.{text, appended}
 use Rattle.sheet.specs.declared.Refusal.{Refusal}
 use Rattle.rescue.specs.Rebuilt.{rebuiltOf}
 use Rattle.rescue.specs.Changes.{changesOf, listOf}
-use Rattle.rescue.specs.Rules.{rescueRefusalOf, RescueOutcome, rescueOf}
+use Rattle.rescue.specs.Rules.{rescueRefusalOf, RescueOutcome}
 use Rattle.rescue.proofs.Laws.{sheet-stands, changes-stand, changes-counted}
 use Rattle.rescue_text.specs.RescueText.{changeLines, linesFrom, rescuedAround, rescueText}
 use Rattle.rescue_text.proofs.Lines.{lines-are, room-holds, list-holds, answered}

@@ -1,20 +1,12 @@
 -- Calls are replaced by what they ensure; accepted, the room holds the sheet (`room-holds`). Assumes
 -- nothing.
 use native.Mathlib.Omega.{arith}
-use mathlib.Core.Path.{_≡_, refl, sym, ap, _∙_}
-use mathlib.Core.List.{List}
-use Prim.Native.Nat.{ℕ, _+_, _*_, _≤_}
+use mathlib.Core.Path.{_≡_, sym, ap, _∙_}
 use borrow.Author.Tests.{eq-eqb, ne-eqb}
-use lib.ListN.{length, take}
-use lib.Seq.{length-take-le}
-use Rattle.text.specs.Text.{text, appended}
+use lib.ListN.{length}
 use Rattle.sheet.specs.declared.Refusal.{Refusal}
-use Rattle.rescue.specs.Rebuilt.{rebuiltOf}
-use Rattle.rescue.specs.Changes.{changesOf, listOf}
-use Rattle.rescue.specs.Rules.{rescueRefusalOf, RescueOutcome, rescueOf}
-use Rattle.rescue.proofs.Laws.{sheet-stands, changes-stand, changes-counted}
-use Rattle.rescue_text.specs.RescueText.{changeLines, linesFrom, rescuedAround, rescueText}
-use Rattle.rescue_text.proofs.Lines.{lines-are, room-holds, list-holds, answered}
+use Rattle.rescue.specs.Rules.{rescueRefusalOf, RescueOutcome}
+use Rattle.rescue_text.proofs.Lines.{room-holds, answered}
 use borrow.Author.Needs.{needs}
 use Rattle.rescue_text.proofs.mend.Statement.{statement}
 use Rattle.rescue_text.proofs.mend.Tie as tie

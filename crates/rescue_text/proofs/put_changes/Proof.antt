@@ -4,7 +4,7 @@
 -- The empty piece in front only brings p within the room (`place-within`), and `then` joins it to
 -- the lines. The measure is n - i. Assumes nothing.
 use native.Mathlib.Omega.{arith}
-use mathlib.Core.Path.{_≡_, refl, _∙_}
+use mathlib.Core.Path.{_≡_, _∙_}
 use Prim.Native.Nat.{suc, _+_, _*_, _-_, _≤_}
 use native.Mathlib.Nat.{sub-zero}
 use Rattle.text.specs.Text.{text}

@@ -1,6 +1,5 @@
 -- By `then`, from what the calls ensure. Assumes nothing.
 use Rattle.text.proofs.Laws.{then}
-use Rattle.text.specs.Text.{appended, text}
 use Rattle.rescue_text.specs.RescueText.{rescuedAround}
 use borrow.Author.Needs.{needs}
 use Rattle.rescue_text.proofs.put_rescued.Statement.{statement}

@@ -6,14 +6,13 @@
 //!
 //! The sheets of FOLDER, which are whole, are damaged in each word that is rebuilt and must come out
 //! as they were.
+use compare::LANDED;
 use reader::random::Random;
 use reader::rescue::{Rescued, rescue};
-use reader::{In, draw, word_at};
+use reader::{draw, word_at};
 use std::path::Path;
 use std::process::ExitCode;
 
-/// The requests of document 02 that have landed.
-const LANDED: In = In { a9: true, a13: true, ..In::NONE };
 /// What room and list hold before, and behind what is written.
 const ROOM: u8 = 0xa5;
 const LIST: u32 = 0xa5a5_a5a5;
