@@ -57,9 +57,11 @@ returns c =
     let s = a .s .now in
     let room = a .room .now in
     let list = a .list .now in
-    let count : c .before .before .before .before .wide .result ≡ countWord s = c .before .before .before .before .wide .ensures .0 ∙ c .before .before .before .before .before .read32 .ensures in
-    let all : changesIn s (a .r .now) (4 + 4 * c .before .before .before .before .wide .result) ≡ changesOf s = changes-are s (a .r .now) (4 + 4 * c .before .before .before .before .wide .result) (o .pre .1) (ap (λ (k : ℕ). 4 + 4 * k) count) in
-    let same : c .before .before .before .count-changes .result ≡ length (changesOf s) = c .before .before .before .count-changes .ensures .0 ∙ ap length all in
+    let k = c .before .before .before in
+    let w = k .before in
+    let count : w .wide .result ≡ countWord s = w .wide .ensures .0 ∙ w .before .read32 .ensures in
+    let all : changesIn s (a .r .now) (4 + 4 * w .wide .result) ≡ changesOf s = changes-are s (a .r .now) (4 + 4 * w .wide .result) (o .pre .1) (ap (λ (k : ℕ). 4 + 4 * k) count) in
+    let same : k .count-changes .result ≡ length (changesOf s) = k .count-changes .ensures .0 ∙ ap length all in
     let short : refusal15 s (length room) (length list) ≡ true = ap (λ (k : ℕ). ltb (length room) (length s) || ltb (length list) (3 * k)) (sym same) ∙ c .before .before .if1 .taken in
     rw (c .refused .ensures, c .before .of-call .ensures) (sym (gives-15 s room list (o .pre .0) short))
 
@@ -77,9 +79,11 @@ returns-2 c =
     let s = a .s .now in
     let room = a .room .now in
     let list = a .list .now in
-    let count : c .before .before .before .before .before .before .wide .result ≡ countWord s = c .before .before .before .before .before .before .wide .ensures .0 ∙ c .before .before .before .before .before .before .before .read32 .ensures in
-    let all : changesIn s (a .r .now) (4 + 4 * c .before .before .before .before .before .before .wide .result) ≡ changesOf s = changes-are s (a .r .now) (4 + 4 * c .before .before .before .before .before .before .wide .result) (o .pre .1) (ap (λ (k : ℕ). 4 + 4 * k) count) in
-    let same : c .before .before .before .before .before .count-changes .result ≡ length (changesOf s) = c .before .before .before .before .before .count-changes .ensures .0 ∙ ap length all in
+    let k = c .before .before .before .before .before in
+    let w = k .before in
+    let count : w .wide .result ≡ countWord s = w .wide .ensures .0 ∙ w .before .read32 .ensures in
+    let all : changesIn s (a .r .now) (4 + 4 * w .wide .result) ≡ changesOf s = changes-are s (a .r .now) (4 + 4 * w .wide .result) (o .pre .1) (ap (λ (k : ℕ). 4 + 4 * k) count) in
+    let same : k .count-changes .result ≡ length (changesOf s) = k .count-changes .ensures .0 ∙ ap length all in
     let fits : refusal15 s (length room) (length list) ≡ false = ap (λ (k : ℕ). ltb (length room) (length s) || ltb (length list) (3 * k)) (sym same) ∙ c .before .before .before .before .if1 .left in
     let read : c .before .before .before .check .result ≡ refusalOf (rebuiltOf s) = c .before .before .before .check .ensures ∙ ap refusalOf (o .pre .1) in
     let number : refusalOf (rebuiltOf s) .number ≡ 0 → ⊥ = λ e. c .before .if2 .taken (ap (λ (x : Refusal). x .number) read ∙ e) in
@@ -91,9 +95,10 @@ copy-requires c κs =
     let ok = can-be-rebuilt (o .args .s .now) (o .pre .0) in
     let long : length (o .args .r .now) ≡ length (o .args .s .now) = ap length (o .pre .1) ∙ rebuilt-length (o .args .s .now) (ok .inside) in
     let a = o .args in
+    let k = c .before .before .before .before .before in
     let room : length (a .s .now) ≤ length (a .room .now) =
     ltb-false (length (a .room .now)) (length (a .s .now))
-    (neither (ltb (length (a .room .now)) (length (a .s .now))) (ltb (length (a .list .now)) (3 * c .before .before .before .before .before .count-changes .result)) (c .before .before .before .before .if1 .left) .0) in
+    (neither (ltb (length (a .room .now)) (length (a .s .now))) (ltb (length (a .list .now)) (3 * k .count-changes .result)) (c .before .before .before .before .if1 .left) .0) in
     omega (arith, long, room)
 
 list-changes-requires : tie.Need-list-changes-requires
@@ -102,10 +107,12 @@ list-changes-requires c κs =
     let s = o .args .s .now in
     let ok = can-be-rebuilt s (o .pre .0) in
     let a = o .args in
-    let room : 3 * c .before .before .before .before .before .before .before .before .before .count-changes .result ≤ length (a .list .now) =
-    ltb-false (length (a .list .now)) (3 * c .before .before .before .before .before .before .before .before .before .count-changes .result)
-    (neither (ltb (length (a .room .now)) (length (a .s .now))) (ltb (length (a .list .now)) (3 * c .before .before .before .before .before .before .before .before .before .count-changes .result)) (c .before .before .before .before .before .before .before .before .if1 .left) .1) in
-    (omega (arith, c .before .before .before .before .before .before .before .before .before .before .wide .ensures .0 ∙ c .before .before .before .before .before .before .before .before .before .before .before .read32 .ensures, ok .few-steps), rw list-length (omega (arith, c .before .before .before .before .before .before .before .before .before .count-changes .ensures .0, room)))
+    let k = c .before .before .before .before .before .before .before .before .before in
+    let w = k .before in
+    let room : 3 * k .count-changes .result ≤ length (a .list .now) =
+    ltb-false (length (a .list .now)) (3 * k .count-changes .result)
+    (neither (ltb (length (a .room .now)) (length (a .s .now))) (ltb (length (a .list .now)) (3 * k .count-changes .result)) (c .before .before .before .before .before .before .before .before .if1 .left) .1) in
+    (omega (arith, w .wide .ensures .0 ∙ w .before .read32 .ensures, ok .few-steps), rw list-length (omega (arith, k .count-changes .ensures .0, room)))
 
 same-length : tie.Need-same-length
 same-length c = search needs
@@ -121,9 +128,11 @@ returns-3 c =
     let s = a .s .now in
     let room = a .room .now in
     let list = a .list .now in
-    let count : c .before .before .before .before .before .before .before .before .before .before .before .before .before .wide .result ≡ countWord s = c .before .before .before .before .before .before .before .before .before .before .before .before .before .wide .ensures .0 ∙ c .before .before .before .before .before .before .before .before .before .before .before .before .before .before .read32 .ensures in
-    let all : changesIn s (a .r .now) (4 + 4 * c .before .before .before .before .before .before .before .before .before .before .before .before .before .wide .result) ≡ changesOf s = changes-are s (a .r .now) (4 + 4 * c .before .before .before .before .before .before .before .before .before .before .before .before .before .wide .result) (o .pre .1) (ap (λ (k : ℕ). 4 + 4 * k) count) in
-    let same : c .before .before .before .before .before .before .before .before .before .before .before .before .count-changes .result ≡ length (changesOf s) = c .before .before .before .before .before .before .before .before .before .before .before .before .count-changes .ensures .0 ∙ ap length all in
+    let k = c .before .before .before .before .before .before .before .before .before .before .before .before in
+    let w = k .before in
+    let count : w .wide .result ≡ countWord s = w .wide .ensures .0 ∙ w .before .read32 .ensures in
+    let all : changesIn s (a .r .now) (4 + 4 * w .wide .result) ≡ changesOf s = changes-are s (a .r .now) (4 + 4 * w .wide .result) (o .pre .1) (ap (λ (k : ℕ). 4 + 4 * k) count) in
+    let same : k .count-changes .result ≡ length (changesOf s) = k .count-changes .ensures .0 ∙ ap length all in
     let fits : refusal15 s (length room) (length list) ≡ false = ap (λ (k : ℕ). ltb (length room) (length s) || ltb (length list) (3 * k)) (sym same) ∙ c .before .before .before .before .before .before .before .before .before .before .before .if1 .left in
     let read : c .before .before .before .before .before .before .before .before .before .before .check .result ≡ refusalOf (rebuiltOf s) = c .before .before .before .before .before .before .before .before .before .before .check .ensures ∙ ap refusalOf (o .pre .1) in
     let number : refusalOf (rebuiltOf s) .number ≡ 0 = ap (λ (x : Refusal). x .number) (sym read) ∙ c .before .before .before .before .before .before .before .before .if2 .left in

@@ -69,16 +69,20 @@ returns c =
     let a = o .args in
     let s = a .s .now in
     let ok = can-be-rebuilt s (o .pre .0) in
-    let word = c .before .before .before .before .before .before .before .before .before .before .before .before .before .before .read32 .ensures in
-    let count : c .before .before .before .before .before .before .before .before .before .before .before .before .before .wide .result ≡ countWord s = c .before .before .before .before .before .before .before .before .before .before .before .before .before .wide .ensures .0 ∙ word in
-    let n = c .before .before .before .before .before .before .before .before .before .before .before .before .before .wide .result in
+    let w = c .before .before .before .before .before .before .before .before .before .before .before .before .before in
+    let p = c .before .before .before .before .before .before .before .before .before .before .before in
+    let d = c .before .before .before .before .before .before .before in
+    let b = c .before .before in
+    let word = w .before .read32 .ensures in
+    let count : w .wide .result ≡ countWord s = w .wide .ensures .0 ∙ word in
+    let n = w .wide .result in
     let rest : take (length s - (16 + 16 * n)) (drop (16 + 16 * n) s) ≡ drop (16 + 16 * n) s =
     take-all (length s - (16 + 16 * n)) (drop (16 + 16 * n) s) (simp length-drop (omega arith)) in
-    let put1 : c .before .before .before .before .before .before .before .before .before .before .before .put-words .last .0 ≡ put (a .r .now) 0 (headerBytes s) = rw (← word) (c .before .before .before .before .before .before .before .before .before .before .before .put-words .ensures) in
-    let put2 : c .before .before .before .before .before .before .before .put-directory .last .0 ≡ put (c .before .before .before .before .before .before .before .before .before .before .before .put-words .last .0) 16 (directoryBytes s (countWord s)) =
-    c .before .before .before .before .before .before .before .put-directory .ensures ∙ ap (λ (k : ℕ). put (c .before .before .before .before .before .before .before .before .before .before .before .put-words .last .0) 16 (directoryBytes s k)) count in
-    let put3 : c .before .before .copy .last .0 ≡ put (c .before .before .before .before .before .before .before .put-directory .last .0) (headLength s) (drop (headLength s) s) =
-    c .before .before .copy .ensures ∙ ap (put (c .before .before .before .before .before .before .before .put-directory .last .0) (16 + 16 * n)) rest ∙ ap (λ (k : ℕ). put (c .before .before .before .before .before .before .before .put-directory .last .0) (16 + 16 * k) (drop (16 + 16 * k) s)) count in
+    let put1 : p .put-words .last .0 ≡ put (a .r .now) 0 (headerBytes s) = rw (← word) (p .put-words .ensures) in
+    let put2 : d .put-directory .last .0 ≡ put (p .put-words .last .0) 16 (directoryBytes s (countWord s)) =
+    d .put-directory .ensures ∙ ap (λ (k : ℕ). put (p .put-words .last .0) 16 (directoryBytes s k)) count in
+    let put3 : b .copy .last .0 ≡ put (d .put-directory .last .0) (headLength s) (drop (headLength s) s) =
+    b .copy .ensures ∙ ap (put (d .put-directory .last .0) (16 + 16 * n)) rest ∙ ap (λ (k : ℕ). put (d .put-directory .last .0) (16 + 16 * k) (drop (16 + 16 * k) s)) count in
     put3
     ∙ ap (λ (l : List ℕ). put l (headLength s) (drop (headLength s) s))
     (put2 ∙ ap (λ (l : List ℕ). put l 16 (directoryBytes s (countWord s))) put1)

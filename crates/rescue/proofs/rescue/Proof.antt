@@ -50,7 +50,8 @@ array-share-prefix-rebuilt c =
     let room : List ℕ = replicate 4240 0 in
     let long : length (rebuiltOf (a .s .now)) ≡ length (a .s .now) = rebuilt-length (a .s .now) (ok .inside) in
     let fits : 0 + length (rebuiltOf (a .s .now)) ≤ length room = rw length-replicate (omega (arith, long, ok .at-most-long)) in
-    let wide : length (c .before .rebuild .last .0) ≡ 4240 = ap length (c .before .rebuild .ensures) ∙ length-put room 0 (rebuiltOf (a .s .now)) fits ∙ length-replicate {A = ℕ} 4240 0 in
+    let b = c .before in
+    let wide : length (b .rebuild .last .0) ≡ 4240 = ap length (b .rebuild .ensures) ∙ length-put room 0 (rebuiltOf (a .s .now)) fits ∙ length-replicate {A = ℕ} 4240 0 in
     rw wide (ok .at-most-long)
 
 slice-aggregate-give : tie.Need-slice-aggregate-give
@@ -61,7 +62,8 @@ slice-aggregate-give c =
     let room : List ℕ = replicate 4240 0 in
     let long : length (rebuiltOf (a .s .now)) ≡ length (a .s .now) = rebuilt-length (a .s .now) (ok .inside) in
     let fits : 0 + length (rebuiltOf (a .s .now)) ≤ length room = rw length-replicate (omega (arith, long, ok .at-most-long)) in
-    let wide : length (c .before .before .rebuild .last .0) ≡ 4240 = ap length (c .before .before .rebuild .ensures) ∙ length-put room 0 (rebuiltOf (a .s .now)) fits ∙ length-replicate {A = ℕ} 4240 0 in
+    let b = c .before .before in
+    let wide : length (b .rebuild .last .0) ≡ 4240 = ap length (b .rebuild .ensures) ∙ length-put room 0 (rebuiltOf (a .s .now)) fits ∙ length-replicate {A = ℕ} 4240 0 in
     sym (length-take-le _ _ (rw wide (ok .at-most-long)))
 
 give-requires : tie.Need-give-requires
@@ -72,8 +74,9 @@ give-requires c κs =
     let room : List ℕ = replicate 4240 0 in
     let long : length (rebuiltOf (a .s .now)) ≡ length (a .s .now) = rebuilt-length (a .s .now) (ok .inside) in
     let fits : 0 + length (rebuiltOf (a .s .now)) ≤ length room = rw length-replicate (omega (arith, long, ok .at-most-long)) in
-    let wide : length (c .before .before .before .before .rebuild .last .0) ≡ 4240 = ap length (c .before .before .before .before .rebuild .ensures) ∙ length-put room 0 (rebuiltOf (a .s .now)) fits ∙ length-replicate {A = ℕ} 4240 0 in
-    (kept, ap (take (length (a .s .now))) (c .before .before .before .before .rebuild .ensures) ∙ put-stands room (rebuiltOf (a .s .now)) (length (a .s .now)) long)
+    let b = c .before .before .before .before in
+    let wide : length (b .rebuild .last .0) ≡ 4240 = ap length (b .rebuild .ensures) ∙ length-put room 0 (rebuiltOf (a .s .now)) fits ∙ length-replicate {A = ℕ} 4240 0 in
+    (kept, ap (take (length (a .s .now))) (b .rebuild .ensures) ∙ put-stands room (rebuiltOf (a .s .now)) (length (a .s .now)) long)
 
 same-length : tie.Need-same-length
 same-length c = search needs

@@ -43,8 +43,9 @@ returns c =
     let s = a .s .now in
     let sheet = a .sheet .now in
     let list = a .list .now in
-    let e = c .before .before .before .before .before .before .before .before .before .before .before .rescue .ensures in
-    let refusal : c .before .before .before .before .before .before .before .before .before .before .before .rescue .result .refusal ≡ rescueRefusalOf s (length sheet) (length list) = ap (λ (o : RescueOutcome). o .answer .refusal) e ∙ answered s sheet list in
+    let c1 = c .before .before .before .before .before .before .before .before .before .before .before in
+    let e = c1 .rescue .ensures in
+    let refusal : c1 .rescue .result .refusal ≡ rescueRefusalOf s (length sheet) (length list) = ap (λ (o : RescueOutcome). o .answer .refusal) e ∙ answered s sheet list in
     let number : rescueRefusalOf s (length sheet) (length list) .number ≡ 0 → ⊥ = λ z. c .before .before .before .before .if1 .taken (ap (λ (x : Refusal). x .number) refusal ∙ z) in
     rw (ne-eqb (rescueRefusalOf s (length sheet) (length list) .number) 0 number, ← refusal) (c .before .before .put-refused .ensures)
 
@@ -54,8 +55,9 @@ slice-reshare-prefix-put-rescued c =
     let s = a .s .now in
     let sheet = a .sheet .now in
     let list = a .list .now in
-    let e = c .before .before .before .before .before .before .before .before .before .rescue .ensures in
-    let refusal : c .before .before .before .before .before .before .before .before .before .rescue .result .refusal ≡ rescueRefusalOf s (length sheet) (length list) = ap (λ (o : RescueOutcome). o .answer .refusal) e ∙ answered s sheet list in
+    let c1 = c .before .before .before .before .before .before .before .before .before in
+    let e = c1 .rescue .ensures in
+    let refusal : c1 .rescue .result .refusal ≡ rescueRefusalOf s (length sheet) (length list) = ap (λ (o : RescueOutcome). o .answer .refusal) e ∙ answered s sheet list in
     let number : rescueRefusalOf s (length sheet) (length list) .number ≡ 0 = ap (λ (x : Refusal). x .number) (sym refusal) ∙ c .before .before .if1 .left in
     omega (arith, room-holds s (length sheet) (length list) number)
 
@@ -65,8 +67,9 @@ slice-aggregate-put-rescued c =
     let s = a .s .now in
     let sheet = a .sheet .now in
     let list = a .list .now in
-    let e = c .before .before .before .before .before .before .before .before .before .before .rescue .ensures in
-    let refusal : c .before .before .before .before .before .before .before .before .before .before .rescue .result .refusal ≡ rescueRefusalOf s (length sheet) (length list) = ap (λ (o : RescueOutcome). o .answer .refusal) e ∙ answered s sheet list in
+    let c1 = c .before .before .before .before .before .before .before .before .before .before in
+    let e = c1 .rescue .ensures in
+    let refusal : c1 .rescue .result .refusal ≡ rescueRefusalOf s (length sheet) (length list) = ap (λ (o : RescueOutcome). o .answer .refusal) e ∙ answered s sheet list in
     let number : rescueRefusalOf s (length sheet) (length list) .number ≡ 0 = ap (λ (x : Refusal). x .number) (sym refusal) ∙ c .before .before .before .if1 .left in
     sym (length-take-le _ _ (omega (arith, room-holds s (length sheet) (length list) number)))
 
@@ -76,10 +79,11 @@ put-rescued-requires c κs =
     let s = a .s .now in
     let sheet = a .sheet .now in
     let list = a .list .now in
-    let e = c .before .before .before .before .before .before .before .before .before .before .rescue .ensures in
-    let refusal : c .before .before .before .before .before .before .before .before .before .before .rescue .result .refusal ≡ rescueRefusalOf s (length sheet) (length list) = ap (λ (o : RescueOutcome). o .answer .refusal) e ∙ answered s sheet list in
+    let c1 = c .before .before .before .before .before .before .before .before .before .before in
+    let e = c1 .rescue .ensures in
+    let refusal : c1 .rescue .result .refusal ≡ rescueRefusalOf s (length sheet) (length list) = ap (λ (o : RescueOutcome). o .answer .refusal) e ∙ answered s sheet list in
     let number : rescueRefusalOf s (length sheet) (length list) .number ≡ 0 = ap (λ (x : Refusal). x .number) (sym refusal) ∙ c .before .before .before .if1 .left in
-    let counted : c .before .before .before .before .before .before .before .before .before .before .rescue .result .changed ≡ length (changesOf s) = ap (λ (o : RescueOutcome). o .answer .changed) e ∙ changes-counted s sheet list number in
+    let counted : c1 .rescue .result .changed ≡ length (changesOf s) = ap (λ (o : RescueOutcome). o .answer .changed) e ∙ changes-counted s sheet list number in
     omega (arith, counted, list-holds s (length sheet) (length list) number)
 
 same-length-4 : tie.Need-same-length-4
@@ -98,20 +102,21 @@ returns-2 c =
     let s = a .s .now in
     let sheet = a .sheet .now in
     let list = a .list .now in
-    let e = c .before .before .before .before .before .before .before .before .before .before .before .before .before .rescue .ensures in
-    let refusal : c .before .before .before .before .before .before .before .before .before .before .before .before .before .rescue .result .refusal ≡ rescueRefusalOf s (length sheet) (length list) = ap (λ (o : RescueOutcome). o .answer .refusal) e ∙ answered s sheet list in
+    let c1 = c .before .before .before .before .before .before .before .before .before .before .before .before .before in
+    let e = c1 .rescue .ensures in
+    let refusal : c1 .rescue .result .refusal ≡ rescueRefusalOf s (length sheet) (length list) = ap (λ (o : RescueOutcome). o .answer .refusal) e ∙ answered s sheet list in
     let number : rescueRefusalOf s (length sheet) (length list) .number ≡ 0 = ap (λ (x : Refusal). x .number) (sym refusal) ∙ c .before .before .before .before .before .before .if1 .left in
-    let counted : c .before .before .before .before .before .before .before .before .before .before .before .before .before .rescue .result .changed ≡ length (changesOf s) = ap (λ (o : RescueOutcome). o .answer .changed) e ∙ changes-counted s sheet list number in
-    let stands : take (length s) (c .before .before .before .before .before .before .before .before .before .before .before .before .before .rescue .last .1 .0) ≡ rebuiltOf s = ap (λ (o : RescueOutcome). take (length s) (o .room)) e ∙ sheet-stands s sheet list number in
-    let changes : take (3 * length (changesOf s)) (c .before .before .before .before .before .before .before .before .before .before .before .before .before .rescue .last .1 .1 .0) ≡ listOf (changesOf s) =
+    let counted : c1 .rescue .result .changed ≡ length (changesOf s) = ap (λ (o : RescueOutcome). o .answer .changed) e ∙ changes-counted s sheet list number in
+    let stands : take (length s) (c1 .rescue .last .1 .0) ≡ rebuiltOf s = ap (λ (o : RescueOutcome). take (length s) (o .room)) e ∙ sheet-stands s sheet list number in
+    let changes : take (3 * length (changesOf s)) (c1 .rescue .last .1 .1 .0) ≡ listOf (changesOf s) =
     ap (λ (o : RescueOutcome). take (3 * length (changesOf s)) (o .list)) e ∙ changes-stand s sheet list number in
-    let lines : linesFrom (c .before .before .before .before .before .before .before .before .before .before .before .before .before .rescue .last .1 .1 .0) (c .before .before .before .before .before .before .before .before .before .before .before .before .before .rescue .result .changed) 0 ≡ changeLines (changesOf s) =
-    ap (λ (k : ℕ). linesFrom (c .before .before .before .before .before .before .before .before .before .before .before .before .before .rescue .last .1 .1 .0) k 0) counted ∙ lines-are (c .before .before .before .before .before .before .before .before .before .before .before .before .before .rescue .last .1 .1 .0) (changesOf s) changes in
+    let lines : linesFrom (c1 .rescue .last .1 .1 .0) (c1 .rescue .result .changed) 0 ≡ changeLines (changesOf s) =
+    ap (λ (k : ℕ). linesFrom (c1 .rescue .last .1 .1 .0) k 0) counted ∙ lines-are (c1 .rescue .last .1 .1 .0) (changesOf s) changes in
     rw (eq-eqb (rescueRefusalOf s (length sheet) (length list) .number) 0 number)
     (c .before .before .put-rescued .ensures
     ∙ ap (appended (text (a .room .now) 0))
-    (ap (λ (l : List ℕ). rescuedAround (c .before .before .before .before .before .before .before .before .before .before .before .before .before .rescue .result .changed) l (take (length s) (c .before .before .before .before .before .before .before .before .before .before .before .before .before .rescue .last .1 .0))) lines
-    ∙ ap (λ (k : ℕ). rescuedAround k (changeLines (changesOf s)) (take (length s) (c .before .before .before .before .before .before .before .before .before .before .before .before .before .rescue .last .1 .0))) counted
+    (ap (λ (l : List ℕ). rescuedAround (c1 .rescue .result .changed) l (take (length s) (c1 .rescue .last .1 .0))) lines
+    ∙ ap (λ (k : ℕ). rescuedAround k (changeLines (changesOf s)) (take (length s) (c1 .rescue .last .1 .0))) counted
     ∙ ap (rescuedAround (length (changesOf s)) (changeLines (changesOf s))) stands))
 
 pub answer-spec : {M : Type 1} → statement M

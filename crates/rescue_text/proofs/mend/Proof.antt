@@ -26,8 +26,9 @@ returns c =
     let s = a .s .now in
     let sheet = a .sheet .now in
     let list = a .list .now in
-    let e = c .before .before .before .before .before .before .before .rescue .ensures in
-    let refusal : c .before .before .before .before .before .before .before .rescue .result .refusal ≡ rescueRefusalOf s (length sheet) (length list) = ap (λ (o : RescueOutcome). o .answer .refusal) e ∙ answered s sheet list in
+    let c1 = c .before .before .before .before .before .before .before in
+    let e = c1 .rescue .ensures in
+    let refusal : c1 .rescue .result .refusal ≡ rescueRefusalOf s (length sheet) (length list) = ap (λ (o : RescueOutcome). o .answer .refusal) e ∙ answered s sheet list in
     let number : rescueRefusalOf s (length sheet) (length list) .number ≡ 0 → ⊥ = λ z. c .if1 .taken (ap (λ (x : Refusal). x .number) refusal ∙ z) in
     (rw (ne-eqb (rescueRefusalOf s (length sheet) (length list) .number) 0 number), (omega arith, ap (λ (o : RescueOutcome). o .room) e))
 
@@ -43,8 +44,9 @@ returns-2 c =
     let s = a .s .now in
     let sheet = a .sheet .now in
     let list = a .list .now in
-    let e = c .before .before .before .before .before .before .before .rescue .ensures in
-    let refusal : c .before .before .before .before .before .before .before .rescue .result .refusal ≡ rescueRefusalOf s (length sheet) (length list) = ap (λ (o : RescueOutcome). o .answer .refusal) e ∙ answered s sheet list in
+    let c1 = c .before .before .before .before .before .before .before in
+    let e = c1 .rescue .ensures in
+    let refusal : c1 .rescue .result .refusal ≡ rescueRefusalOf s (length sheet) (length list) = ap (λ (o : RescueOutcome). o .answer .refusal) e ∙ answered s sheet list in
     let number : rescueRefusalOf s (length sheet) (length list) .number ≡ 0 = ap (λ (x : Refusal). x .number) (sym refusal) ∙ c .if1 .left in
     (rw (eq-eqb (rescueRefusalOf s (length sheet) (length list) .number) 0 number), (omega (arith, room-holds s (length sheet) (length list) number), ap (λ (o : RescueOutcome). o .room) e))
 
