@@ -28,7 +28,7 @@ pub struct Rescued {
     pub changed: usize,
 }
 
-// ----- what is taken as it stands -----------------------------------------------------------------
+// ----- what is taken as it stands -------------------------------------------------------------
 
 fn kind_word(s: &[u8], i: usize) -> u32
     requires { ⌜ i < 16 ⌝ }
@@ -52,7 +52,7 @@ fn body_length(s: &[u8], i: usize) -> usize
     words::wide(bodies::length_of(kind_word(s, i)))
 }
 
-// ----- 19 -----------------------------------------------------------------------------------------
+// ----- 19 -------------------------------------------------------------------------------------
 
 // A kind without a length, or an inverted word over 1.
 fn entry_broken(s: &[u8], i: usize) -> bool
@@ -88,7 +88,7 @@ fn is_lost(s: &[u8]) -> bool
     end != s.len()
 }
 
-// ----- the rebuilt sheet --------------------------------------------------------------------------
+// ----- the rebuilt sheet ----------------------------------------------------------------------
 
 // Four words: the header, or an entry of the directory.
 fn put_words(r: &mut [u8], at: usize, a: u32, b: u32, c: u32, d: u32)
@@ -154,7 +154,7 @@ fn rebuild(r: &mut [u8], s: &[u8])
     copy(r, head, &s[head..]);
 }
 
-// ----- the list -----------------------------------------------------------------------------------
+// ----- the list -------------------------------------------------------------------------------
 
 // 1 where a word differs, else 0.
 fn differs(s: &[u8], r: &[u8], place: usize) -> usize
@@ -214,7 +214,7 @@ fn list_changes(list: &mut [u32], s: &[u8], r: &[u8], n: usize)
     }
 }
 
-// ----- the rescue ---------------------------------------------------------------------------------
+// ----- the rescue -----------------------------------------------------------------------------
 
 fn refused(refusal: Refusal) -> Rescued
     ensures { λ r. ⌜ r ≡ rescuedAs refusal 0 ⌝ }

@@ -21,7 +21,7 @@ fn put_number(room: &mut [u8], at: usize, n: u32) -> usize
     text::put_decimal(room, at, words::wide64(n))
 }
 
-// ----- a word by its place ------------------------------------------------------------------------
+// ----- a word by its place --------------------------------------------------------------------
 
 fn put_header_name(room: &mut [u8], at: usize, place: u32) -> usize
     ensures { λ r. ⌜ text (now (room .exit)) r ≡ appended (text (now (room .entry)) at) (headerName place) ⌝ }
@@ -65,7 +65,7 @@ fn put_name(room: &mut [u8], at: usize, place: u32) -> usize
     put_entry_name(room, r, place % 16)
 }
 
-// ----- the changes --------------------------------------------------------------------------------
+// ----- the changes ----------------------------------------------------------------------------
 
 fn put_change(room: &mut [u8], at: usize, place: u32, old: u32, new: u32) -> usize
     ensures { λ r. ⌜ text (now (room .exit)) r ≡ appended (text (now (room .entry)) at) (changeLine (changeOf place old new)) ⌝ }
@@ -105,7 +105,7 @@ fn put_rescued(room: &mut [u8], at: usize, list: &[u32], n: usize, sheet: &[u8])
     show::put_sheet(room, u, sheet)
 }
 
-// ----- a refusal ----------------------------------------------------------------------------------
+// ----- a refusal ------------------------------------------------------------------------------
 
 fn put_words(room: &mut [u8], at: usize, number: u32) -> usize
     ensures { λ r. ⌜ text (now (room .exit)) r ≡ appended (text (now (room .entry)) at) (refusalWords number) ⌝ }
@@ -134,7 +134,7 @@ fn put_refused(room: &mut [u8], at: usize, number: u32, step: u32) -> usize
     put_words(room, u, number)
 }
 
-// ----- a rescue -----------------------------------------------------------------------------------
+// ----- a rescue -------------------------------------------------------------------------------
 
 // Rescues the damaged sheet s by the rescue's room and list, and writes its text at `room`'s start.
 pub fn answer(s: &[u8], sheet: &mut [u8], list: &mut [u32], room: &mut [u8]) -> usize
