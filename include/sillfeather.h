@@ -18,7 +18,7 @@
  * A RESULT of type uint32_t is 0 where the call is done. Otherwise the call is refused: the result
  * is the refusal's number plus 65536 times the step, which is counted from 1 and is 0 where no step
  * is to blame. A refused call leaves all the memory lent to it as it was, but that `counts` gets
- * zeros and `*redone` 0. A refusal is given exactly when its rule is broken and no rule before it
+ * zeros, and `*redone` and `*changed` 0. A refusal is given exactly when its rule is broken and no rule before it
  * in the function's order is.
  *
  * WHAT IS PROVED. For each function, and for every input, that the result and the memory afterwards
@@ -40,8 +40,8 @@
  *             multiplication and each addition apart; whoever compiles it again must not let the
  *             compiler contract the two into one operation.
  *   Stack     sillfeather_check, sillfeather_shift, sillfeather_keep and sillfeather_correct need
- *             up to 5 kB of stack, each sillfeather_add_ function up to 32 kB. examples/c/stack.c
- *             holds these limits.
+ *             up to 5 kB of stack, sillfeather_rescue up to 6 kB, each sillfeather_add_ function up
+ *             to 32 kB. examples/c/stack.c holds these limits.
  */
 #ifndef SILLFEATHER_H
 #define SILLFEATHER_H
@@ -87,7 +87,9 @@ enum {
     SILLFEATHER_REFUSED_KEPT_LENGTH = 13, /* kept run: results or track not as long as the list */
     SILLFEATHER_REFUSED_INDEX = 14,       /* the corrected fix's index is not below the number of
                                              tuples */
-    SILLFEATHER_REFUSED_ROOM = 15         /* the room is too short for the sheet */
+    SILLFEATHER_REFUSED_ROOM = 15,        /* the room is too short for the sheet, or a rescue's list
+                                             for its changes */
+    SILLFEATHER_REFUSED_RESCUE = 19       /* the damaged sheet cannot be rebuilt */
 };
 
 /* ----- a sheet over a list ------------------------------------------------------------------- */
@@ -263,6 +265,30 @@ enum {
 /* dt in years where it is given; else the time from t_epoch to each tuple's. */
 uint32_t sillfeather_add_deformation(uint8_t *room, size_t room_len, uint64_t *sheet_len, uint32_t inverted, uint32_t flags, uint32_t ellipsoid,
                                      double dt, double t_epoch);
+
+/* ----- a damaged sheet ------------------------------------------------------------------------ */
+
+/* Rebuilds a sheet of form 1 whose header or directory was damaged, as by a laptop that cut and
+ * rejoined it. The step count, the kinds, the inverted words and the bodies are taken as they
+ * stand; form, total length, directory offset, body offsets and body lengths follow from them and
+ * are written anew. A sheet that is whole comes out as it is.
+ *   Reads     the damaged sheet.
+ *   Writes    the rebuilt sheet, as long as the damaged one, at the room's start; three words for
+ *             each word of header or directory that was changed at the changes' start: its place in
+ *             bytes from the sheet's start, the old number and the new one, in ascending place;
+ *             *changed, how many such triples those are. `changes_len` counts uint32_t. A room of
+ *             SILLFEATHER_SHEET_MAX bytes and SILLFEATHER_CHANGES_MAX words are never too short.
+ *   Refuses   19, where it cannot be rebuilt: fewer than 16 bytes; a step count of 0 or over 16; a
+ *             directory past the end; a kind outside 1 to 5 or an inverted word over 1; or bodies
+ *             that do not fill the remaining bytes exactly. Then 15, the room shorter than the sheet
+ *             or the changes than three words a change. Then as sillfeather_check of the rebuilt
+ *             sheet, of which only 5 to 8 and 11 are left, each with its step.
+ *   Leaves    the damaged sheet, and what lies behind the sheet in the room and behind the triples;
+ *             on refusal room and changes as they were, and 0 in *changed. */
+#define SILLFEATHER_CHANGES_MAX 105 /* 3 words of the header and 2 a step, three numbers each */
+
+uint32_t sillfeather_rescue(const uint8_t *damaged, size_t damaged_len, uint8_t *room, size_t room_len, uint32_t *changes, size_t changes_len,
+                            uint64_t *changed);
 
 /* ----- the kernels --------------------------------------------------------------------------- */
 

@@ -692,6 +692,102 @@ static void kernels(void) {
     holds("hypot of an infinity and a NaN is infinite", sillfeather_hypot(SILLFEATHER_NOT_GIVEN, -1.0 / ZERO) == 1.0 / ZERO);
 }
 
+/* ----- rescues --------------------------------------------------------------------------------------------------------------------------------------------------- */
+
+enum { LISTED = SILLFEATHER_CHANGES_MAX + 8 };
+
+struct rescue {
+    struct room room;
+    uint32_t list[LISTED];
+    uint64_t changed;
+};
+
+static void lend(struct rescue *r) {
+    fresh(&r->room);
+    for (int i = 0; i < LISTED; i++) r->list[i] = 0xa5a5a5a5u;
+    r->changed = 99;
+}
+
+/* nothing was touched but *changed, which is 0 */
+static int left_alone(const struct rescue *r) {
+    struct rescue was;
+    lend(&was);
+    return r->changed == 0 && same_room(&r->room, &was.room) && memcmp(r->list, was.list, sizeof was.list) == 0;
+}
+
+/* the room holds the sheet, the list these triples and nothing else */
+static int mended(struct rescue *r, const struct bytes *sheet, const uint32_t *triples, size_t n) {
+    r->room.len = sheet->len;
+    if (!room_is(&r->room, sheet) || r->changed != n || (n != 0 && memcmp(r->list, triples, 12 * n) != 0)) return 0;
+    for (size_t i = 3 * n; i < LISTED; i++)
+        if (r->list[i] != 0xa5a5a5a5u) return 0;
+    return 1;
+}
+
+static void damage(struct bytes *b, size_t at, uint32_t w) {
+    for (int i = 0; i < 4; i++) b->at[at + i] = (uint8_t)(w >> (8 * i));
+}
+
+/* two carts: header, two entries, bodies at 48 and 56 */
+static void two_carts(struct bytes *b) {
+    header(b, 64, 2);
+    place(b, 2, 0, 48, 8);
+    place(b, 2, 1, 56, 8);
+    for (uint32_t ellipsoid = 1; ellipsoid < 3; ellipsoid++) {
+        word(b, ellipsoid);
+        word(b, 0);
+    }
+}
+
+static void rescues(void) {
+    static struct bytes whole, damaged;
+    static struct rescue r;
+    static const uint32_t all[21] = {0, 2, 1, 4, 65, 64, 12, 0, 16, 24, 0xffffffff, 48, 28, 9, 8, 40, 48, 56, 44, 0, 8};
+    two_carts(&whole);
+    lend(&r);
+    result_is("a whole sheet is rescued with no list", sillfeather_rescue(whole.at, whole.len, r.room.at, whole.len, NULL, 0, &r.changed), 0, 0);
+    holds("and comes out as it is", mended(&r, &whole, NULL, 0));
+
+    damaged = whole;
+    for (int i = 0; i < 7; i++) damage(&damaged, all[3 * i], all[3 * i + 1]);
+    lend(&r);
+    result_is("every word that is rebuilt damaged", sillfeather_rescue(damaged.at, damaged.len, r.room.at, damaged.len, r.list, 21, &r.changed), 0, 0);
+    holds("mended, each change listed in ascending place, nothing behind touched", mended(&r, &whole, all, 7));
+    holds("and the reader accepts it", sillfeather_check(r.room.at, damaged.len) == 0);
+
+    lend(&r);
+    result_is("room one short", sillfeather_rescue(damaged.at, damaged.len, r.room.at, damaged.len - 1, r.list, 21, &r.changed), 15, 0);
+    holds("leaves room and list", left_alone(&r));
+    lend(&r);
+    result_is("list one short", sillfeather_rescue(damaged.at, damaged.len, r.room.at, damaged.len, r.list, 20, &r.changed), 15, 0);
+    holds("leaves room and list", left_alone(&r));
+    lend(&r);
+    result_is("19 before 15", sillfeather_rescue(damaged.at, damaged.len - 1, r.room.at, 0, r.list, 0, &r.changed), 19, 0);
+    holds("leaves room and list", left_alone(&r));
+
+    damage(&damaged, 48, 6);
+    lend(&r);
+    result_is("15 before the reader's", sillfeather_rescue(damaged.at, damaged.len, r.room.at, 0, r.list, LISTED, &r.changed), 15, 0);
+    result_is("a body out of rule", sillfeather_rescue(damaged.at, damaged.len, r.room.at, sizeof r.room.at, r.list, LISTED, &r.changed), 5, 1);
+    holds("leaves room and list", left_alone(&r));
+
+    static const struct {
+        const char *what;
+        size_t at;
+        uint32_t word;
+    } lost[] = {{"no step", 8, 0}, {"one step too few", 8, 1}, {"17 steps", 8, 17},        {"no such kind", 16, 6},
+                {"kind 0", 32, 0}, {"another length", 16, 4},  {"inverted word of 2", 36, 2}};
+    for (size_t i = 0; i < sizeof lost / sizeof *lost; i++) {
+        damaged = whole;
+        damage(&damaged, lost[i].at, lost[i].word);
+        lend(&r);
+        result_is(lost[i].what, sillfeather_rescue(damaged.at, damaged.len, r.room.at, sizeof r.room.at, r.list, LISTED, &r.changed), 19, 0);
+        holds("cannot be rebuilt, and leaves room and list", left_alone(&r));
+    }
+    lend(&r);
+    result_is("no bytes at all", sillfeather_rescue(NULL, 0, r.room.at, sizeof r.room.at, r.list, LISTED, &r.changed), 19, 0);
+}
+
 int main(void) {
     holds("30 numbers in a Helmert record", sizeof(struct sillfeather_helmert) == 30 * sizeof(double));
     each_kind_by_hand();
@@ -706,6 +802,7 @@ int main(void) {
     blank_helmert();
     missing_times();
     refused_kept_runs();
+    rescues();
     kernels();
     printf("%d passed, %d failed\n", passed, failed);
     return failed != 0;

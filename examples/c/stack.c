@@ -57,6 +57,13 @@ static uint32_t add(void) {
     return sillfeather_add_helmert(all_kinds, SILLFEATHER_SHEET_MAX, &all_kinds_len, 0, 0, SILLFEATHER_POSITION_VECTOR, SILLFEATHER_NUMBERS(&helmert));
 }
 
+static uint32_t rescue(void) {
+    static uint8_t room[SILLFEATHER_SHEET_MAX];
+    static uint32_t changes[SILLFEATHER_CHANGES_MAX];
+    uint64_t changed;
+    return sillfeather_rescue(all_kinds, (size_t)all_kinds_len, room, sizeof room, changes, SILLFEATHER_CHANGES_MAX, &changed);
+}
+
 static uint32_t (*call)(void);
 static uint32_t told;
 
@@ -88,6 +95,7 @@ int main(void) {
                  {"shift", shift, 5120},
                  {"keep", keep, 4096},
                  {"correct", correct, 4096},
+                 {"rescue", rescue, 6144},
                  {"add", add, 32768}};
     int passed = 0, failed = 0;
     void *stack;

@@ -92,6 +92,15 @@ unsafe extern "C" {
         dt: f64,
         t_epoch: f64,
     ) -> u32;
+    fn sillfeather_rescue(
+        damaged: *const u8,
+        damaged_len: usize,
+        room: *mut u8,
+        room_len: usize,
+        changes: *mut u32,
+        changes_len: usize,
+        changed: *mut u64,
+    ) -> u32;
 }
 
 pub fn sin_cos(x: f64) -> (f64, f64) {
@@ -213,4 +222,22 @@ pub fn add_deformation(
 ) -> u32 {
     // SAFETY: a slice with its length, and a length, both borrowed mutably.
     unsafe { sillfeather_add_deformation(room.as_mut_ptr(), room.len(), sheet_len, inverted, flags, ellipsoid, dt, t_epoch) }
+}
+
+/// The answer, and the number of words changed.
+pub fn rescue(damaged: &[u8], room: &mut [u8], changes: &mut [u32]) -> (u32, u64) {
+    let mut changed = 0;
+    // SAFETY: slices with their lengths; room, changes and the number changed are written, each borrowed mutably or our own.
+    let told = unsafe {
+        sillfeather_rescue(
+            damaged.as_ptr(),
+            damaged.len(),
+            room.as_mut_ptr(),
+            room.len(),
+            changes.as_mut_ptr(),
+            changes.len(),
+            &mut changed,
+        )
+    };
+    (told, changed)
 }

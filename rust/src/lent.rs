@@ -49,3 +49,14 @@ pub fn correct(
     Refusal::told(told)?;
     Ok(redone)
 }
+
+/// Rebuilds a damaged sheet of form 1 at the room's start, and lists each word of header or directory that it changed at the start of `changes`, three numbers
+/// each: the place in bytes, the old number, the new one, in ascending place. Answers how many words that are.
+///
+/// Refused: 19 where it cannot be rebuilt; 15 where the room is shorter than the sheet, or `changes` than three numbers a change; then 5 to 8 and 11 of the
+/// rebuilt sheet.
+pub fn rescue(damaged: &[u8], room: &mut [u8], changes: &mut [u32]) -> Result<u64, Refusal> {
+    let (told, changed) = ffi::rescue(damaged, room, changes);
+    Refusal::told(told)?;
+    Ok(changed)
+}

@@ -2,7 +2,7 @@
 //!
 //! A *sheet* holds 1 to 16 steps (Helmert, cart, Molodensky, permanent tide, deformation), as the bytes that boxes hand each other. It is made by a
 //! [`Sheet::builder`] or checked by [`Sheet::from_bytes`], and shifts a list of fixes in place, forward or inverse. A [`KeptRun`] keeps a list with its
-//! results, and redoes only what the correction of one fix changes.
+//! results, and redoes only what the correction of one fix changes. [`Sheet::rescue`] mends a sheet whose header or directory was damaged.
 //!
 //! ```
 //! use sillfeather::{Cart, Convention, Direction, Ellipsoid, Helmert, Sheet};
@@ -68,7 +68,7 @@ mod steps;
 
 pub use kept::KeptRun;
 pub use refusal::Refusal;
-pub use sheet::{Counts, Sheet, SheetBuilder};
+pub use sheet::{Change, Counts, Sheet, SheetBuilder};
 pub use steps::{Cart, Convention, Deformation, Ellipsoid, Helmert, Molodensky, Permtide, Step, TideSystem};
 
 /// Which way a sheet runs.

@@ -1,10 +1,14 @@
 use alloc::vec::Vec;
+use core::fmt;
 
 use crate::steps::{Step, or_not_given};
 use crate::{Direction, Refusal, ffi, lent};
 
 /// The longest sheet: header, sixteen entries of the directory, sixteen Helmert bodies.
 const LONGEST: usize = 4240;
+
+/// The most words that a rescue changes: form, total length and directory offset, and offset and length of sixteen bodies.
+const MOST_CHANGES: usize = 35;
 
 /// A sheet that the library's reader accepts: the bytes by which two boxes hand each other their parameters.
 #[derive(Clone, Debug, PartialEq, Eq, Hash)]
@@ -22,6 +26,33 @@ impl Sheet {
     pub fn from_bytes(bytes: &[u8]) -> Result<Sheet, Refusal> {
         lent::check(bytes)?;
         Ok(Sheet { bytes: bytes.to_vec() })
+    }
+
+    /// The sheet that damaged bytes were, and each word of header or directory that was mended, in ascending place.
+    ///
+    /// The step count, the kinds, the inverted words and the bodies are taken as they stand; form, total length, directory offset, body offsets and body
+    /// lengths follow from them. Refused: 19 where they do not fit the number of bytes; then, of the mended sheet, 5 to 8 and 11.
+    ///
+    /// ```
+    /// use sillfeather::{Cart, Change, Ellipsoid, Helmert, Refusal, Sheet};
+    ///
+    /// let sheet = Sheet::builder().step(Helmert::BLANK).step(Cart { ellipsoid: Ellipsoid::Grs80 }).build()?;
+    /// let mut damaged = sheet.as_bytes().to_vec();
+    /// damaged[40..44].copy_from_slice(&311_u32.to_le_bytes());
+    /// assert_eq!(Sheet::from_bytes(&damaged), Err(Refusal::Directory));
+    ///
+    /// let (mended, changes) = Sheet::rescue(&damaged)?;
+    /// assert_eq!(mended, sheet);
+    /// assert_eq!(changes, [Change { place: 40, old: 311, new: 296 }]);
+    /// assert_eq!(changes[0].to_string(), "step 2, body offset: 311 is 296");
+    /// # Ok::<(), sillfeather::Refusal>(())
+    /// ```
+    pub fn rescue(damaged: &[u8]) -> Result<(Sheet, Vec<Change>), Refusal> {
+        let (mut room, mut changes) = ([0; LONGEST], [0; 3 * MOST_CHANGES]);
+        let changed = lent::rescue(damaged, &mut room, &mut changes)?;
+        let listed = changes[..3 * changed as usize].chunks_exact(3);
+        let changes = listed.map(|c| Change { place: c[0], old: c[1], new: c[2] }).collect();
+        Ok((Sheet { bytes: room[..damaged.len()].to_vec() }, changes))
     }
 
     /// The sheet's bytes, 40 to 4,240.
@@ -92,6 +123,34 @@ impl TryFrom<&[u8]> for Sheet {
 
     fn try_from(bytes: &[u8]) -> Result<Sheet, Refusal> {
         Sheet::from_bytes(bytes)
+    }
+}
+
+/// A word of header or directory that [`Sheet::rescue`] changed.
+#[derive(Clone, Copy, Debug, PartialEq, Eq, Hash)]
+pub struct Change {
+    /// The word's place, in bytes from the sheet's start.
+    pub place: u32,
+    /// The number that stood there.
+    pub old: u32,
+    /// The number that stands there now.
+    pub new: u32,
+}
+
+/// By the word's name: `step 2, body offset: 311 is 296`.
+impl fmt::Display for Change {
+    fn fmt(&self, f: &mut fmt::Formatter<'_>) -> fmt::Result {
+        match (self.place / 16, self.place % 16) {
+            (0, 0) => f.write_str("form")?,
+            (0, 4) => f.write_str("total length")?,
+            (0, 8) => f.write_str("step count")?,
+            (0, _) => f.write_str("directory offset")?,
+            (step, 0) => write!(f, "step {step}, kind")?,
+            (step, 4) => write!(f, "step {step}, inverted")?,
+            (step, 8) => write!(f, "step {step}, body offset")?,
+            (step, _) => write!(f, "step {step}, body length")?,
+        }
+        write!(f, ": {} is {}", self.old, self.new)
     }
 }
 

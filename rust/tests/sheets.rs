@@ -188,3 +188,46 @@ fn the_reader_answers_each_number() {
     other_nan[272..280].copy_from_slice(&0x7ff8_0000_0000_0001_u64.to_le_bytes());
     assert_eq!(Sheet::from_bytes(&other_nan), Err(Refusal::Field { step: 1 }));
 }
+
+/// Each word that a rescue rebuilds, damaged alone and with the others; what cannot be rebuilt; and lent room and list one short.
+#[test]
+fn rescued() {
+    let sheet = Sheet::builder().step(numbered()).inverted(Cart { ellipsoid: Ellipsoid::Wgs84 }).build().unwrap();
+    let whole = sheet.as_bytes();
+    assert_eq!(Sheet::rescue(whole), Ok((sheet.clone(), vec![])));
+    let words = [(0, 1), (4, 304), (12, 16), (24, 48), (28, 248), (40, 296), (44, 8)];
+    let mut all = whole.to_vec();
+    let mut changes = vec![];
+    for (place, new) in words {
+        let change = Change { place, old: u32::MAX, new };
+        let at = place as usize;
+        let mut damaged = whole.to_vec();
+        damaged[at..at + 4].copy_from_slice(&[255; 4]);
+        all[at..at + 4].copy_from_slice(&[255; 4]);
+        assert_eq!(Sheet::rescue(&damaged), Ok((sheet.clone(), vec![change])));
+        changes.push(change);
+    }
+    assert_eq!(Sheet::rescue(&all), Ok((sheet.clone(), changes)));
+    assert_eq!(Sheet::rescue(&all[..all.len() - 1]), Err(Refusal::Rescue));
+    assert_eq!(Sheet::rescue(&[]), Err(Refusal::Rescue));
+
+    let (mut room, mut list) = ([0; 304], [0; 21]);
+    assert_eq!(lent::rescue(&all, &mut room[..303], &mut list), Err(Refusal::Room));
+    assert_eq!(lent::rescue(&all, &mut room, &mut list[..20]), Err(Refusal::Room));
+    assert_eq!((room, list), ([0; 304], [0; 21]));
+    assert_eq!(lent::rescue(&all, &mut room, &mut list), Ok(7));
+    assert_eq!((&room[..], &list[..3]), (whole, &[0, u32::MAX, 1][..]));
+
+    all[48..52].copy_from_slice(&[16, 0, 0, 0]);
+    assert_eq!(Sheet::rescue(&all), Err(Refusal::Field { step: 1 }));
+}
+
+#[test]
+fn changes_by_name() {
+    let told = |place| Change { place, old: 311, new: 288 }.to_string();
+    assert_eq!(told(0), "form: 311 is 288");
+    assert_eq!(told(4), "total length: 311 is 288");
+    assert_eq!(told(12), "directory offset: 311 is 288");
+    assert_eq!(told(24), "step 1, body offset: 311 is 288");
+    assert_eq!(told(268), "step 16, body length: 311 is 288");
+}

@@ -5,7 +5,7 @@
 // refused sheet's text has the rule in document 01's words. For a refusal of the sheet as a whole
 // it has the byte of the word that the refusal is about, and the header, as far as the sheet has
 // it. For a step's refusal it has the bytes of the directory entry and of the body, and the whole
-// step as it is. Used by the program sheet_show.
+// step as it is. Used by the program sheet_show, and its words of a rule by rescue_text.
 ghost use mathlib.Core.Path.{_≡_};
 ghost use Prim.Native.Nat.{_+_, _-_, _<_, _≤_};
 ghost use lib.ListN.{length};
@@ -110,7 +110,7 @@ fn put_accepted(room: &mut [u8], at: usize, s: &[u8]) -> usize
 
 // ----- a refusal --------------------------------------------------------------------------
 
-fn put_rule(room: &mut [u8], at: usize, number: u32) -> usize
+pub fn put_rule(room: &mut [u8], at: usize, number: u32) -> usize
     ensures { λ r. ⌜ text (now (room .exit)) r ≡ appended (text (now (room .entry)) at) (ruleText number) ⌝ }
 {
     if number == 1 {

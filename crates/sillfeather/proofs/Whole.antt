@@ -22,6 +22,8 @@ use Rattle.chain.specs.Rules.{shiftRefusalOf, outcomeOf, shiftOf}
 use Rattle.stretch.specs.Kept.{Kept}
 use Rattle.kept.specs.Entries.{keepRefusalOf, correctRefusalOf, correctOf}
 use Rattle.making.specs.Adding.{readingAs, standingOf, withStepOf, writtenAs, addedOf}
+use Rattle.rescue.specs.Rebuilt.{rebuiltOf}
+use Rattle.rescue.specs.Rules.{refusal19, refusal15, rescueOrder, rescueRefusalOf, rescueOf}
 use Rattle.sillfeather.specs.Told.{Told}
 
 -- a refusal whose parts have each their half of the word
@@ -156,3 +158,16 @@ add-refusal room len inverted step false e = rw e (whole-standing room len (eqb 
 
 pub add-tells : (room : List ℕ) (len inverted : ℕ) (step : Step) → Told (addedOf room len inverted step .answer .refusal)
 add-tells room len inverted step = told _ (add-refusal room len inverted step _ refl)
+
+whole-rescue : (s : List ℕ) (room list : ℕ) → Whole (rescueRefusalOf s room list)
+unfolding rescueRefusalOf rescueOrder firstBroken refusalOf
+whole-rescue s room list =
+    either (refusal19 s) _ _ (of-sheet 19 (omega arith)) (either (refusal15 s room list) _ _ (of-sheet 15 (omega arith)) (whole-reader (rebuiltOf s)))
+
+rescue-refusal : (s room list : List ℕ) (done : Bool) → eqb (rescueRefusalOf s (length room) (length list) .number) 0 ≡ done → Whole (rescueOf s room list .answer .refusal)
+unfolding rescueOf
+rescue-refusal s room list true e = rw e (whole-rescue s (length room) (length list))
+rescue-refusal s room list false e = rw e (whole-rescue s (length room) (length list))
+
+pub rescue-tells : (s room list : List ℕ) → Told (rescueOf s room list .answer .refusal)
+rescue-tells s room list = told _ (rescue-refusal s room list _ refl)

@@ -11,6 +11,7 @@ use Rattle.chain.specs.Rules.{Outcome}
 use Rattle.stretch.specs.Kept.{Kept}
 use Rattle.kept.specs.Entries.{CorrectOutcome}
 use Rattle.making.specs.Adding.{AddOutcome}
+use Rattle.rescue.specs.Rules.{RescueOutcome}
 
 -- 0 is done; otherwise the refusal's number plus 65536 times the step
 abbrev pub codeOf : Refusal → ℕ
@@ -59,3 +60,16 @@ made code length room = record { code = code; length = length; room = room }
 
 abbrev pub madeOf : AddOutcome → Made
 madeOf o = made (codeOf (o .answer .refusal)) (o .answer .length) (o .room)
+
+-- what a rescue leaves: the code, how many words were changed, the room and the changes
+pub record Mended : Type 0 where
+  pub code : ℕ
+  pub changed : ℕ
+  pub room : List ℕ
+  pub changes : List ℕ
+
+abbrev pub mended : ℕ → ℕ → List ℕ → List ℕ → Mended
+mended code changed room changes = record { code = code; changed = changed; room = room; changes = changes }
+
+abbrev pub mendedOf : RescueOutcome → Mended
+mendedOf o = mended (codeOf (o .answer .refusal)) (o .answer .changed) (o .room) (o .list)

@@ -1,8 +1,8 @@
 // The library as C and Rust link it: each exported function only hands over to a proved entry, and
 // keeps its contract.
 //
-// A sheet is checked, run over a list, run and kept to be corrected later, or made step by step in
-// lent room. A result of 0 is done; otherwise it is the refusal's number plus 65536 times the step,
+// A sheet is checked, run over a list, run and kept to be corrected later, made step by step in lent
+// room, or rebuilt from a damaged one. A result of 0 is done; otherwise it is the refusal's number plus 65536 times the step,
 // and nothing was written but zeros where counts are asked for. include/sillfeather.h says of each
 // function what it reads, writes, refuses and leaves alone.
 // The kernels, on any binary64 numbers: nothing is refused, and what each gives for a NaN, an
@@ -14,7 +14,8 @@ ghost use Prim.Native.Nat.{_≤_};
 ghost use Rattle.stretch.specs.Kept.{keptOf};
 ghost use Rattle.kept.specs.Entries.{keepRefusalOf, keepOf, correctOf};
 ghost use Rattle.making.specs.Adding.{addedOf};
-ghost use Rattle.sillfeather.specs.Codes.{codeOf, isInverse, handed, handedOf, Small, corrected, correctedOf, made, madeOf};
+ghost use Rattle.rescue.specs.Rules.{rescueOf};
+ghost use Rattle.sillfeather.specs.Codes.{codeOf, isInverse, handed, handedOf, Small, corrected, correctedOf, made, madeOf, mended, mendedOf};
 ghost use Rattle.arrays.specs.Arrays.{tupleOf, helmertOf, molodenskyOf};
 ghost use Rattle.sillfeather.specs.Records.{cartWith, permtideWith, deformationWith};
 ghost use Rattle.root.specs.Sqrt.{sqrtOf};
@@ -291,4 +292,24 @@ pub extern "C" fn sillfeather_add_deformation(
             epoch: epoch,
         }),
     )
+}
+
+// ----- a damaged sheet ------------------------------------------------------------------------
+
+// Rebuilds a damaged sheet at the room's start, and lists each word changed: place, old, new.
+// `changed` gets how many words were, 0 on refusal.
+#[no_mangle]
+pub extern "C" fn sillfeather_rescue(
+    damaged: &[u8],
+    room: &mut [u8],
+    changes: &mut [u32],
+    changed: &mut u64,
+) -> u32
+    ensures { λ r. ⌜ mended r (now (changed .exit)) (now (room .exit)) (now (changes .exit))
+        ≡ mendedOf (rescueOf (now (damaged .entry)) (now (room .entry)) (now (changes .entry))) ⌝ }
+{
+    let answer = rescue::rescue(damaged, room, changes);
+    let refusal = answer.refusal;
+    *changed = words::long(answer.changed);
+    code(refusal)
 }

@@ -3,3 +3,6 @@ pub mod draw;
 pub mod random;
 pub mod suites;
 pub mod tell;
+
+/// The requests of document 02 that have landed.
+pub const LANDED: reader::In = reader::In { a3: true, a9: true, a13: true, ..reader::In::NONE };

@@ -46,6 +46,15 @@ unsafe extern "C" {
         fix: *const f64,
         redone: *mut u64,
     ) -> u32;
+    fn sillfeather_rescue(
+        damaged: *const u8,
+        damaged_len: usize,
+        room: *mut u8,
+        room_len: usize,
+        changes: *mut u32,
+        changes_len: usize,
+        changed: *mut u64,
+    ) -> u32;
 }
 
 pub fn sqrt(x: f64) -> f64 {
@@ -148,6 +157,23 @@ pub fn correct(
         )
     };
     (apart(told), redone)
+}
+
+/// A damaged sheet rebuilt in the room; the refusal's number and step, and how many words were changed.
+pub fn rescue(damaged: &[u8], room: &mut [u8], changes: &mut [u32]) -> ((u32, u32), u64) {
+    let mut changed = u64::MAX; // written, refused or not
+    let told = unsafe {
+        sillfeather_rescue(
+            damaged.as_ptr(),
+            damaged.len(),
+            room.as_mut_ptr(),
+            room.len(),
+            changes.as_mut_ptr(),
+            changes.len(),
+            &mut changed,
+        )
+    };
+    (apart(told), changed)
 }
 
 /// A result is the number plus 65536 times the step.

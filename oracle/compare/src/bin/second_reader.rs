@@ -3,12 +3,9 @@
 //! tolerance; all NaNs count as equal.
 //!
 //!     second_reader [cases a part, 5000] [seed, 1]
-use compare::suites;
-use reader::{In, chain, draw, kept, random::Random, sheet};
+use compare::{LANDED, suites};
+use reader::{chain, draw, kept, random::Random, sheet};
 use std::process::ExitCode;
-
-/// The requests of document 02 that have landed.
-const LANDED: In = In { a3: true, a9: true, a13: true, ..In::NONE };
 
 #[derive(Default)]
 struct Tally {

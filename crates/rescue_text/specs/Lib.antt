@@ -1,0 +1,2 @@
+-- What the contracts of `rescue_text` cite.
+pub mod RescueText
