@@ -18,8 +18,8 @@
  * A RESULT of type uint32_t is 0 where the call is done. Otherwise the call is refused: the result
  * is the refusal's number plus 65536 times the step, which is counted from 1 and is 0 where no step
  * is to blame. A refused call leaves all the memory lent to it as it was, but that `counts` gets
- * zeros, and `*redone` and `*changed` 0. A refusal is given exactly when its rule is broken and no rule before it
- * in the function's order is.
+ * zeros, and `*redone` and `*changed` 0. A refusal is given exactly when its rule is broken and no
+ * rule before it in the function's order is.
  *
  * WHAT IS PROVED. For each function, and for every input, that the result and the memory afterwards
  * are what its definition says (crates/sillfeather/src/lib.rt has the contract, docs/CONFORMANCE.md
