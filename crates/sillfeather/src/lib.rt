@@ -2,9 +2,9 @@
 // keeps its contract.
 //
 // A sheet is checked, run over a list, run and kept to be corrected later, made step by step in lent
-// room, or rebuilt from a damaged one. A result of 0 is done; otherwise it is the refusal's number plus 65536 times the step,
-// and nothing was written but zeros where counts are asked for. include/sillfeather.h says of each
-// function what it reads, writes, refuses and leaves alone.
+// room, or rebuilt from a damaged one. A result of 0 is done; otherwise it is the refusal's number
+// plus 65536 times the step, and nothing was written but zeros where counts are asked for.
+// include/sillfeather.h says of each function what it reads, writes, refuses and leaves alone.
 // The kernels, on any binary64 numbers: nothing is refused, and what each gives for a NaN, an
 // infinity or a zero is its crate's law.
 ghost use mathlib.Core.Path.{_≡_};
