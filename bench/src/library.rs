@@ -1,5 +1,4 @@
 //! The library's exported functions, as C has them: nothing is copied and nothing is checked on the way.
-use ours as _; // links the archive
 
 /// Room for sixteen counts, whatever their width.
 type Counts = [u64; 16];
@@ -36,6 +35,12 @@ pub fn shift(inverse: bool, sheet: &[u8], list: &mut [f64], velocities: &[f64], 
             &mut counts,
         )
     };
+    assert_eq!(told, 0);
+}
+
+/// The columns entry, which C does not have yet: oracle/ours links its archive beside the library's.
+pub fn shift_columns(inverse: bool, sheet: &[u8], list: &mut ours::columns::Columns, velocities: &[f64], marks: &[u8]) {
+    let (told, _) = ours::columns::shift(inverse, sheet, list, velocities, marks);
     assert_eq!(told, 0);
 }
 

@@ -11,6 +11,7 @@ mod proj;
 mod steps;
 
 use clock::{in_turns, took};
+use ours::columns::{self, Columns};
 use published::{Flat, Lent, Op, RawParameters};
 use steps::{Row, TUPLES};
 
@@ -59,6 +60,13 @@ impl Run<'_> {
         list.copy_from_slice(&self.list);
         took(|| {
             library::shift(self.inverse, &self.sheet, list, &self.velocities, &self.marks);
+        })
+    }
+
+    fn ours_columns(&self, list: &mut Columns) -> f64 {
+        *list = columns::columns(&self.list);
+        took(|| {
+            library::shift_columns(self.inverse, &self.sheet, list, &self.velocities, &self.marks);
         })
     }
 
@@ -118,6 +126,14 @@ fn main() {
     clock::head("lists of 2,048, ns a tuple");
     for run in &runs {
         lists(run, passes);
+    }
+    clock::head("lists of 2,048 as four columns, ns a tuple");
+    for run in &runs {
+        lists_of_columns(run, passes);
+    }
+    clock::head("three steps over 2,048, ns a tuple");
+    for (name, chain) in steps::chains() {
+        three_steps(name, &chain, passes);
     }
     clock::head("lists of one, the sheet read / `new` each time");
     for run in runs.iter().filter(|run| run.row.in_the_original()) {
@@ -185,6 +201,60 @@ fn lists(run: &Run, passes: usize) {
     let (original, ours) = in_turns(passes, || run.original(&op, &mut a), || run.ours(&mut b));
     agree(&run.name(), run, &a, &b);
     clock::print(&run.name(), &original, &ours, TUPLES, run.row.aims[run.inverse as usize]);
+}
+
+/// The original over its own list, ours over four columns.
+fn lists_of_columns(run: &Run, passes: usize) {
+    let (mut a, mut b) = (run.list.clone(), columns::columns(&run.list));
+    if !run.row.in_the_original() {
+        let (ours, _) = in_turns(passes, || run.ours_columns(&mut b), || 0.0);
+        return clock::print_alone(&run.name(), &ours, TUPLES);
+    }
+    let op = run.operator();
+    let (original, ours) = in_turns(passes, || run.original(&op, &mut a), || run.ours_columns(&mut b));
+    agree(&run.name(), run, &a, &columns::flat(&b));
+    clock::print(&run.name(), &original, &ours, TUPLES, run.row.columns_aims[run.inverse as usize]);
+}
+
+/// A sheet of three steps: the original's three operators one after another, ours in one call, flat and as columns.
+fn three_steps(name: &str, chain: &steps::Chain, passes: usize) {
+    let list = steps::list(chain.takes, chain.times);
+    let sheet = job::sheet(&chain.steps);
+    let lent = Lent::new(&[], &[]);
+    let raws: Vec<RawParameters> = chain.steps.iter().map(|s| published::parameters(&s.body)).collect();
+    let ops: Vec<Op> = chain
+        .steps
+        .iter()
+        .zip(&raws)
+        .map(|(s, raw)| published::new(&s.body, raw, &lent).expect("the crate takes the step"))
+        .collect();
+    let (mut a, mut b, mut c) = (list.clone(), list.clone(), columns::columns(&list));
+    let original = |list: &mut [f64], from: &[f64]| {
+        list.copy_from_slice(from);
+        took(|| {
+            for (op, step) in ops.iter().zip(&chain.steps) {
+                op.apply(&lent, &mut Flat(list), step.inverted);
+            }
+        })
+    };
+    let (first, ours) = in_turns(
+        passes,
+        || original(&mut a, &list),
+        || {
+            b.copy_from_slice(&list);
+            took(|| library::shift(false, &sheet, &mut b, &[], &[]))
+        },
+    );
+    clock::print(&format!("{name}, flat"), &first, &ours, TUPLES, 0.0);
+    let (first, ours) = in_turns(
+        passes,
+        || original(&mut a, &list),
+        || {
+            c = columns::columns(&list);
+            took(|| library::shift_columns(false, &sheet, &mut c, &[], &[]))
+        },
+    );
+    clock::print(&format!("{name}, columns"), &first, &ours, TUPLES, 0.0);
 }
 
 fn read_each_time(run: &Run, passes: usize) {

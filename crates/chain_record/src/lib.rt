@@ -6,19 +6,19 @@
 // answer, the counts and the list are fixed for every input by specs/Record.antt over chain's
 // definitions. No rounding but the steps' own. For callers that hold a sheet as a record.
 ghost use mathlib.Core.Path.{_≡_};
-ghost use Prim.Native.Nat.{_≤_};
+ghost use Prim.Native.Nat.{_%_, _≤_};
+ghost use lib.ListN.{length};
 ghost use Rattle.sheet.specs.Layout.{entryOf, kindIn};
 ghost use Rattle.sheet.specs.Rules.{hasDeformation};
 ghost use Rattle.chain.specs.Chain.{stepListOf, tuplesCountedOf, chainForwardOf, chainInverseOf, placesOf, entriesOf};
 ghost use Rattle.chain.specs.Rules.{outcome};
 ghost use Rattle.chain_record.specs.Record.{shiftRecordOf};
-use bodies::Step;
 use chain::Answer;
 use sheet::Entry;
 use sheet::Refusal;
 use sheet::Sheet;
 
-// The kind is decided here, once a list.
+// One step over the list, a window of it at a time.
 fn run_step(
     inverse: bool,
     entry: Entry,
@@ -26,28 +26,13 @@ fn run_step(
     velocities: &[f64],
     marks: &[u8],
 ) -> usize
+    requires { ⌜ (length (now list) % 4 ≡ 0) × (length (now list) ≤ 8192) ⌝ }
     ensures { λ r. ⌜ (now (list .exit) ≡ stepListOf inverse (now (velocities .entry)) (now (marks .entry)) entry (now (list .entry)))
         × (r ≡ tuplesCountedOf inverse (now (velocities .entry)) (now (marks .entry)) entry (now (list .entry))) ⌝ }
 {
     let inv = chain::reversed(inverse, entry);
     let step = entry.step;
-    match step {
-        Step::Cart(r) => {
-            return runs::run_cart(list, inv, r);
-        }
-        Step::Permtide(r) => {
-            return runs::run_permtide(list, inv, r);
-        }
-        Step::Deformation(r) => {
-            return deformation_runs::run_deformation(list, inv, r, velocities, marks);
-        }
-        Step::Molodensky(r) => {
-            return runs::run_molodensky(list, inv, r);
-        }
-        Step::Helmert(h) => {
-            return helmert_runs::run_helmert(list, inv, h);
-        }
-    }
+    windows::over_one(plans::plan_of_step(inv, step), list, velocities, marks)
 }
 
 fn forward_record(
@@ -57,7 +42,7 @@ fn forward_record(
     velocities: &[f64],
     marks: &[u8],
 ) -> [usize; 16]
-    requires { ⌜ n ≤ 16 ⌝ }
+    requires { ⌜ (n ≤ 16) × (length (now list) % 4 ≡ 0) × (length (now list) ≤ 8192) ⌝ }
     ensures { λ r. ⌜ (now (list .exit) ≡ chainForwardOf (now (velocities .entry)) (now (marks .entry)) (entriesOf (entryOf kept) n 0) (now (list .entry)) .list)
         × (r ≡ placesOf (chainForwardOf (now (velocities .entry)) (now (marks .entry)) (entriesOf (entryOf kept) n 0) (now (list .entry)) .counts)) ⌝ }
 {
@@ -79,7 +64,7 @@ fn backward_record(
     velocities: &[f64],
     marks: &[u8],
 ) -> [usize; 16]
-    requires { ⌜ n ≤ 16 ⌝ }
+    requires { ⌜ (n ≤ 16) × (length (now list) % 4 ≡ 0) × (length (now list) ≤ 8192) ⌝ }
     ensures { λ r. ⌜ (now (list .exit) ≡ chainInverseOf (now (velocities .entry)) (now (marks .entry)) (entriesOf (entryOf kept) n 0) (now (list .entry)) .list)
         × (r ≡ placesOf (chainInverseOf (now (velocities .entry)) (now (marks .entry)) (entriesOf (entryOf kept) n 0) (now (list .entry)) .counts)) ⌝ }
 {

@@ -6,8 +6,10 @@
 // after another (index 0, last, past the end, any). After each, list, results and track are
 // compared in every bit with those of a fresh run of the list that this program itself corrected,
 // and the count with the stretch that the document's words define on the two tracks: from the index
-// up to the first fix after which the new track equals the old one, else to the end. Prints a line
-// a mode, and how many comparisons parted.
+// up to the first fix after which the new track equals the old one, else to the end. Then some
+// hundred runs of eight fixes, and five corrections of each, go through the entries over columns
+// beside the flat ones, and every column is compared. Prints a line a mode, and how many comparisons
+// parted.
 ghost use Prim.Native.Nat.{_<_, _≤_};
 ghost use Rattle.corrections.specs.Room.{Roomy};
 use kept::Corrected;
@@ -16,7 +18,7 @@ use tuple::Tuple;
 
 const OUT: i32 = 1;
 
-// ----- chance ----------------------------------------------------------------------------------
+// ----- chance ---------------------------------------------------------------------------------
 
 // A linear congruence modulo 2^32; its upper bits are drawn from.
 fn next(seed: usize) -> usize
@@ -92,7 +94,7 @@ fn index_of(seed: usize, fixes: usize) -> usize {
     }
 }
 
-// ----- a sheet of one Helmert step ---------------------------------------------------------------
+// ----- a sheet of one Helmert step ------------------------------------------------------------
 
 // Modes: 0 static, 1 fixed, 2 own-epoch, 3 running.
 fn flags(mode: usize, exact: usize, seed: usize) -> usize
@@ -177,7 +179,7 @@ fn write_numbers(s: &mut [u8], mode: usize, start: usize) {
     }
 }
 
-// ----- lists -------------------------------------------------------------------------------------
+// ----- lists ----------------------------------------------------------------------------------
 
 fn listed(seed: usize, calm: bool) -> Tuple {
     let mut fix = fix_of(seed);
@@ -242,7 +244,7 @@ fn stretch(new: &[f64], old: &[f64], index: usize) -> usize {
     i - index
 }
 
-// ----- a correction --------------------------------------------------------------------------------
+// ----- a correction ---------------------------------------------------------------------------
 
 // The chance to go on with, and what was seen: corrections taken, refused, fixes redone, stretches
 // longer than one fix, comparisons that parted.
@@ -353,7 +355,7 @@ fn one(
     )
 }
 
-// ----- a case: a sheet, a list, six corrections ------------------------------------------------------
+// ----- a case: a sheet, a list, six corrections -----------------------------------------------
 
 fn several(
     inverse: bool,
@@ -468,7 +470,7 @@ fn cut(
     )
 }
 
-// ----- every mode ---------------------------------------------------------------------------------------
+// ----- every mode -----------------------------------------------------------------------------
 
 fn print_mode(mode: usize) {
     match mode {
@@ -569,6 +571,202 @@ fn replayed(
     now.parted
 }
 
+// ----- columns beside flat lists --------------------------------------------------------------
+
+// The number k of each of the first eight tuples.
+fn column(list: &[f64], k: usize) -> [f64; 8] {
+    let mut c = [0.0; 8];
+    let mut i = 0;
+    while i < 8 {
+        let v = lists::read4(list, 4 * i);
+        c[i] = match k {
+            0 => v.x,
+            1 => v.y,
+            2 => v.z,
+            _ => v.t,
+        };
+        i += 1;
+    }
+    c
+}
+
+// How many rows of a column differ in a bit from a flat list's.
+fn parted(c: [f64; 8], list: &[f64], k: usize) -> usize {
+    let right = column(list, k);
+    let mut n = 0;
+    let mut i = 0;
+    while i < 8 {
+        if !floats::same(c[i], right[i]) {
+            n = plus(n, 1);
+        }
+        i += 1;
+    }
+    n
+}
+
+fn parted4(x: [f64; 8], y: [f64; 8], z: [f64; 8], t: [f64; 8], list: &[f64]) -> usize {
+    plus(
+        plus(parted(x, list, 0), parted(y, list, 1)),
+        plus(parted(z, list, 2), parted(t, list, 3)),
+    )
+}
+
+// A fresh run of a flat list of eight fixes and of its columns.
+fn keep_beside(
+    inverse: bool,
+    s: &[u8],
+    list: &[f64],
+    results: &mut [f64],
+    track: &mut [f64],
+) -> usize {
+    let x = column(list, 0);
+    let y = column(list, 1);
+    let z = column(list, 2);
+    let t = column(list, 3);
+    let mut rx = [1.0; 8];
+    let mut ry = [1.0; 8];
+    let mut rz = [1.0; 8];
+    let mut rt = [1.0; 8];
+    let mut kx = [1.0; 8];
+    let mut ky = [1.0; 8];
+    let mut kz = [1.0; 8];
+    let mut kt = [1.0; 8];
+    let flat = kept::keep(inverse, s, list, results, track);
+    let columns = kept_columns::keep(
+        inverse,
+        s,
+        &x,
+        &y,
+        &z,
+        &t,
+        &mut rx,
+        &mut ry,
+        &mut rz,
+        &mut rt,
+        &mut kx,
+        &mut ky,
+        &mut kz,
+        &mut kt,
+    );
+    plus(
+        one_if((flat.number != 0) | (columns.number != 0)),
+        plus(
+            parted4(rx, ry, rz, rt, results),
+            parted4(kx, ky, kz, kt, track),
+        ),
+    )
+}
+
+// A correction of both.
+fn correct_beside(
+    inverse: bool,
+    s: &[u8],
+    list: &mut [f64],
+    results: &mut [f64],
+    track: &mut [f64],
+    index: usize,
+    fix: Tuple,
+) -> usize {
+    let mut x = column(list, 0);
+    let mut y = column(list, 1);
+    let mut z = column(list, 2);
+    let mut t = column(list, 3);
+    let mut rx = column(results, 0);
+    let mut ry = column(results, 1);
+    let mut rz = column(results, 2);
+    let mut rt = column(results, 3);
+    let mut kx = column(track, 0);
+    let mut ky = column(track, 1);
+    let mut kz = column(track, 2);
+    let mut kt = column(track, 3);
+    let flat = kept::correct(inverse, s, list, results, track, index, fix);
+    let columns = kept_columns::correct(
+        inverse,
+        s,
+        &mut x,
+        &mut y,
+        &mut z,
+        &mut t,
+        &mut rx,
+        &mut ry,
+        &mut rz,
+        &mut rt,
+        &mut kx,
+        &mut ky,
+        &mut kz,
+        &mut kt,
+        index,
+        fix,
+    );
+    let one = flat.refusal;
+    let other = columns.refusal;
+    plus(
+        one_if((one.number != other.number) | (flat.redone != columns.redone)),
+        plus(
+            parted4(x, y, z, t, list),
+            plus(
+                parted4(rx, ry, rz, rt, results),
+                parted4(kx, ky, kz, kt, track),
+            ),
+        ),
+    )
+}
+
+fn five(
+    inverse: bool,
+    s: &[u8],
+    list: &mut [f64],
+    results: &mut [f64],
+    track: &mut [f64],
+    start: usize,
+) -> usize {
+    let mut seed = start;
+    let mut n = 0;
+    let mut k: usize = 0;
+    while k < 5 {
+        let index = index_of(seed, 8);
+        let fix = fix_of(next(seed));
+        n = plus(
+            n,
+            correct_beside(inverse, s, list, results, track, index, fix),
+        );
+        seed = next(next(next(next(next(seed)))));
+        k += 1;
+    }
+    n
+}
+
+// Run k of 320: the four modes, small-angle and exact, forward and inverse, wild times and calm.
+fn beside(
+    k: usize,
+    s: &mut [u8],
+    list: &mut [f64],
+    results: &mut [f64],
+    track: &mut [f64],
+) -> usize {
+    let seed = next(next(k % 65536 * 65536));
+    write_words(s, k % 4, k / 4 % 2, seed);
+    write_numbers(s, k % 4, next(seed));
+    fill(list, seed, k / 16 % 2 == 1);
+    plus(
+        keep_beside(k / 8 % 2 == 1, s, list, results, track),
+        five(k / 8 % 2 == 1, s, list, results, track, next(seed)),
+    )
+}
+
+fn all_beside(s: &mut [u8]) -> usize {
+    let mut list = [0.0; 32];
+    let mut results = [1.0; 32];
+    let mut track = [1.0; 32];
+    let mut n = 0;
+    let mut k: usize = 0;
+    while k < 320 {
+        n = plus(n, beside(k, s, &mut list, &mut results, &mut track));
+        k += 1;
+    }
+    n
+}
+
 fn main() {
     let mut s = [0u8; 280];
     let mut list = [0.0; 8192];
@@ -578,7 +776,7 @@ fn main() {
     let mut old = [0.0; 8192];
     let mut fresh_results = [0.0; 8192];
     let mut fresh_track = [0.0; 8192];
-    let parted = replayed(
+    let apart = replayed(
         &mut s,
         &mut list,
         &mut own,
@@ -588,6 +786,13 @@ fn main() {
         &mut fresh_results,
         &mut fresh_track,
     );
-    io::print_decimal(OUT, parted as u64);
+    let beside = all_beside(&mut s);
+    io::write_all(
+        OUT,
+        b"columns, 320 runs and 1600 corrections beside flat lists: ",
+    );
+    io::print_decimal(OUT, beside as u64);
+    io::write_all(OUT, b" parted\n");
+    io::print_decimal(OUT, apart as u64);
     io::write_all(OUT, b" parted\n");
 }

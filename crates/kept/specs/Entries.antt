@@ -43,6 +43,15 @@ keptOrder s list results track later =
     ∷ rule (ofCall 13) (refusal13 list results track)
     ∷ later
 
+-- the same by whether 9 and 13 are broken, which lengths tell
+abbrev pub orderBy : List ℕ → Bool → Bool → List Rule → List Rule
+orderBy s nine thirteen later =
+    rule (refusalOf s) (not (eqb (refusalOf s .number) 0))
+    ∷ rule (ofCall 12) (refusal12 s)
+    ∷ rule (ofCall 9) nine
+    ∷ rule (ofCall 13) thirteen
+    ∷ later
+
 unfoldable pub keepRefusalOf : List ℕ → Kept → Refusal
 keepRefusalOf s old = firstBroken (keptOrder s (length (old .list)) (length (old .results)) (length (old .track)) [])
 

@@ -19,7 +19,7 @@ abbrev μ-loop : tie.MeasureT-loop
 μ-loop n list₀ velocities marks kept counts₀ i₀ list counts i = i
 
 loop-holds : tie.Need-loop-holds Inv-loop μ-loop
-loop-holds c = backward-start _ _ _ _ _ (c .before .before .before .pre)
+loop-holds c = backward-start _ _ _ _ _ (c .before .before .before .pre .0)
 
 sub-i : tie.Need-sub-i Inv-loop μ-loop
 sub-i c = search needs
@@ -31,7 +31,10 @@ element-copy-out-entry : tie.Need-element-copy-out-entry Inv-loop μ-loop
 element-copy-out-entry c = search needs
 
 run-step-requires : tie.Need-run-step-requires Inv-loop μ-loop
-run-step-requires c κs = search needs
+run-step-requires c κs =
+    let l = c .before .before .before .loop in
+    let p = c .before .before .before .before .before .before .before .pre in
+    (omega (arith, l .inv .long, p .1), omega (arith, l .inv .long, p .2))
 
 mul-counts : tie.Need-mul-counts Inv-loop μ-loop
 mul-counts c = search needs
@@ -46,13 +49,13 @@ loop-again : tie.Need-loop-again Inv-loop μ-loop
 loop-again c =
     let l = c .before .before .before .before .before .before .loop in
     let j : l .i - 1 + 1 ≡ l .i = omega (arith, c .before .before .before .before .before .loop-test .taken) in
-    backward-again (c .before .before .before .before .before .before .before .before .before .before .pre) (l .i - 1) j refl (c .before .before .run-step .ensures .0) (c .before .before .run-step .ensures .1) (l .inv)
+    backward-again (c .before .before .before .before .before .before .before .before .before .before .pre .0) (l .i - 1) j refl (c .before .before .run-step .ensures .0) (c .before .before .run-step .ensures .1) (l .inv)
 
 same-length : tie.Need-same-length Inv-loop μ-loop
 same-length c = c .before .loop .inv .long
 
 returns : tie.Need-returns Inv-loop μ-loop
-returns c = backward-end (c .before .before .before .before .before .pre) (search needs) (c .before .loop .inv)
+returns c = backward-end (c .before .before .before .before .before .pre .0) (search needs) (c .before .loop .inv)
 
 pub backward-record-spec : {M : Type 1} → statement M
 backward-record-spec =

@@ -4,6 +4,7 @@
 -- (`run_step`, `entryOf`) and writes its count at i (`forward-again`). At i = n no step is left,
 -- and list and counts are those of `chainForwardOf` (`forward-end`). The measure is n - i.
 -- Assumes nothing.
+use native.Mathlib.Omega.{arith}
 use borrow.Author.Needs.{needs}
 use Prim.Native.Nat.{_-_}
 use mathlib.Core.Path.{refl}
@@ -19,7 +20,7 @@ abbrev μ-loop : tie.MeasureT-loop
 μ-loop n list₀ velocities marks kept counts₀ i₀ list counts i = n - i
 
 loop-holds : tie.Need-loop-holds Inv-loop μ-loop
-loop-holds c = forward-start _ _ _ _ _ (c .before .before .before .pre)
+loop-holds c = forward-start _ _ _ _ _ (c .before .before .before .pre .0)
 
 mul-entry : tie.Need-mul-entry Inv-loop μ-loop
 mul-entry c = search needs
@@ -28,7 +29,10 @@ element-copy-out-entry : tie.Need-element-copy-out-entry Inv-loop μ-loop
 element-copy-out-entry c = search needs
 
 run-step-requires : tie.Need-run-step-requires Inv-loop μ-loop
-run-step-requires c κs = search needs
+run-step-requires c κs =
+    let l = c .before .before .before .loop in
+    let p = c .before .before .before .before .before .before .before .pre in
+    (omega (arith, l .inv .long, p .1), omega (arith, l .inv .long, p .2))
 
 mul-counts : tie.Need-mul-counts Inv-loop μ-loop
 mul-counts c = search needs
@@ -44,13 +48,13 @@ loop-less c = search needs
 
 loop-again : tie.Need-loop-again Inv-loop μ-loop
 loop-again c =
-    forward-again (c .before .before .before .before .before .before .before .before .before .before .pre) (search needs) refl (c .before .before .run-step .ensures .0) (c .before .before .run-step .ensures .1) (c .before .before .before .before .before .before .loop .inv)
+    forward-again (c .before .before .before .before .before .before .before .before .before .before .pre .0) (search needs) refl (c .before .before .run-step .ensures .0) (c .before .before .run-step .ensures .1) (c .before .before .before .before .before .before .loop .inv)
 
 same-length : tie.Need-same-length Inv-loop μ-loop
 same-length c = c .before .loop .inv .long
 
 returns : tie.Need-returns Inv-loop μ-loop
-returns c = forward-end (c .before .before .before .before .before .pre) (search needs) (c .before .loop .inv)
+returns c = forward-end (c .before .before .before .before .before .pre .0) (search needs) (c .before .loop .inv)
 
 pub forward-record-spec : {M : Type 1} → statement M
 forward-record-spec =

@@ -1,0 +1,2 @@
+-- What the contracts of `windows` cite: a sheet's steps, made ready in the sheet's order.
+pub mod Steps

@@ -1,0 +1,267 @@
+//! The same calls through the columns entries: four columns for each list.
+//!
+//! A flat list of whole tuples is taken apart into columns here, and put together again; what the
+//! columns entry leaves has to be what the flat entry left, number by number and by its bits.
+
+/// Four columns.
+pub type Columns = [Vec<f64>; 4];
+
+unsafe extern "C" {
+    fn columns_shift(
+        inverse: u32,
+        sheet: *const u8,
+        sheet_len: usize,
+        x: *mut f64,
+        x_len: usize,
+        y: *mut f64,
+        y_len: usize,
+        z: *mut f64,
+        z_len: usize,
+        t: *mut f64,
+        t_len: usize,
+        velocities: *const f64,
+        velocities_len: usize,
+        marks: *const u8,
+        marks_len: usize,
+        counts: *mut u64,
+    ) -> u32;
+    fn columns_keep(
+        inverse: u32,
+        sheet: *const u8,
+        sheet_len: usize,
+        x: *const f64,
+        x_len: usize,
+        y: *const f64,
+        y_len: usize,
+        z: *const f64,
+        z_len: usize,
+        t: *const f64,
+        t_len: usize,
+        results_x: *mut f64,
+        results_x_len: usize,
+        results_y: *mut f64,
+        results_y_len: usize,
+        results_z: *mut f64,
+        results_z_len: usize,
+        results_t: *mut f64,
+        results_t_len: usize,
+        track_x: *mut f64,
+        track_x_len: usize,
+        track_y: *mut f64,
+        track_y_len: usize,
+        track_z: *mut f64,
+        track_z_len: usize,
+        track_t: *mut f64,
+        track_t_len: usize,
+    ) -> u32;
+    fn columns_correct(
+        inverse: u32,
+        sheet: *const u8,
+        sheet_len: usize,
+        x: *mut f64,
+        x_len: usize,
+        y: *mut f64,
+        y_len: usize,
+        z: *mut f64,
+        z_len: usize,
+        t: *mut f64,
+        t_len: usize,
+        results_x: *mut f64,
+        results_x_len: usize,
+        results_y: *mut f64,
+        results_y_len: usize,
+        results_z: *mut f64,
+        results_z_len: usize,
+        results_t: *mut f64,
+        results_t_len: usize,
+        track_x: *mut f64,
+        track_x_len: usize,
+        track_y: *mut f64,
+        track_y_len: usize,
+        track_z: *mut f64,
+        track_z_len: usize,
+        track_t: *mut f64,
+        track_t_len: usize,
+        index: usize,
+        fix: *const f64,
+        redone: *mut u64,
+    ) -> u32;
+}
+
+/// The columns of a flat list of whole tuples.
+pub fn columns(list: &[f64]) -> Columns {
+    [0, 1, 2, 3].map(|k| list.iter().skip(k).step_by(4).copied().collect())
+}
+
+/// The flat list that columns of one length stand for.
+pub fn flat(columns: &Columns) -> Vec<f64> {
+    (0..columns[0].len()).flat_map(|i| columns.iter().map(move |c| c[i])).collect()
+}
+
+/// A sheet over four columns; the refusal as C gets it, and the counts.
+pub fn shift(inverse: bool, sheet: &[u8], list: &mut Columns, velocities: &[f64], marks: &[u8]) -> (u32, [u32; 16]) {
+    let mut counts = [u64::MAX; 16]; // each is written, refused or not
+    let [x, y, z, t] = list;
+    let told = unsafe {
+        columns_shift(
+            inverse as u32,
+            sheet.as_ptr(),
+            sheet.len(),
+            x.as_mut_ptr(),
+            x.len(),
+            y.as_mut_ptr(),
+            y.len(),
+            z.as_mut_ptr(),
+            z.len(),
+            t.as_mut_ptr(),
+            t.len(),
+            velocities.as_ptr(),
+            velocities.len(),
+            marks.as_ptr(),
+            marks.len(),
+            counts.as_mut_ptr(),
+        )
+    };
+    (told, counts.map(|count| count as u32))
+}
+
+/// A fresh kept run over columns.
+pub fn keep(inverse: bool, sheet: &[u8], list: &Columns, results: &mut Columns, track: &mut Columns) -> u32 {
+    let [x, y, z, t] = list;
+    let [rx, ry, rz, rt] = results;
+    let [kx, ky, kz, kt] = track;
+    unsafe {
+        columns_keep(
+            inverse as u32,
+            sheet.as_ptr(),
+            sheet.len(),
+            x.as_ptr(),
+            x.len(),
+            y.as_ptr(),
+            y.len(),
+            z.as_ptr(),
+            z.len(),
+            t.as_ptr(),
+            t.len(),
+            rx.as_mut_ptr(),
+            rx.len(),
+            ry.as_mut_ptr(),
+            ry.len(),
+            rz.as_mut_ptr(),
+            rz.len(),
+            rt.as_mut_ptr(),
+            rt.len(),
+            kx.as_mut_ptr(),
+            kx.len(),
+            ky.as_mut_ptr(),
+            ky.len(),
+            kz.as_mut_ptr(),
+            kz.len(),
+            kt.as_mut_ptr(),
+            kt.len(),
+        )
+    }
+}
+
+/// A correction over columns; the refusal as C gets it, and the count.
+pub fn correct(inverse: bool, sheet: &[u8], [list, results, track]: [&mut Columns; 3], index: u64, fix: [f64; 4]) -> (u32, u64) {
+    let mut redone = u64::MAX; // written, refused or not
+    let [x, y, z, t] = list;
+    let [rx, ry, rz, rt] = results;
+    let [kx, ky, kz, kt] = track;
+    let told = unsafe {
+        columns_correct(
+            inverse as u32,
+            sheet.as_ptr(),
+            sheet.len(),
+            x.as_mut_ptr(),
+            x.len(),
+            y.as_mut_ptr(),
+            y.len(),
+            z.as_mut_ptr(),
+            z.len(),
+            t.as_mut_ptr(),
+            t.len(),
+            rx.as_mut_ptr(),
+            rx.len(),
+            ry.as_mut_ptr(),
+            ry.len(),
+            rz.as_mut_ptr(),
+            rz.len(),
+            rt.as_mut_ptr(),
+            rt.len(),
+            kx.as_mut_ptr(),
+            kx.len(),
+            ky.as_mut_ptr(),
+            ky.len(),
+            kz.as_mut_ptr(),
+            kz.len(),
+            kt.as_mut_ptr(),
+            kt.len(),
+            index as usize,
+            fix.as_ptr(),
+            &mut redone,
+        )
+    };
+    (told, redone)
+}
+
+// ----- the flat entry beside the columns entry ---------------------------------------------
+
+/// A NaN with a payload is its own bits: the converters move numbers and change none.
+fn by_memory(what: &str, columns: &Columns, list: &[f64]) {
+    let joined = flat(columns);
+    let parted = joined.iter().zip(list).position(|(a, b)| a.to_bits() != b.to_bits());
+    assert!(joined.len() == list.len() && parted.is_none(), "{what}: flat and columns entries part at number {parted:?}");
+}
+
+pub fn shifts_alike(
+    inverse: bool,
+    sheet: &[u8],
+    before: &[f64],
+    (told, counts, after): (u32, &[u32; 16], &[f64]),
+    velocities: &[f64],
+    marks: &[u8],
+) {
+    if before.len() % 4 != 0 {
+        return;
+    }
+    let mut list = columns(before);
+    let said = shift(inverse, sheet, &mut list, velocities, marks);
+    assert_eq!((told, *counts), said, "a shift's answer through columns");
+    by_memory("a shift", &list, after);
+}
+
+/// Lists of whole tuples, as many in each: what columns of one length can stand for.
+fn alike(before: &[Vec<f64>; 3]) -> bool {
+    before.iter().all(|list| list.len() % 4 == 0)
+}
+
+pub fn keeps_alike(inverse: bool, sheet: &[u8], before: &[Vec<f64>; 3], (told, after): (u32, [&[f64]; 3])) {
+    if !alike(before) {
+        return;
+    }
+    let [list, mut results, mut track] = [0, 1, 2].map(|k| columns(&before[k]));
+    let said = keep(inverse, sheet, &list, &mut results, &mut track);
+    assert_eq!(told, said, "a kept run's answer through columns");
+    by_memory("kept results", &results, after[1]);
+    by_memory("kept track", &track, after[2]);
+}
+
+pub fn corrects_alike(
+    inverse: bool,
+    sheet: &[u8],
+    before: &[Vec<f64>; 3],
+    (index, fix): (u64, [f64; 4]),
+    (told, redone, after): (u32, u64, [&[f64]; 3]),
+) {
+    if !alike(before) {
+        return;
+    }
+    let [mut list, mut results, mut track] = [0, 1, 2].map(|k| columns(&before[k]));
+    let said = correct(inverse, sheet, [&mut list, &mut results, &mut track], index, fix);
+    assert_eq!((told, redone), said, "a correction's answer through columns");
+    by_memory("a corrected list", &list, after[0]);
+    by_memory("corrected results", &results, after[1]);
+    by_memory("corrected track", &track, after[2]);
+}
