@@ -109,3 +109,12 @@ windows-are-the-chain false velocities marks s n l h =
     let e = forward-gone velocities marks s n 0 (replicate (16 - n) noPlace) l (omega (arith, h)) in
     let k = forward-counts-length velocities marks (entriesOf (entryAt s) n 0) l ∙ entries-length (entryAt s) n 0 in
     (e .0, e .1 ∙ rw (none-counted, k))
+
+-- ---- a sheet of one step
+
+pub one-step-chain : (inverse : Bool) (velocities : List Float) (marks : List ℕ) (entry : ℕ → Entry) (l : List Float)
+    → chainOf inverse velocities marks (entriesOf entry 1 0) l
+    ≡ record { list = stepListOf inverse velocities marks (entry 0) l; counts = tuplesCountedOf inverse velocities marks (entry 0) l ∷ [] }
+unfolding entriesOf chainForwardOf chainInverseOf
+one-step-chain true velocities marks entry l = refl
+one-step-chain false velocities marks entry l = refl

@@ -5,8 +5,8 @@
 // around them. `shift_columns` checks the sheet where it lies and makes one step ready at a time,
 // steps outermost and rows innermost. `shift` puts a short list into columns of its own, and a long
 // one window by window (`windows`). chain_record does the same over a record that is already read,
-// and the two agree (proved there). The answer, the counts and the list are fixed for every input by
-// specs/Rules.antt and specs/Columns.antt over specs/Chain.antt, which is made of the steps' own
+// and the two agree (proved there). The answer, the counts and the list are fixed for every input
+// by specs/Rules.antt and specs/Columns.antt over specs/Chain.antt, which is made of the steps' own
 // definitions; nothing is written before the last test has passed. No rounding but the steps' own.
 // Used by the program and by callers that keep lists.
 ghost use mathlib.Core.Path.{_≡_};
@@ -151,7 +151,7 @@ fn through(
     velocities: &[f64],
     marks: &[u8],
 ) -> [usize; 16]
-    requires { ⌜ (n ≤ 16) × (n ≡ stepCountOf (now s)) × Level (now x) (now y) (now z) (now t) × (length (now list) ≡ 4 * length (now x)) × (length (now x) ≤ 16) ⌝ }
+    requires { ⌜ (n ≤ 16) × (n ≡ stepCountOf (now s)) × Level (now x) (now y) (now z) (now t) × (length (now list) ≡ 4 * length (now x)) × (length (now x) ≤ 2048) ⌝ }
     ensures { λ r. ⌜ (now (list .exit) ≡ chainOf inverse (now (velocities .entry)) (now (marks .entry)) (entriesOf (entryAt (now (s .entry))) n 0) (now (list .entry)) .list)
         × (r ≡ placesOf (chainOf inverse (now (velocities .entry)) (now (marks .entry)) (entriesOf (entryAt (now (s .entry))) n 0) (now (list .entry)) .counts)) ⌝ }
 {
@@ -161,15 +161,85 @@ fn through(
     counts
 }
 
-// A column's room.
-fn zeros() -> [f64; 16]
+// A sheet of one step: the step is made ready once, and keeps its state from window to window.
+fn alone(
+    inverse: bool,
+    s: &[u8],
+    n: usize,
+    list: &mut [f64],
+    x: &mut [f64],
+    y: &mut [f64],
+    z: &mut [f64],
+    t: &mut [f64],
+    velocities: &[f64],
+    marks: &[u8],
+) -> [usize; 16]
+    requires { ⌜ (n ≡ 1) × (n ≡ stepCountOf (now s)) × (length (now list) % 4 ≡ 0) × (length (now list) ≤ 8192) × Level (now x) (now y) (now z) (now t) × (0 < length (now x)) ⌝ }
+    ensures { λ r. ⌜ (now (list .exit) ≡ chainOf inverse (now (velocities .entry)) (now (marks .entry)) (entriesOf (entryAt (now (s .entry))) n 0) (now (list .entry)) .list)
+        × (r ≡ placesOf (chainOf inverse (now (velocities .entry)) (now (marks .entry)) (entriesOf (entryAt (now (s .entry))) n 0) (now (list .entry)) .counts)) ⌝ }
+{
+    let mut counts = [0usize; 16];
+    let plan = windows::plan_at(inverse, s, 0);
+    let count = windows::over_one(plan, list, x, y, z, t, velocities, marks);
+    counts[0] = count;
+    counts
+}
+
+// A list of whole tuples, through a room of columns that has a row or more: in one go where the room
+// has as many rows as the list, and else window by window.
+fn in_room(
+    inverse: bool,
+    s: &[u8],
+    n: usize,
+    list: &mut [f64],
+    x: &mut [f64],
+    y: &mut [f64],
+    z: &mut [f64],
+    t: &mut [f64],
+    velocities: &[f64],
+    marks: &[u8],
+) -> [usize; 16]
+    requires { ⌜ (n ≤ 16) × (n ≡ stepCountOf (now s)) × (length (now list) % 4 ≡ 0) × (length (now list) ≤ 8192) × Level (now x) (now y) (now z) (now t) × (0 < length (now x)) ⌝ }
+    ensures { λ r. ⌜ (now (list .exit) ≡ chainOf inverse (now (velocities .entry)) (now (marks .entry)) (entriesOf (entryAt (now (s .entry))) n 0) (now (list .entry)) .list)
+        × (r ≡ placesOf (chainOf inverse (now (velocities .entry)) (now (marks .entry)) (entriesOf (entryAt (now (s .entry))) n 0) (now (list .entry)) .counts)) ⌝ }
+{
+    let m = list.len() / 4;
+    if m <= x.len() {
+        return through(
+            inverse,
+            s,
+            n,
+            list,
+            &mut x[..m],
+            &mut y[..m],
+            &mut z[..m],
+            &mut t[..m],
+            velocities,
+            marks,
+        );
+    }
+    if n == 1 {
+        return alone(inverse, s, n, list, x, y, z, t, velocities, marks);
+    }
+    windows::over(inverse, s, n, list, x, y, z, t, velocities, marks)
+}
+
+// The room of a short list, and of any other: enough rows that making the steps ready again for each
+// window costs little, and few enough that the four columns are 4 kB of stack.
+fn sixteen() -> [f64; 16]
     ensures { λ r. ⌜ 16 ≡ length r ⌝ }
 {
     [0.0; 16]
 }
 
-// A list of at most sixteen tuples, in one go.
-fn short(
+fn many() -> [f64; 128]
+    ensures { λ r. ⌜ 128 ≡ length r ⌝ }
+{
+    [0.0; 128]
+}
+
+// A list through either room.
+fn in_sixteen(
     inverse: bool,
     s: &[u8],
     n: usize,
@@ -177,30 +247,59 @@ fn short(
     velocities: &[f64],
     marks: &[u8],
 ) -> [usize; 16]
-    requires { ⌜ (n ≤ 16) × (n ≡ stepCountOf (now s)) × (length (now list) % 4 ≡ 0) × (length (now list) ≤ 64) ⌝ }
+    requires { ⌜ (n ≤ 16) × (n ≡ stepCountOf (now s)) × (length (now list) % 4 ≡ 0) × (length (now list) ≤ 8192) ⌝ }
     ensures { λ r. ⌜ (now (list .exit) ≡ chainOf inverse (now (velocities .entry)) (now (marks .entry)) (entriesOf (entryAt (now (s .entry))) n 0) (now (list .entry)) .list)
         × (r ≡ placesOf (chainOf inverse (now (velocities .entry)) (now (marks .entry)) (entriesOf (entryAt (now (s .entry))) n 0) (now (list .entry)) .counts)) ⌝ }
 {
-    let mut x = zeros();
-    let mut y = zeros();
-    let mut z = zeros();
-    let mut t = zeros();
-    let m = list.len() / 4;
-    through(
+    let mut x = sixteen();
+    let mut y = sixteen();
+    let mut z = sixteen();
+    let mut t = sixteen();
+    in_room(
         inverse,
         s,
         n,
         list,
-        &mut x[..m],
-        &mut y[..m],
-        &mut z[..m],
-        &mut t[..m],
+        &mut x[..16],
+        &mut y[..16],
+        &mut z[..16],
+        &mut t[..16],
         velocities,
         marks,
     )
 }
 
-// A list of whole tuples of any length in rule.
+fn in_many(
+    inverse: bool,
+    s: &[u8],
+    n: usize,
+    list: &mut [f64],
+    velocities: &[f64],
+    marks: &[u8],
+) -> [usize; 16]
+    requires { ⌜ (n ≤ 16) × (n ≡ stepCountOf (now s)) × (length (now list) % 4 ≡ 0) × (length (now list) ≤ 8192) ⌝ }
+    ensures { λ r. ⌜ (now (list .exit) ≡ chainOf inverse (now (velocities .entry)) (now (marks .entry)) (entriesOf (entryAt (now (s .entry))) n 0) (now (list .entry)) .list)
+        × (r ≡ placesOf (chainOf inverse (now (velocities .entry)) (now (marks .entry)) (entriesOf (entryAt (now (s .entry))) n 0) (now (list .entry)) .counts)) ⌝ }
+{
+    let mut x = many();
+    let mut y = many();
+    let mut z = many();
+    let mut t = many();
+    in_room(
+        inverse,
+        s,
+        n,
+        list,
+        &mut x[..128],
+        &mut y[..128],
+        &mut z[..128],
+        &mut t[..128],
+        velocities,
+        marks,
+    )
+}
+
+// A list of whole tuples, of any length in rule.
 fn over_list(
     inverse: bool,
     s: &[u8],
@@ -214,9 +313,9 @@ fn over_list(
         × (r ≡ placesOf (chainOf inverse (now (velocities .entry)) (now (marks .entry)) (entriesOf (entryAt (now (s .entry))) n 0) (now (list .entry)) .counts)) ⌝ }
 {
     if list.len() <= 64 {
-        return short(inverse, s, n, list, velocities, marks);
+        return in_sixteen(inverse, s, n, list, velocities, marks);
     }
-    windows::over(inverse, s, n, list, velocities, marks)
+    in_many(inverse, s, n, list, velocities, marks)
 }
 
 // ----- the rules of the lent lists --------------------------------------------------------------

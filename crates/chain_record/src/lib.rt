@@ -8,17 +8,48 @@
 ghost use mathlib.Core.Path.{_≡_};
 ghost use Prim.Native.Nat.{_%_, _≤_};
 ghost use lib.ListN.{length};
+ghost use Rattle.lists.specs.Run.{ranOf, countOf};
+ghost use Rattle.plans.specs.Plans.{planTurnsOf, planStartOf};
 ghost use Rattle.sheet.specs.Layout.{entryOf, kindIn};
 ghost use Rattle.sheet.specs.Rules.{hasDeformation};
 ghost use Rattle.chain.specs.Chain.{stepListOf, tuplesCountedOf, chainForwardOf, chainInverseOf, placesOf, entriesOf};
 ghost use Rattle.chain.specs.Rules.{outcome};
 ghost use Rattle.chain_record.specs.Record.{shiftRecordOf};
 use chain::Answer;
+use plans::Plan;
 use sheet::Entry;
 use sheet::Refusal;
 use sheet::Sheet;
 
-// One step over the list, a window of it at a time.
+// A column's room.
+fn zeros() -> [f64; 64]
+    ensures { λ r. ⌜ 64 ≡ length r ⌝ }
+{
+    [0.0; 64]
+}
+
+// A step made ready over the list, a window of it at a time.
+fn run_plan(plan: Plan, list: &mut [f64], velocities: &[f64], marks: &[u8]) -> usize
+    requires { ⌜ (length (now list) % 4 ≡ 0) × (length (now list) ≤ 8192) ⌝ }
+    ensures { λ r. ⌜ (now (list .exit) ≡ ranOf (planTurnsOf (now (velocities .entry)) (now (marks .entry)) plan) 0 (planStartOf plan) (now (list .entry)))
+        × (r ≡ countOf (planTurnsOf (now (velocities .entry)) (now (marks .entry)) plan) 0 (planStartOf plan) (now (list .entry))) ⌝ }
+{
+    let mut x = zeros();
+    let mut y = zeros();
+    let mut z = zeros();
+    let mut t = zeros();
+    windows::over_one(
+        plan,
+        list,
+        &mut x[..64],
+        &mut y[..64],
+        &mut z[..64],
+        &mut t[..64],
+        velocities,
+        marks,
+    )
+}
+
 fn run_step(
     inverse: bool,
     entry: Entry,
@@ -32,7 +63,7 @@ fn run_step(
 {
     let inv = chain::reversed(inverse, entry);
     let step = entry.step;
-    windows::over_one(plans::plan_of_step(inv, step), list, velocities, marks)
+    run_plan(plans::plan_of_step(inv, step), list, velocities, marks)
 }
 
 fn forward_record(

@@ -1,10 +1,11 @@
 // A sheet's steps over a long flat list, a window of rows at a time.
 //
 // Each window is put into columns, passes through all steps, and is put back, so that a number is
-// moved twice however many steps there are. Between two windows each step keeps its place: the state
-// that it goes on from, and its count so far. Proved for every list, sheet and direction: the list
-// and the places are those of all steps over the whole list (plans, specs/Windows.antt). No rounding
-// but the steps' own. Used by the chain's flat entry.
+// moved twice however many steps there are. Between two windows each step keeps its place: the
+// state that it goes on from, and its count so far. Proved for every list, sheet and direction: the
+// list and the places are those of all steps over the whole list (plans, specs/Windows.antt). One
+// step alone is made ready once. No rounding but the steps' own. Used by the chain's flat entry and
+// by what runs a record.
 ghost use mathlib.Core.Path.{_≡_};
 ghost use mathlib.Core.Bool.{cond, not, true, false};
 ghost use Prim.Native.Nat.{_+_, _*_, _%_, _≤_, _<_};
@@ -19,10 +20,6 @@ use helmert::State;
 use helmert_columns::Went;
 use plans::Place;
 use plans::Plan;
-
-// A window's rows: enough that making the steps ready again in each window costs little, and few
-// enough that the four columns are 4 kB of stack.
-const ROWS: usize = 128;
 
 // ----- the steps ------------------------------------------------------------------------------
 
@@ -227,71 +224,33 @@ fn through(
     places
 }
 
-// A column's room.
-fn zeros() -> [f64; ROWS]
-    ensures { λ r. ⌜ 128 ≡ length r ⌝ }
-{
-    [0.0; ROWS]
-}
-
-// The same through columns of its own, of which it takes as many rows as the window has.
-fn window(
-    inverse: bool,
-    s: &[u8],
-    n: usize,
-    first: usize,
-    before: [Place; 16],
-    list: &mut [f64],
-    velocities: &[f64],
-    marks: &[u8],
-) -> [Place; 16]
-    requires { ⌜ (n ≤ 16) × (length (now list) % 4 ≡ 0) × (length (now list) ≤ 512) × (first < 4294967296) × Few first before ⌝ }
-    ensures { λ r. ⌜ (now (list .exit) ≡ goneOf inverse first (turnsFrom (turnsAt inverse (now (velocities .entry)) (now (marks .entry)) (now (s .entry))) n 0) before (now (list .entry)) .list)
-        × (r ≡ goneOf inverse first (turnsFrom (turnsAt inverse (now (velocities .entry)) (now (marks .entry)) (now (s .entry))) n 0) before (now (list .entry)) .places) ⌝ }
-{
-    let mut x = zeros();
-    let mut y = zeros();
-    let mut z = zeros();
-    let mut t = zeros();
-    let m = list.len() / 4;
-    through(
-        inverse,
-        s,
-        n,
-        first,
-        before,
-        list,
-        &mut x[..m],
-        &mut y[..m],
-        &mut z[..m],
-        &mut t[..m],
-        velocities,
-        marks,
-    )
-}
-
 // ----- window after window ---------------------------------------------------------------------
 
-// How many rows the next window has, of those that are left.
-fn rows_of(left: usize) -> usize
-    ensures { λ r. ⌜ (r ≤ left) × (r ≤ 128) × (0 < left → 0 < r) ⌝ }
+// How many rows the next window has, of those that are left and of those that there is room for.
+fn rows_of(left: usize, room: usize) -> usize
+    ensures { λ r. ⌜ (r ≤ left) × (r ≤ room) × (0 < left → 0 < room → 0 < r) ⌝ }
 {
-    if left < ROWS {
+    if left < room {
         return left;
     }
-    ROWS
+    room
 }
 
-// All steps over a flat list of whole tuples: the count of each.
+// All steps over a flat list of whole tuples, through a room of columns that has a row or more: the
+// count of each.
 pub fn over(
     inverse: bool,
     s: &[u8],
     n: usize,
     list: &mut [f64],
+    x: &mut [f64],
+    y: &mut [f64],
+    z: &mut [f64],
+    t: &mut [f64],
     velocities: &[f64],
     marks: &[u8],
 ) -> [usize; 16]
-    requires { ⌜ (n ≤ 16) × (length (now list) % 4 ≡ 0) × (length (now list) ≤ 8192) ⌝ }
+    requires { ⌜ (n ≤ 16) × (length (now list) % 4 ≡ 0) × (length (now list) ≤ 8192) × Level (now x) (now y) (now z) (now t) × (0 < length (now x)) ⌝ }
     ensures { λ r. ⌜ (now (list .exit) ≡ goneOf inverse 0 (turnsFrom (turnsAt inverse (now (velocities .entry)) (now (marks .entry)) (now (s .entry))) n 0) (startsOf (planAt inverse (now (s .entry))) n) (now (list .entry)) .list)
         × (r ≡ countsOf (goneOf inverse 0 (turnsFrom (turnsAt inverse (now (velocities .entry)) (now (marks .entry)) (now (s .entry))) n 0) (startsOf (planAt inverse (now (s .entry))) n) (now (list .entry)) .places)) ⌝ }
 {
@@ -299,16 +258,20 @@ pub fn over(
     let mut places = starts(inverse, s, n);
     let mut i = 0;
     while i < rows {
-        let m = rows_of(rows - i);
+        let m = rows_of(rows - i, x.len());
         let a = 4 * i;
         let e = 4 * (i + m);
-        let after = window(
+        let after = through(
             inverse,
             s,
             n,
             i, // the index of the window's first fix
             places,
             &mut list[a..e],
+            &mut x[..m],
+            &mut y[..m],
+            &mut z[..m],
+            &mut t[..m],
             velocities,
             marks,
         );
@@ -344,41 +307,18 @@ fn through_one(
     went
 }
 
-fn window_one(
+// One step over a flat list of whole tuples, the same way: how many it counts.
+pub fn over_one(
     plan: Plan,
-    first: usize,
-    from: State,
     list: &mut [f64],
+    x: &mut [f64],
+    y: &mut [f64],
+    z: &mut [f64],
+    t: &mut [f64],
     velocities: &[f64],
     marks: &[u8],
-) -> Went
-    requires { ⌜ (length (now list) % 4 ≡ 0) × (length (now list) ≤ 512) × (first < 4294967296) ⌝ }
-    ensures { λ r. ⌜ (now (list .exit) ≡ ranOf (planTurnsOf (now (velocities .entry)) (now (marks .entry)) plan) first from (now (list .entry)))
-        × (r .state ≡ stateAfterOf (planTurnsOf (now (velocities .entry)) (now (marks .entry)) plan) first from (now (list .entry)))
-        × (r .count ≡ countOf (planTurnsOf (now (velocities .entry)) (now (marks .entry)) plan) first from (now (list .entry))) ⌝ }
-{
-    let mut x = zeros();
-    let mut y = zeros();
-    let mut z = zeros();
-    let mut t = zeros();
-    let m = list.len() / 4;
-    through_one(
-        plan,
-        first,
-        from,
-        list,
-        &mut x[..m],
-        &mut y[..m],
-        &mut z[..m],
-        &mut t[..m],
-        velocities,
-        marks,
-    )
-}
-
-// One step over a flat list of whole tuples: how many it counts.
-pub fn over_one(plan: Plan, list: &mut [f64], velocities: &[f64], marks: &[u8]) -> usize
-    requires { ⌜ (length (now list) % 4 ≡ 0) × (length (now list) ≤ 8192) ⌝ }
+) -> usize
+    requires { ⌜ (length (now list) % 4 ≡ 0) × (length (now list) ≤ 8192) × Level (now x) (now y) (now z) (now t) × (0 < length (now x)) ⌝ }
     ensures { λ r. ⌜ (now (list .exit) ≡ ranOf (planTurnsOf (now (velocities .entry)) (now (marks .entry)) plan) 0 (planStartOf plan) (now (list .entry)))
         × (r ≡ countOf (planTurnsOf (now (velocities .entry)) (now (marks .entry)) plan) 0 (planStartOf plan) (now (list .entry))) ⌝ }
 {
@@ -387,10 +327,21 @@ pub fn over_one(plan: Plan, list: &mut [f64], velocities: &[f64], marks: &[u8]) 
     let mut n = 0;
     let mut i = 0;
     while i < rows {
-        let m = rows_of(rows - i);
+        let m = rows_of(rows - i, x.len());
         let a = 4 * i;
         let e = 4 * (i + m);
-        let went = window_one(plan, i, state, &mut list[a..e], velocities, marks);
+        let went = through_one(
+            plan,
+            i, // the index of the window's first fix
+            state,
+            &mut list[a..e],
+            &mut x[..m],
+            &mut y[..m],
+            &mut z[..m],
+            &mut t[..m],
+            velocities,
+            marks,
+        );
         state = went.state;
         n += went.count;
         i += m;

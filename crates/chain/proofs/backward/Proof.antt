@@ -1,6 +1,7 @@
--- Invariant (`Backward`): the columns are what the steps from index i on have made of them, the last
--- first, and the counts from i on are theirs. A turn runs the step before i (`backward-again`). At
--- i = 0 every step has run (`backward-end`). The measure is i. Assumes nothing.
+-- Invariant (`Backward`): the columns are what the steps from index i on have made of them, the
+-- last first, and the counts from i on are theirs. A turn runs the step before i
+-- (`backward-again`). At i = 0 every step has run (`backward-end`). The measure is i. Assumes
+-- nothing.
 use Prim.Native.Nat.{_-_}
 use native.Mathlib.Omega.{arith}
 use mathlib.Core.Path.{_≡_, refl}

@@ -1,8 +1,8 @@
 -- Invariant (`Forward`): the steps from index i on make of the columns as they stand what all steps
 -- make of the columns at the start; the counts before i, followed by the counts of those steps, are
--- all the counts; and the counts from i on are still 0. A turn runs step i and writes its count at i
--- (`forward-again`). At i = n no step is left, and columns and counts are those of `chainForwardOf`
--- (`forward-end`). The measure is n - i. Assumes nothing.
+-- all the counts; and the counts from i on are still 0. A turn runs step i and writes its count at
+-- i (`forward-again`). At i = n no step is left, and columns and counts are those of
+-- `chainForwardOf` (`forward-end`). The measure is n - i. Assumes nothing.
 use Prim.Native.Nat.{_-_}
 use native.Mathlib.Omega.{arith}
 use mathlib.Core.Path.{_≡_, refl}

@@ -12,8 +12,8 @@ reversed-requires c κs = search needs
 plan-of-step-requires : tie.Need-plan-of-step-requires
 plan-of-step-requires c κs = search needs
 
-over-one-requires : tie.Need-over-one-requires
-over-one-requires c κs = search needs
+run-plan-requires : tie.Need-run-plan-requires
+run-plan-requires c κs = search needs
 
 same-length : tie.Need-same-length
 same-length c = search needs
@@ -22,7 +22,7 @@ returns : tie.Need-returns
 unfolding stepListOf tuplesCountedOf
 returns c =
     let plan = c .before .before .before .before .plan-of-step .ensures in
-    rw (← c .before .before .before .before .before .reversed .ensures) (rw (plan, plan-turns, plan-start) at (c .before .before .over-one .ensures))
+    rw (← c .before .before .before .before .before .reversed .ensures) (rw (plan, plan-turns, plan-start) at (c .before .before .run-plan .ensures))
 
 pub run-step-spec : {M : Type 1} → statement M
-run-step-spec = tie.close (tie.spec reversed-requires plan-of-step-requires over-one-requires same-length returns)
+run-step-spec = tie.close (tie.spec reversed-requires plan-of-step-requires run-plan-requires same-length returns)

@@ -1,5 +1,6 @@
 -- One case for each kind: from what its loop ensures of a list from index 0 and no state, what it
--- makes of a part from any index and state (`looped`, and for Helmert `handed-on`). Assumes nothing.
+-- makes of a part from any index and state (`looped`, and for Helmert `handed-on`).
+-- Assumes nothing.
 use Rattle.plan_columns.proofs.Blind.{rows, looped, handed-on}
 use Rattle.columns.specs.Columns.{flatOf}
 use borrow.Author.Needs.{needs}

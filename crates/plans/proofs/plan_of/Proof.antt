@@ -1,5 +1,6 @@
 -- One case for each way through the tests. Each by `holds-helmert`, `holds-molodensky`,
--- `holds-permtide`, `holds-deformation` and `holds-cart`, from what the calls ensure. Assumes nothing.
+-- `holds-permtide`, `holds-deformation` and `holds-cart`, from what the calls ensure.
+-- Assumes nothing.
 use mathlib.Core.Path.{_≡_, sym, _∙_}
 use Rattle.plans.specs.Plans.{planOf}
 use Rattle.plans.proofs.Bodies.{holds-helmert, holds-molodensky, holds-permtide, holds-deformation, holds-cart}

@@ -1,4 +1,5 @@
--- One case for each way through the test, whose outcome picks the definition's case. Assumes nothing.
+-- One case for each way through the test, whose outcome picks the definition's case.
+-- Assumes nothing.
 use borrow.Author.Tests.{eq-eqb, ne-eqb}
 use borrow.Author.Needs.{needs}
 use Rattle.windows.proofs.reversed_by.Statement.{statement}

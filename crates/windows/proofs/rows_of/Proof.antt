@@ -5,10 +5,10 @@ use Rattle.windows.proofs.rows_of.Statement.{statement}
 use Rattle.windows.proofs.rows_of.Tie as tie
 
 returns : tie.Need-returns
-returns c = (omega arith, omega (arith, c .if1 .taken), λ h. h)
+returns c = (omega arith, omega (arith, c .if1 .taken), λ h more. h)
 
 returns-2 : tie.Need-returns-2
-returns-2 c = (omega (arith, c .if1 .left), omega arith, λ h. omega arith)
+returns-2 c = (omega (arith, c .if1 .left), omega arith, λ h more. more)
 
 pub rows-of-spec : {M : Type 1} → statement M
 rows-of-spec =
