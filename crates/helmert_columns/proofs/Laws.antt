@@ -1,6 +1,6 @@
 -- A step's own loop, by its mode, makes the list, the state and the count that the definition says.
 -- A static, fixed or own-epoch step sees the tuple alone and leaves the state. Assumes nothing.
-use Prim.Native.Nat.{ℕ, zero, suc, _+_, _*_, _/_, _≤_, _<_}
+use Prim.Native.Nat.{ℕ, suc, _+_, _/_, _≤_, _<_}
 use native.Mathlib.Nat.{add-assoc, add-zero, zero-add}
 use native.Mathlib.Omega.{arith}
 use mathlib.Core.Path.{_≡_, refl, sym, ap, _∙_}
@@ -20,7 +20,7 @@ use Rattle.columns.proofs.Laws.{flat-length}
 use Rattle.helmert.specs.declared.Shift.{Shift}
 use Rattle.helmert.specs.declared.State.{State}
 use Rattle.helmert.specs.declared.Stepped.{Stepped}
-use Rattle.helmert.specs.Modes.{stepOf, runningOf, ownEpochStepOf, fixedStepOf, timeVaryingOf, isRunningOf, isOwnEpochOf, countedOf}
+use Rattle.helmert.specs.Modes.{stepOf, runningOf, ownEpochStepOf, fixedStepOf, timeVaryingOf, isRunningOf, isOwnEpochOf}
 use Rattle.helmert.specs.Turns.{noState, allTurns, steppedTurns, helmertTurns, numberOf, timedOf}
 use Rattle.helmert.proofs.Laws.{step-in-running, step-in-own-epoch, state-stays, counts-but-in-own-epoch}
 use Rattle.helmert.proofs.Counts.{own-epoch-count, every-tuple-counts-but-in-own-epoch}

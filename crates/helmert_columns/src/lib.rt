@@ -1,10 +1,10 @@
 // Helmert over columns: the loop that a shift's mode, rotation and exactness call for, from a state
 // and on to the next.
 //
-// Mode and exactness are decided once a list, before a loop starts; direction and convention need no
-// loop of their own. The caller prepares the shift and keeps the state, so that a list may come in
-// parts. Proved equal, list, state and count, on the flat list that the columns stand for, to the
-// step's own definition from tuple to tuple. Exact: no rounding but the step's own. The loops:
+// Mode and exactness are decided once a list, before a loop starts; direction and convention need
+// no loop of their own. The caller prepares the shift and keeps the state, so that a list may come
+// in parts. Proved equal, list, state and count, on the flat list that the columns stand for, to
+// the step's own definition from tuple to tuple. Exact: no rounding but the step's own. The loops:
 // `helmert_still_columns`, `helmert_running_columns`, `helmert_exact_columns`.
 ghost use mathlib.Core.Path.{_≡_};
 ghost use mathlib.Core.Bool.{not, cond};

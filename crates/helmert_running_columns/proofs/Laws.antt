@@ -26,7 +26,7 @@ use Rattle.helmert.specs.Apply.{applyOf}
 use Rattle.helmert.specs.Modes.{nextOf, runningOf, rotationAtOf, scaleAtOf}
 use Rattle.helmert.specs.Turns.{steppedTurns}
 use Rattle.helmert.proofs.Laws.{last-time-keeps-state}
-use Rattle.helmert.proofs.Current.{held-turn}
+use Rattle.helmert.proofs.Current.{held-turn, unrotated-turn}
 use Rattle.helmert_still_columns.specs.Alike.{Alike}
 use Rattle.helmert_still_columns.proofs.Laws.{turned-row, small-angles}
 use Rattle.helmert_running_columns.specs.Lanes.{statesOf, LanesTo, Lanes}
@@ -71,6 +71,22 @@ module _ (shift : Shift) (inverse : Bool) (small : (shift .rotated && shift .exa
       → Alike (steppedTurns (runningOf shift inverse)) now t i e (applyOf inverse (now .t) s (shift .rotated) m)
   same-time t i e {now} es em still k a b v h =
       turn-at k now now v (sym (ap (nextOf shift now) h ∙ last-time-keeps-state shift now (at t k) (still k a b))) es em
+
+-- ---- a row of a shift that is not rotated, with any matrix
+
+pub unrotated-row : (shift : Shift) (inverse : Bool) → shift .rotated ≡ false → (x y z t : List Float) → Level x y z t → (i : ℕ) → i < length x → {from now : State} {s : Float} (m : Matrix) {l′ : List Float}
+    → now ≡ nextOf shift from (at t i) → s ≡ scaled shift (now .last ⊖ shift .epoch)
+    → l′ ≡ putAt (flatOf x y z t) (4 * i) (applyOf inverse (now .t) s false m (tupleAt (flatOf x y z t) (4 * i)))
+    → Passed (steppedTurns (runningOf shift inverse)) i from (flatOf x y z t) (i + 1) now l′ 1
+unfolding handed
+unrotated-row shift inverse flat x y z t h i k {from} {now} {s} m en es el =
+    turned-row i (room x y z t h i k)
+    (sym
+    (ap handed
+    (unrotated-turn shift inverse from (tupleAt (flatOf x y z t) (4 * i)) flat m
+    (record { next = en ∙ ap (nextOf shift from) (sym (row-time x y z t h i k)); held = record { scale = es; matrix = refl } })
+    refl)))
+    el
 
 -- ---- sixteen rows in two phases
 

@@ -4,10 +4,10 @@
 // T grows, and S, R and the matrix are taken anew, only where the time changes. A run of rows with
 // one time goes through a loop like that of a static shift. Where the next row has another time,
 // sixteen rows go in two phases: T and the last time row after row, then S, R, the matrix and the
-// row lane by lane, which is what the compiler makes vectors of. Proved equal, list and state, on
-// the flat list that the columns stand for, to the step's own definition from tuple to tuple. Exact:
-// no rounding but the step's own. Exact rotations: `helmert_exact_columns`. Used by
-// `helmert_columns`.
+// row lane by lane, which is what the compiler makes vectors of. Where the shift is not rotated,
+// row goes after row. Proved equal, list and state, on the flat list that the columns stand for, to
+// the step's own definition from tuple to tuple. Exact: no rounding but the step's own. Exact
+// rotations: `helmert_exact_columns`. Used by `helmert_columns`.
 ghost use Prim.Native.Nat.{_+_, _-_, _≤_, _<_};
 ghost use mathlib.Core.Path.{_≡_};
 ghost use mathlib.Core.Bool.{false, _&&_};
@@ -181,7 +181,7 @@ fn together(t: &[f64], i: usize) -> usize
 
 // Which piece takes the next rows is a matter of speed alone: each is proved to go on to the same
 // list. A row whose time the next does not have goes with fifteen more.
-pub fn run_running(
+fn in_pieces(
     x: &mut [f64],
     y: &mut [f64],
     z: &mut [f64],
@@ -208,4 +208,53 @@ pub fn run_running(
         }
     }
     state
+}
+
+// Not rotated: a row is then so little work that it is done while T grows for the next. No matrix
+// is used, and any serves.
+fn one_by_one(
+    x: &mut [f64],
+    y: &mut [f64],
+    z: &mut [f64],
+    t: &[f64],
+    inverse: bool,
+    shift: Shift,
+    from: State,
+) -> State
+    requires { ⌜ Level (now x) (now y) (now z) (now t) × (shift .rotated ≡ false) ⌝ }
+    ensures { λ r. ⌜ (flatOf (now (x .exit)) (now (y .exit)) (now (z .exit)) (now (t .entry))
+        ≡ ranOf (steppedTurns (runningOf shift inverse)) 0 from (flatOf (now (x .entry)) (now (y .entry)) (now (z .entry)) (now (t .entry))))
+        × (r ≡ stateAfterOf (steppedTurns (runningOf shift inverse)) 0 from (flatOf (now (x .entry)) (now (y .entry)) (now (z .entry)) (now (t .entry)))) ⌝ }
+{
+    let p = shift.parameters;
+    let m = rotation::rotation_matrix(p.r, false, false);
+    let mut state = from;
+    let mut i = 0;
+    while i < x.len() {
+        state = helmert::next(shift, state, t[i]);
+        let s = helmert::scale_at(p, state.last - shift.epoch);
+        helmert_still_columns::row(x, y, z, t, i, inverse, state.t, s, false, m);
+        i += 1;
+    }
+    state
+}
+
+pub fn run_running(
+    x: &mut [f64],
+    y: &mut [f64],
+    z: &mut [f64],
+    t: &[f64],
+    inverse: bool,
+    shift: Shift,
+    from: State,
+) -> State
+    requires { ⌜ Level (now x) (now y) (now z) (now t) × ((shift .rotated && shift .exact) ≡ false) ⌝ }
+    ensures { λ r. ⌜ (flatOf (now (x .exit)) (now (y .exit)) (now (z .exit)) (now (t .entry))
+        ≡ ranOf (steppedTurns (runningOf shift inverse)) 0 from (flatOf (now (x .entry)) (now (y .entry)) (now (z .entry)) (now (t .entry))))
+        × (r ≡ stateAfterOf (steppedTurns (runningOf shift inverse)) 0 from (flatOf (now (x .entry)) (now (y .entry)) (now (z .entry)) (now (t .entry)))) ⌝ }
+{
+    if shift.rotated {
+        return in_pieces(x, y, z, t, inverse, shift, from);
+    }
+    one_by_one(x, y, z, t, inverse, shift, from)
 }

@@ -4,10 +4,10 @@
 //
 // One loop serves both directions and both conventions. Also here is what loops over rows of one
 // time are made of: where such a run ends, one row, and rows through one T, S and matrix. Every
-// function is proved equal, on the flat list that the columns stand for, to the step's own definition
-// from tuple to tuple. Exact: no rounding but the step's own. Exact rotations at each row's own
-// time: `helmert_exact_columns`. Used by `helmert_running_columns`, `helmert_exact_columns` and
-// `helmert_columns`.
+// function is proved equal, on the flat list that the columns stand for, to the step's own
+// definition from tuple to tuple. Exact: no rounding but the step's own. Exact rotations at each
+// row's own time: `helmert_exact_columns`. Used by `helmert_running_columns`,
+// `helmert_exact_columns` and `helmert_columns`.
 ghost use Prim.Native.Nat.{ℕ, _*_, _≤_, _<_};
 ghost use mathlib.Core.Path.{_≡_};
 ghost use mathlib.Core.Bool.{false, _&&_};

@@ -1,7 +1,6 @@
 -- Invariant: n of the times before i are given (`GivenTo`). Assumes nothing.
 use borrow.Author.Needs.{needs}
 use Prim.Native.Nat.{_-_}
-use native.Mathlib.Omega.{arith}
 use lib.ListN.{length}
 use Rattle.helmert_columns.proofs.Laws.{GivenTo, given-start, given-again, given-end}
 use Rattle.helmert_columns.proofs.times_given.Statement.{statement}

@@ -1,6 +1,6 @@
--- The first row goes from the state before it to the state at its time (`met-row`). Invariant of the
--- loop: the rows after it, up to j, have passed at that state; to a row of that time the running step
--- makes what T, S and the matrix make (`same-time`). Assumes nothing.
+-- The first row goes from the state before it to the state at its time (`met-row`). Invariant of
+-- the loop: the rows after it, up to j, have passed at that state; of a row of that time the running
+-- step makes what T, S and the matrix make (`same-time`). Assumes nothing.
 use borrow.Author.Needs.{needs}
 use Prim.Native.Nat.{_*_, _-_, _≤_, _<_}
 use native.Mathlib.Omega.{arith}

@@ -1,5 +1,5 @@
--- The tuple read is the row's, and what T, S and the matrix make of it keeps its time (`apply-time`),
--- so a point put is the tuple put. Assumes nothing.
+-- The tuple read is the row's, and what T, S and the matrix make of it keeps its time
+-- (`apply-time`), so a point put is the tuple put. Assumes nothing.
 use borrow.Author.Needs.{needs}
 use Prim.Native.Nat.{_*_}
 use mathlib.Core.Path.{ap, _∙_}

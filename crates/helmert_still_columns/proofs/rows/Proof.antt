@@ -1,7 +1,7 @@
 -- Invariant: for any step that makes of these rows what T, S and the matrix make, the rows before i
 -- have passed. A turn is one row more (`turned-row`). Assumes nothing.
 use borrow.Author.Needs.{needs}
-use Prim.Native.Nat.{_+_, _*_, _-_, _≤_, _<_}
+use Prim.Native.Nat.{_*_, _-_, _≤_, _<_}
 use native.Mathlib.Omega.{arith}
 use mathlib.Core.Path.{_≡_, refl}
 use lib.ListN.{length}

@@ -1,7 +1,6 @@
 -- All rows go through one T, S and matrix, which is what the step makes of every tuple. Assumes
 -- nothing.
 use borrow.Author.Needs.{needs}
-use mathlib.Core.Path.{refl}
 use native.Mathlib.Omega.{arith}
 use Rattle.helmert.specs.Modes.{fixedStepOf}
 use Rattle.helmert.specs.Turns.{noState, allTurns}

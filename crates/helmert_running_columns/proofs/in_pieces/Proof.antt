@@ -1,7 +1,7 @@
 -- Invariant: the rows before i have passed, and the state is that after them. Either piece goes on
 -- from there (`passed-on`). Assumes nothing.
 use borrow.Author.Needs.{needs}
-use Prim.Native.Nat.{_+_, _*_, _-_, _≤_}
+use Prim.Native.Nat.{_-_, _≤_}
 use native.Mathlib.Omega.{arith}
 use mathlib.Core.Path.{_≡_, refl}
 use lib.ListN.{length}
@@ -11,8 +11,8 @@ use Rattle.columns.specs.Columns.{Level, flatOf}
 use Rattle.columns.specs.Passed.{Passed}
 use Rattle.columns.proofs.Passed.{passed-none, passed-on, passed-as}
 use Rattle.helmert_still_columns.proofs.Laws.{passed-through}
-use Rattle.helmert_running_columns.proofs.run_running.Statement.{statement}
-use Rattle.helmert_running_columns.proofs.run_running.Tie as tie
+use Rattle.helmert_running_columns.proofs.in_pieces.Statement.{statement}
+use Rattle.helmert_running_columns.proofs.in_pieces.Tie as tie
 
 abbrev Inv-loop : tie.InvT-loop
 Inv-loop x₀ y₀ z₀ t inverse shift state₀ i₀ x y z state i =
@@ -60,8 +60,8 @@ same-length-3 c = search needs
 returns : tie.Need-returns Inv-loop μ-loop
 returns c = let l = c .before .loop in passed-through _ _ _ _ (c .before .before .before .before .before .before .pre .0) (omega (arith, c .loop-test .left, l .inv .1)) (l .inv .3)
 
-pub run-running-spec : {M : Type 1} → statement M
-run-running-spec =
+pub in-pieces-spec : {M : Type 1} → statement M
+in-pieces-spec =
     tie.close
     (tie.spec
     Inv-loop
