@@ -13,7 +13,7 @@ write-row-requires : tie.Need-write-row-requires
 write-row-requires c κs = (c .before .before .before .before .before .before .before .before .before .before .before .before .before .before .before .before .pre .0, c .before .before .before .before .before .before .before .before .before .before .before .before .before .before .before .before .pre .5)
 
 track-stretch-requires : tie.Need-track-stretch-requires
-track-stretch-requires c κs = 
+track-stretch-requires c κs =
     let o = c .before .before .before .before .before .before .before .before .before .before .before .before .before .before .before .before .before .before .before .before .before .before .before .before .before .before .before .before .before .before in
     (o .pre .2, omega (arith, c .before .before .before .before .before .before .t .given, o .pre .4, o .pre .0 .2), omega (arith, c .before .before .before .before .before .before .t .given, o .pre .5, o .pre .0 .2))
 
@@ -21,7 +21,7 @@ add-end : tie.Need-add-end
 add-end c = omega (arith, c .before .before .before .before .before .before .before .before .track-stretch .ensures .2, c .before .before .before .before .before .before .before .before .before .before .before .before .before .before)
 
 shift-between-requires : tie.Need-shift-between-requires
-shift-between-requires c κs = 
+shift-between-requires c κs =
     let o = c .before .before .before .before .before .before .before .before .before .before .before .before .before .before .before .before .before .before .before .before .before .before .before .before .before .before .before .before .before .before .before .before .before .before .before .before .before .before .before .before .before .before .before .before .before .before .before in
     let x = c .before .before .before .before .before .before .before .before .before .before .before .before .before .before .before .before .before .before .before .before .before .before .before .before .before .before .before .before .before .x .given in (
       (omega (arith, c .before .before .before .before .before .before .before .before .before .before .before .before .before .before .before .before .before .before .before .before .before .before .before .before .before .before .before .y .given, x, o .pre .0 .0), omega (arith, c .before .before .before .before .before .before .before .before .before .before .before .before .before .before .before .before .before .before .before .before .before .before .before .before .before .z .given, x, o .pre .0 .1), omega (arith, c .before .before .before .before .before .before .before .before .before .before .before .before .before .before .before .before .before .before .before .before .before .before .before .t .given, x, o .pre .0 .2)),
@@ -69,7 +69,7 @@ same-length-12 c = c .before .before .before .before .before .before .before .be
 
 returns : tie.Need-returns
 unfolding correctedOf
-returns c = 
+returns c =
     let o = c .before .before .before .before .before .before .before .before .before .before .before .before .before .before .before .before .before .before .before .before .before .before .before .before .before .before .before .before .before .before .before .before .before .before .before .before .before .before .before .before .before .before .before .before .before .before .before .before .before .before .before .before .before .before .before .before in
     let a = o .args in
     let w = c .before .before .before .before .before .before .before .before .before .before .before .before .before .before .before .before .before .before .before .before .before .before .before .before .before .before .before .before .before .before .before .before .before .before .before .before .before .before .before .write-row .last in
