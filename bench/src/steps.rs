@@ -1,6 +1,6 @@
 //! What is run: a step of each kind and mode, with the parameters of a published shift, and the place its tuples are of.
 use job::published_shifts::{Published, datums, frames, molodensky};
-use job::{Body, Helmert, NOT_GIVEN};
+use job::{Body, Helmert, NOT_GIVEN, Step};
 
 #[derive(Clone, Copy, PartialEq)]
 pub enum Place {
@@ -23,12 +23,24 @@ pub struct Row {
     /// where the tuples of the forward step stand, and those of the inverse
     pub takes: [Place; 2],
     pub times: Times,
-    /// the aim of original / ours over a list of 2,048, forward and inverse
-    pub aims: [f64; 2],
+    /// the aims of original / ours over 2,048 fixes, flat and as columns; forward and inverse
+    pub aims: [[f64; 2]; 2],
+}
+
+/// Three steps of a sheet that is run forward.
+pub struct Chain {
+    pub steps: Vec<Step>,
+    pub takes: Place,
+    pub times: Times,
 }
 
 fn row(step: &'static str, body: Body, place: Place, times: Times, aim: f64) -> Row {
-    Row { step, body, takes: [place; 2], times, aims: [aim; 2] }
+    Row { step, body, takes: [place; 2], times, aims: [[aim; 2]; 2] }
+}
+
+/// A row whose aim over columns is another.
+fn columned(aim: f64, row: Row) -> Row {
+    Row { aims: row.aims.map(|[flat, _]| [flat, aim]), ..row }
 }
 
 fn named(all: Vec<Published>, name: &str) -> Body {
@@ -50,21 +62,40 @@ pub fn rows() -> Vec<Row> {
     let abridged = Body::Molodensky { flags: flags | 1, first, second, offsets };
     let deformation = Body::Deformation { flags: 0, ellipsoid: 1, dt: NOT_GIVEN, t_epoch: 2000.0 };
     vec![
-        row("Helmert, translation only", named(datums(), "ED50 to WGS 84, mean"), Cartesian, Differ, 2.0),
-        row("Helmert, static, rotated", named(datums(), "OSGB36 to WGS 84"), Cartesian, Differ, 2.0),
-        row("Helmert, fixed", moving(0, 2024.5), Cartesian, Differ, 2.0),
-        row("Helmert, running, times differ", moving(0, NOT_GIVEN), Cartesian, Differ, 2.0),
-        row("Helmert, running, times equal", moving(0, NOT_GIVEN), Cartesian, Equal, 2.0),
-        row("Helmert, running, exact, times differ", moving(EXACT, NOT_GIVEN), Cartesian, Differ, 2.0),
-        row("Helmert, running, exact, times equal", moving(EXACT, NOT_GIVEN), Cartesian, Equal, 2.0),
+        columned(2.5, row("Helmert, translation only", named(datums(), "ED50 to WGS 84, mean"), Cartesian, Differ, 1.5)),
+        columned(2.5, row("Helmert, static, rotated", named(datums(), "OSGB36 to WGS 84"), Cartesian, Differ, 1.5)),
+        columned(2.5, row("Helmert, fixed", moving(0, 2024.5), Cartesian, Differ, 1.5)),
+        columned(2.3, row("Helmert, running, times differ", moving(0, NOT_GIVEN), Cartesian, Differ, 1.5)),
+        columned(2.8, row("Helmert, running, times equal", moving(0, NOT_GIVEN), Cartesian, Equal, 1.5)),
+        row("Helmert, running, exact, times differ", moving(EXACT, NOT_GIVEN), Cartesian, Differ, 1.5),
+        row("Helmert, running, exact, times equal", moving(EXACT, NOT_GIVEN), Cartesian, Equal, 1.5),
         row("Helmert, own-epoch, times differ", moving(OWN_EPOCH, NOT_GIVEN), Cartesian, Differ, 0.0),
         row("Helmert, own-epoch, times equal", moving(OWN_EPOCH, NOT_GIVEN), Cartesian, Equal, 0.0),
         row("Helmert, own-epoch, exact, times differ", moving(EXACT + OWN_EPOCH, NOT_GIVEN), Cartesian, Differ, 0.0),
-        Row { step: "cart", body: Body::Cart { ellipsoid: 1 }, takes: [Geographic, Cartesian], times: Differ, aims: [1.3, 1.0] },
+        Row {
+            step: "cart",
+            body: Body::Cart { ellipsoid: 1 },
+            takes: [Geographic, Cartesian],
+            times: Differ,
+            aims: [[1.3; 2], [1.0; 2]],
+        },
         row("Molodensky, full", full, Geographic, Differ, 1.3),
         row("Molodensky, abridged", abridged, Geographic, Differ, 1.3),
         row("permtide", Body::Permtide { ellipsoid: 1, to: 1, from: 2, k: 0.3 }, Geographic, Differ, 1.3),
         row("deformation", deformation, Cartesian, Differ, 1.3),
+    ]
+}
+
+/// From one datum's ellipsoid to another's by way of the Earth's centre, as a chart's datum is reached.
+pub fn chains() -> Vec<(&'static str, Chain)> {
+    let by = |helmert: Body, times| {
+        let bodies = [Body::Cart { ellipsoid: 1 }, helmert, Body::Cart { ellipsoid: 3 }];
+        let steps = bodies.into_iter().enumerate().map(|(i, body)| Step { inverted: i == 2, body }).collect();
+        Chain { steps, takes: Geographic, times }
+    };
+    vec![
+        ("cart, static Helmert, cart inverse", by(named(datums(), "OSGB36 to WGS 84"), Differ)),
+        ("cart, running Helmert, cart inverse", by(moving(0, NOT_GIVEN), Differ)),
     ]
 }
 
@@ -74,7 +105,6 @@ impl Row {
         !matches!(&self.body, Body::Helmert(h) if h.flags & OWN_EPOCH != 0)
     }
 
-    #[cfg(kept)]
     pub fn helmert(&self) -> bool {
         matches!(self.body, Body::Helmert(_))
     }

@@ -64,6 +64,16 @@ module _ (velocities : List Float) (marks : List ℕ) where
       omega (arith, inverse-length es l, step-counts-few true velocities marks e (chainInverseOf velocities marks es l .list))
   inverse-few (e ∷ es) l (suc i) = inverse-few es l i
 
+  forward-length : (es : List Entry) (l : List Float) → length (chainForwardOf velocities marks es l .list) ≡ length l
+  unfolding chainForwardOf
+  forward-length [] l = refl
+  forward-length (e ∷ es) l = forward-length es (stepListOf false velocities marks e l) ∙ step-length false velocities marks e l
+
+  -- a chain leaves the list's length
+  pub chain-length : (inverse : Bool) (es : List Entry) (l : List Float) → length (chainOf inverse velocities marks es l .list) ≡ length l
+  chain-length true es l = inverse-length es l
+  chain-length false es l = forward-length es l
+
   chain-few : (inverse : Bool) (es : List Entry) (l : List Float) (i : ℕ) → 4 * getD (chainOf inverse velocities marks es l .counts) i 0 ≤ length l
   chain-few true es l i = inverse-few es l i
   chain-few false es l i = forward-few es l i

@@ -84,12 +84,17 @@ zeros zero (suc n) = let s : 0 - suc n ≡ 0 = omega arith in rw s
 zeros (suc m) (suc n) = let s : suc m - suc n ≡ m - n = omega arith in rw s (zeros m n)
 
 -- a count for each step
-counts-length : (velocities : List Float) (marks : List ℕ) (es : List Entry) (l : List Float) → length (chainInverseOf velocities marks es l .counts) ≡ length es
+pub counts-length : (velocities : List Float) (marks : List ℕ) (es : List Entry) (l : List Float) → length (chainInverseOf velocities marks es l .counts) ≡ length es
 unfolding chainInverseOf
 counts-length velocities marks [] l = refl
 counts-length velocities marks (e ∷ es) l = ap suc (counts-length velocities marks es l)
 
-entries-length : (entry : ℕ → Entry) (n i : ℕ) → length (entriesOf entry n i) ≡ n
+pub forward-counts-length : (velocities : List Float) (marks : List ℕ) (es : List Entry) (l : List Float) → length (chainForwardOf velocities marks es l .counts) ≡ length es
+unfolding chainForwardOf
+forward-counts-length velocities marks [] l = refl
+forward-counts-length velocities marks (e ∷ es) l = ap suc (forward-counts-length velocities marks es (stepListOf false velocities marks e l))
+
+pub entries-length : (entry : ℕ → Entry) (n i : ℕ) → length (entriesOf entry n i) ≡ n
 unfolding entriesOf
 entries-length entry zero i = refl
 entries-length entry (suc n) i = ap suc (entries-length entry n (suc i))

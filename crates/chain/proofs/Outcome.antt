@@ -1,16 +1,25 @@
 -- Which outcome each of an entry's tests leads to. Assumes nothing.
-use Prim.Native.Nat.{ℕ}
+use Prim.Native.Nat.{ℕ, _%_, _≤_}
 use mathlib.Core.Path.{_≡_}
-use mathlib.Core.Bool.{Bool, true, false}
+use mathlib.Core.Bool.{Bool, true, false, not}
 use mathlib.Core.List.{List}
-use borrow.Author.Tests.{eq-eqb, ne-eqb}
+use borrow.Author.Tests.{eq-eqb, ne-eqb, eqb-true, ltb-false, not-false}
+use lib.Dec.{eqb, ltb}
 use lib.ListN.{length}
 use lib.Ieee.{Float}
 use Rattle.sheet.specs.declared.Entry.{Entry}
 use Rattle.sheet.specs.declared.Refusal.{Refusal}
 use Rattle.sheet.specs.Rules.{ofCall, firstBroken}
+use Rattle.sheet.proofs.Order.{neither}
 use Rattle.chain.specs.Chain.{chainOf}
 use Rattle.chain.specs.Rules.{refusal9, refusal10, shiftRefusalOf, outcome, refusedAnswer, ranOutcome, outcomeOf}
+
+-- rule 9 kept: whole tuples, at most 2,048
+pub flat-nine-kept : (numbers : ℕ) → refusal9 numbers ≡ false → (numbers % 4 ≡ 0) × (numbers ≤ 8192)
+unfolding refusal9
+flat-nine-kept numbers e =
+    let k = neither (not (eqb (numbers % 4) 0)) (ltb 8192 numbers) e in
+    (eqb-true (numbers % 4) 0 (not-false _ (k .0)), ltb-false 8192 numbers (k .1))
 
 module _ (own : Refusal) (deforms inverse : Bool) (es : List Entry) (l velocities : List Float) (marks : List ℕ) where
   pub refused-own : (own .number ≡ 0 → ⊥) → outcomeOf own deforms inverse es l velocities marks ≡ outcome (refusedAnswer own) l

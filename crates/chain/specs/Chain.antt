@@ -9,14 +9,11 @@ use lib.Ieee.{Float}
 use Rattle.helmert.specs.declared.State.{State}
 use Rattle.helmert.specs.Modes.{prepareOf, startOf}
 use Rattle.bodies.specs.declared.Step.{Step}
-use Rattle.bodies.specs.Kinds.{lengthOf}
-use Rattle.bodies.specs.Read.{stepOf}
 use Rattle.bodies.specs.declared.Step.the-variants.{Cart, Permtide, Deformation, Molodensky, Helmert}
 use Rattle.sheet.specs.declared.Entry.{Entry}
 use Rattle.lists.specs.Run.{Turns, ranOf, countOf}
 use Rattle.helmert.specs.Turns.{noState, helmertTurns}
-use Rattle.runs.specs.Turns.{cartTurns, permtideTurns, molodenskyTurns}
-use Rattle.deformation_runs.specs.Turns.{deformationTurns}
+use Rattle.turns.specs.Turns.{cartTurns, permtideTurns, molodenskyTurns, deformationTurns}
 
 -- ---- one step over a list
 
@@ -36,21 +33,9 @@ stateOf (Deformation r) = noState
 stateOf (Molodensky r) = noState
 stateOf (Helmert h) = startOf (prepareOf h)
 
--- the kind that a body is read by: 0, which is none, where the body is not as long as its kind's
--- are
-abbrev pub heldKindOf : ℕ → ℕ → ℕ
-heldKindOf kind n = cond (eqb n (lengthOf kind)) kind 0
-
 -- a step runs in the chain's direction, turned round where its inverted word is 1
 abbrev pub reversedOf : Bool → Entry → Bool
 reversedOf inverse e = cond (eqb (e .inverted) 1) (not inverse) inverse
-
--- the list after a step whose body of a kind has these bytes, and how many tuples the step counted
-unfoldable pub bodyListOf : Bool → List Float → List ℕ → ℕ → List ℕ → List Float → List Float
-bodyListOf inverse velocities marks kind b l = ranOf (turnsOf inverse velocities marks (stepOf kind b)) 0 (stateOf (stepOf kind b)) l
-
-unfoldable pub bodyCountOf : Bool → List Float → List ℕ → ℕ → List ℕ → List Float → ℕ
-bodyCountOf inverse velocities marks kind b l = countOf (turnsOf inverse velocities marks (stepOf kind b)) 0 (stateOf (stepOf kind b)) l
 
 -- the list after a step, and how many tuples the step counted
 unfoldable pub stepListOf : Bool → List Float → List ℕ → Entry → List Float → List Float

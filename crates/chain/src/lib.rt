@@ -1,24 +1,24 @@
-// The chain: a sheet's steps over a lent flat list, where the list stands.
+// The chain: a sheet's steps over a lent list, in columns or flat, where the list stands.
 //
 // Document 01, "The sheet" (a chain runs steps in order, inverse in reverse with each turned round)
-// and "Numbers of refusal". `shift` checks the sheet where it lies and decodes one body at a time,
-// steps outermost and list innermost; chain_record does the same over a record that is already
-// read, and the two agree (proved there). The answer, the counts and the list are fixed for every
-// input by specs/Rules.antt over specs/Chain.antt, which is made of the steps' own definitions;
-// nothing is written before the last test has passed. No rounding but the steps' own. Used by the
-// program and by callers that keep lists.
+// and "Numbers of refusal"; document 02, A7: the list is four columns, and the flat entry converts
+// around them. `shift_columns` checks the sheet where it lies and makes one step ready at a time,
+// steps outermost and rows innermost. `shift` puts a short list into columns of its own, and a long
+// one window by window (`windows`). chain_record does the same over a record that is already read,
+// and the two agree (proved there). The answer, the counts and the list are fixed for every input by
+// specs/Rules.antt and specs/Columns.antt over specs/Chain.antt, which is made of the steps' own
+// definitions; nothing is written before the last test has passed. No rounding but the steps' own.
+// Used by the program and by callers that keep lists.
 ghost use mathlib.Core.Path.{_≡_};
-ghost use mathlib.Core.Bool.{cond, not, true, false};
-ghost use Prim.Native.Nat.{_*_, _≤_, _<_};
-ghost use lib.Dec.{eqb};
+ghost use mathlib.Core.Bool.{true, false};
+ghost use Prim.Native.Nat.{_*_, _%_, _≤_, _<_};
 ghost use lib.ListN.{length};
+ghost use Rattle.columns.specs.Columns.{columns, Level, flatOf};
 ghost use Rattle.sheet.specs.Layout.{stepCountOf, kindAt, entryAt};
-ghost use Rattle.cart.specs.Record.{blankOf};
-ghost use Rattle.bodies.specs.Read.{cartIn};
 ghost use Rattle.sheet.specs.Rules.{hasDeformation};
-ghost use Rattle.chain.specs.Chain.{heldKindOf, bodyListOf, bodyCountOf, reversedOf, stepListOf, tuplesCountedOf, chainForwardOf, chainInverseOf, placesOf, entriesOf};
+ghost use Rattle.chain.specs.Chain.{reversedOf, stepListOf, tuplesCountedOf, chainForwardOf, chainInverseOf, chainOf, placesOf, entriesOf};
 ghost use Rattle.chain.specs.Rules.{refusal9, overOne, lentFor, refusal10, refusedAnswer, ranAnswer, outcome, shiftOf};
-use cart::Cart;
+ghost use Rattle.chain.specs.Columns.{refusal9Columns, columnsOutcome, shiftColumnsOf};
 use sheet::Entry;
 use sheet::Refusal;
 
@@ -29,151 +29,211 @@ pub struct Answer {
     pub counts: [usize; 16],
 }
 
-// ----- one step over the list ----------------------------------------------------------------
-
-// A step's direction: turned round where its inverted word is 1.
-fn reversed_by(inverse: bool, inverted: u32) -> bool
-    ensures { λ r. ⌜ r ≡ cond (eqb inverted 1) (not inverse) inverse ⌝ }
-{
-    if inverted == 1 { !inverse } else { inverse }
-}
+// ----- one step over the columns ---------------------------------------------------------------
 
 pub fn reversed(inverse: bool, entry: Entry) -> bool
     ensures { λ r. ⌜ r ≡ reversedOf inverse entry ⌝ }
 {
-    reversed_by(inverse, entry.inverted)
+    sheet_plans::reversed_by(inverse, entry.inverted)
 }
 
-// A body's kind where the body is as long as its kind's are, else 0.
-fn held_kind(kind: u32, length: usize) -> u32
-    ensures { λ r. ⌜ r ≡ heldKindOf kind length ⌝ }
-{
-    if length == words::wide(bodies::length_of(kind)) {
-        return kind;
-    }
-    0
-}
-
-// The cart step that a body holds, blank where no kind is held.
-fn cart_of(kind: u32, b: &[u8]) -> Cart
-    ensures { λ r. ⌜ r ≡ cond (eqb kind 2) (cartIn (now (b .entry))) blankOf ⌝ }
-{
-    if kind == 2 {
-        return bodies::read_cart(b);
-    }
-    Cart::blank()
-}
-
-// Runs one step over the list, reading its record from the sheet's bytes. No `Step` is built: the
-// enum is as large as a Helmert record and would be copied at each call. Helmert stands apart from
-// the other kinds, so that the columns of one are not on the stack of the other.
-fn run_helmert(
-    inv: bool,
-    kind: u32,
-    b: &[u8],
-    list: &mut [f64],
+// The step at index i over the whole columns, in the chain's direction. No `Step` is built: the
+// enum is as large as a Helmert record and would be copied at each call.
+fn step_at(
+    inverse: bool,
+    s: &[u8],
+    i: usize,
+    x: &mut [f64],
+    y: &mut [f64],
+    z: &mut [f64],
+    t: &mut [f64],
     velocities: &[f64],
     marks: &[u8],
 ) -> usize
-    requires { ⌜ heldKindOf kind (length (now b)) ≡ 1 ⌝ }
-    ensures { λ r. ⌜ (now (list .exit) ≡ bodyListOf inv (now (velocities .entry)) (now (marks .entry)) kind (now (b .entry)) (now (list .entry)))
-        × (r ≡ bodyCountOf inv (now (velocities .entry)) (now (marks .entry)) kind (now (b .entry)) (now (list .entry))) ⌝ }
+    requires { ⌜ (i < stepCountOf (now s)) × Level (now x) (now y) (now z) (now t) × (length (now x) ≤ 2048) ⌝ }
+    ensures { λ r. ⌜ (flatOf (now (x .exit)) (now (y .exit)) (now (z .exit)) (now (t .exit))
+        ≡ stepListOf inverse (now (velocities .entry)) (now (marks .entry)) (entryAt (now (s .entry)) i) (flatOf (now (x .entry)) (now (y .entry)) (now (z .entry)) (now (t .entry))))
+        × (r ≡ tuplesCountedOf inverse (now (velocities .entry)) (now (marks .entry)) (entryAt (now (s .entry)) i) (flatOf (now (x .entry)) (now (y .entry)) (now (z .entry)) (now (t .entry)))) ⌝ }
 {
-    helmert_runs::run_helmert(list, inv, bodies::read_helmert(b))
-}
-
-fn run_other(
-    inv: bool,
-    kind: u32,
-    b: &[u8],
-    list: &mut [f64],
-    velocities: &[f64],
-    marks: &[u8],
-) -> usize
-    requires { ⌜ (heldKindOf kind (length (now b)) ≡ 1 → ⊥) ⌝ }
-    ensures { λ r. ⌜ (now (list .exit) ≡ bodyListOf inv (now (velocities .entry)) (now (marks .entry)) kind (now (b .entry)) (now (list .entry)))
-        × (r ≡ bodyCountOf inv (now (velocities .entry)) (now (marks .entry)) kind (now (b .entry)) (now (list .entry))) ⌝ }
-{
-    let held = held_kind(kind, b.len());
-    if held == 3 {
-        return runs::run_molodensky(list, inv, bodies::read_molodensky(b));
-    }
-    if held == 4 {
-        return runs::run_permtide(list, inv, bodies::read_permtide(b));
-    }
-    if held == 5 {
-        return deformation_runs::run_deformation(
-            list,
-            inv,
-            bodies::read_deformation(b),
-            velocities,
-            marks,
-        );
-    }
-    runs::run_cart(list, inv, cart_of(held, b))
-}
-
-// The step at index i over the list, in the chain's direction. Two copies on purpose. The compiler
-// inlines a function that has one caller; with a single `step_at` the frames of `run_helmert` and
-// `run_other` would add up (examples/c/stack.c holds the limit).
-fn forward_at(s: &[u8], i: usize, list: &mut [f64], velocities: &[f64], marks: &[u8]) -> usize
-    requires { ⌜ i < stepCountOf (now s) ⌝ }
-    ensures { λ r. ⌜ (now (list .exit) ≡ stepListOf false (now (velocities .entry)) (now (marks .entry)) (entryAt (now (s .entry)) i) (now (list .entry)))
-        × (r ≡ tuplesCountedOf false (now (velocities .entry)) (now (marks .entry)) (entryAt (now (s .entry)) i) (now (list .entry))) ⌝ }
-{
-    let inv = reversed_by(false, sheet::inverted_at(s, i));
-    let kind = sheet::kind_at(s, i);
-    let b = sheet::body_at(s, i);
-    if held_kind(kind, b.len()) == 1 {
-        return run_helmert(inv, kind, b, list, velocities, marks);
-    }
-    run_other(inv, kind, b, list, velocities, marks)
-}
-
-fn backward_at(s: &[u8], i: usize, list: &mut [f64], velocities: &[f64], marks: &[u8]) -> usize
-    requires { ⌜ i < stepCountOf (now s) ⌝ }
-    ensures { λ r. ⌜ (now (list .exit) ≡ stepListOf true (now (velocities .entry)) (now (marks .entry)) (entryAt (now (s .entry)) i) (now (list .entry)))
-        × (r ≡ tuplesCountedOf true (now (velocities .entry)) (now (marks .entry)) (entryAt (now (s .entry)) i) (now (list .entry))) ⌝ }
-{
-    let inv = reversed_by(true, sheet::inverted_at(s, i));
-    let kind = sheet::kind_at(s, i);
-    let b = sheet::body_at(s, i);
-    if held_kind(kind, b.len()) == 1 {
-        return run_helmert(inv, kind, b, list, velocities, marks);
-    }
-    run_other(inv, kind, b, list, velocities, marks)
+    let plan = sheet_plans::plan_at(inverse, s, i);
+    let from = plans::start(plan);
+    let went = plan_columns::run(plan, 0, from, x, y, z, t, velocities, marks);
+    went.count
 }
 
 // ----- a sheet's steps, one after another ------------------------------------------------------
 
-fn forward(s: &[u8], n: usize, list: &mut [f64], velocities: &[f64], marks: &[u8]) -> [usize; 16]
-    requires { ⌜ (n ≤ 16) × (n ≡ stepCountOf (now s)) ⌝ }
-    ensures { λ r. ⌜ (now (list .exit) ≡ chainForwardOf (now (velocities .entry)) (now (marks .entry)) (entriesOf (entryAt (now (s .entry))) n 0) (now (list .entry)) .list)
-        × (r ≡ placesOf (chainForwardOf (now (velocities .entry)) (now (marks .entry)) (entriesOf (entryAt (now (s .entry))) n 0) (now (list .entry)) .counts)) ⌝ }
+fn forward(
+    s: &[u8],
+    n: usize,
+    x: &mut [f64],
+    y: &mut [f64],
+    z: &mut [f64],
+    t: &mut [f64],
+    velocities: &[f64],
+    marks: &[u8],
+) -> [usize; 16]
+    requires { ⌜ (n ≤ 16) × (n ≡ stepCountOf (now s)) × Level (now x) (now y) (now z) (now t) × (length (now x) ≤ 2048) ⌝ }
+    ensures { λ r. ⌜ (flatOf (now (x .exit)) (now (y .exit)) (now (z .exit)) (now (t .exit))
+        ≡ chainForwardOf (now (velocities .entry)) (now (marks .entry)) (entriesOf (entryAt (now (s .entry))) n 0) (flatOf (now (x .entry)) (now (y .entry)) (now (z .entry)) (now (t .entry))) .list)
+        × (r ≡ placesOf (chainForwardOf (now (velocities .entry)) (now (marks .entry)) (entriesOf (entryAt (now (s .entry))) n 0) (flatOf (now (x .entry)) (now (y .entry)) (now (z .entry)) (now (t .entry))) .counts)) ⌝ }
 {
     let mut counts = [0usize; 16];
     let mut i = 0;
     while i < n {
-        let count = forward_at(s, i, list, velocities, marks); // the first step first
+        let count = step_at(false, s, i, x, y, z, t, velocities, marks); // the first step first
         counts[i] = count; // in the sheet's order
         i += 1;
     }
     counts
 }
 
-fn backward(s: &[u8], n: usize, list: &mut [f64], velocities: &[f64], marks: &[u8]) -> [usize; 16]
-    requires { ⌜ (n ≤ 16) × (n ≡ stepCountOf (now s)) ⌝ }
-    ensures { λ r. ⌜ (now (list .exit) ≡ chainInverseOf (now (velocities .entry)) (now (marks .entry)) (entriesOf (entryAt (now (s .entry))) n 0) (now (list .entry)) .list)
-        × (r ≡ placesOf (chainInverseOf (now (velocities .entry)) (now (marks .entry)) (entriesOf (entryAt (now (s .entry))) n 0) (now (list .entry)) .counts)) ⌝ }
+fn backward(
+    s: &[u8],
+    n: usize,
+    x: &mut [f64],
+    y: &mut [f64],
+    z: &mut [f64],
+    t: &mut [f64],
+    velocities: &[f64],
+    marks: &[u8],
+) -> [usize; 16]
+    requires { ⌜ (n ≤ 16) × (n ≡ stepCountOf (now s)) × Level (now x) (now y) (now z) (now t) × (length (now x) ≤ 2048) ⌝ }
+    ensures { λ r. ⌜ (flatOf (now (x .exit)) (now (y .exit)) (now (z .exit)) (now (t .exit))
+        ≡ chainInverseOf (now (velocities .entry)) (now (marks .entry)) (entriesOf (entryAt (now (s .entry))) n 0) (flatOf (now (x .entry)) (now (y .entry)) (now (z .entry)) (now (t .entry))) .list)
+        × (r ≡ placesOf (chainInverseOf (now (velocities .entry)) (now (marks .entry)) (entriesOf (entryAt (now (s .entry))) n 0) (flatOf (now (x .entry)) (now (y .entry)) (now (z .entry)) (now (t .entry))) .counts)) ⌝ }
 {
     let mut counts = [0usize; 16];
     let mut i = n;
     while 0 < i {
         i -= 1;
-        let count = backward_at(s, i, list, velocities, marks); // the last step first
+        let count = step_at(true, s, i, x, y, z, t, velocities, marks); // the last step first
         counts[i] = count;
     }
     counts
+}
+
+// The whole columns in either direction.
+fn over_columns(
+    inverse: bool,
+    s: &[u8],
+    n: usize,
+    x: &mut [f64],
+    y: &mut [f64],
+    z: &mut [f64],
+    t: &mut [f64],
+    velocities: &[f64],
+    marks: &[u8],
+) -> [usize; 16]
+    requires { ⌜ (n ≤ 16) × (n ≡ stepCountOf (now s)) × Level (now x) (now y) (now z) (now t) × (length (now x) ≤ 2048) ⌝ }
+    ensures { λ r. ⌜ (flatOf (now (x .exit)) (now (y .exit)) (now (z .exit)) (now (t .exit))
+        ≡ chainOf inverse (now (velocities .entry)) (now (marks .entry)) (entriesOf (entryAt (now (s .entry))) n 0) (flatOf (now (x .entry)) (now (y .entry)) (now (z .entry)) (now (t .entry))) .list)
+        × (r ≡ placesOf (chainOf inverse (now (velocities .entry)) (now (marks .entry)) (entriesOf (entryAt (now (s .entry))) n 0) (flatOf (now (x .entry)) (now (y .entry)) (now (z .entry)) (now (t .entry))) .counts)) ⌝ }
+{
+    if inverse {
+        return backward(s, n, x, y, z, t, velocities, marks);
+    }
+    forward(s, n, x, y, z, t, velocities, marks)
+}
+
+// ----- a flat list -----------------------------------------------------------------------------
+
+// A flat list through columns that have its rows.
+fn through(
+    inverse: bool,
+    s: &[u8],
+    n: usize,
+    list: &mut [f64],
+    x: &mut [f64],
+    y: &mut [f64],
+    z: &mut [f64],
+    t: &mut [f64],
+    velocities: &[f64],
+    marks: &[u8],
+) -> [usize; 16]
+    requires { ⌜ (n ≤ 16) × (n ≡ stepCountOf (now s)) × Level (now x) (now y) (now z) (now t) × (length (now list) ≡ 4 * length (now x)) × (length (now x) ≤ 16) ⌝ }
+    ensures { λ r. ⌜ (now (list .exit) ≡ chainOf inverse (now (velocities .entry)) (now (marks .entry)) (entriesOf (entryAt (now (s .entry))) n 0) (now (list .entry)) .list)
+        × (r ≡ placesOf (chainOf inverse (now (velocities .entry)) (now (marks .entry)) (entriesOf (entryAt (now (s .entry))) n 0) (now (list .entry)) .counts)) ⌝ }
+{
+    columns::to_columns(list, x, y, z, t);
+    let counts = over_columns(inverse, s, n, x, y, z, t, velocities, marks);
+    columns::to_flat(x, y, z, t, list);
+    counts
+}
+
+// A column's room.
+fn zeros() -> [f64; 16]
+    ensures { λ r. ⌜ 16 ≡ length r ⌝ }
+{
+    [0.0; 16]
+}
+
+// A list of at most sixteen tuples, in one go.
+fn short(
+    inverse: bool,
+    s: &[u8],
+    n: usize,
+    list: &mut [f64],
+    velocities: &[f64],
+    marks: &[u8],
+) -> [usize; 16]
+    requires { ⌜ (n ≤ 16) × (n ≡ stepCountOf (now s)) × (length (now list) % 4 ≡ 0) × (length (now list) ≤ 64) ⌝ }
+    ensures { λ r. ⌜ (now (list .exit) ≡ chainOf inverse (now (velocities .entry)) (now (marks .entry)) (entriesOf (entryAt (now (s .entry))) n 0) (now (list .entry)) .list)
+        × (r ≡ placesOf (chainOf inverse (now (velocities .entry)) (now (marks .entry)) (entriesOf (entryAt (now (s .entry))) n 0) (now (list .entry)) .counts)) ⌝ }
+{
+    let mut x = zeros();
+    let mut y = zeros();
+    let mut z = zeros();
+    let mut t = zeros();
+    let m = list.len() / 4;
+    through(
+        inverse,
+        s,
+        n,
+        list,
+        &mut x[..m],
+        &mut y[..m],
+        &mut z[..m],
+        &mut t[..m],
+        velocities,
+        marks,
+    )
+}
+
+// A sheet of one step over a long list: its plan alone is made.
+fn alone(inverse: bool, s: &[u8], list: &mut [f64], velocities: &[f64], marks: &[u8]) -> [usize; 16]
+    requires { ⌜ 0 < stepCountOf (now s) ⌝ }
+    ensures { λ r. ⌜ (now (list .exit) ≡ chainOf inverse (now (velocities .entry)) (now (marks .entry)) (entriesOf (entryAt (now (s .entry))) 1 0) (now (list .entry)) .list)
+        × (r ≡ placesOf (chainOf inverse (now (velocities .entry)) (now (marks .entry)) (entriesOf (entryAt (now (s .entry))) 1 0) (now (list .entry)) .counts)) ⌝ }
+{
+    let plan = sheet_plans::plan_at(inverse, s, 0);
+    let count = step_windows::over(plan, list, velocities, marks);
+    let mut counts = [0usize; 16];
+    counts[0] = count;
+    counts
+}
+
+// A list of whole tuples of any length in rule.
+fn over_list(
+    inverse: bool,
+    s: &[u8],
+    n: usize,
+    list: &mut [f64],
+    velocities: &[f64],
+    marks: &[u8],
+) -> [usize; 16]
+    requires { ⌜ (n ≤ 16) × (n ≡ stepCountOf (now s)) × (length (now list) % 4 ≡ 0) × (length (now list) ≤ 8192) ⌝ }
+    ensures { λ r. ⌜ (now (list .exit) ≡ chainOf inverse (now (velocities .entry)) (now (marks .entry)) (entriesOf (entryAt (now (s .entry))) n 0) (now (list .entry)) .list)
+        × (r ≡ placesOf (chainOf inverse (now (velocities .entry)) (now (marks .entry)) (entriesOf (entryAt (now (s .entry))) n 0) (now (list .entry)) .counts)) ⌝ }
+{
+    if list.len() <= 64 {
+        return short(inverse, s, n, list, velocities, marks);
+    }
+    if n == 1 {
+        return alone(inverse, s, list, velocities, marks);
+    }
+    let plans = sheet_plans::plans_of(inverse, s, n);
+    windows::over(inverse, plans, n, list, velocities, marks)
 }
 
 // ----- the rules of the lent lists --------------------------------------------------------------
@@ -183,6 +243,13 @@ pub fn list_broken(numbers: usize) -> bool
     ensures { λ r. ⌜ r ≡ refusal9 numbers ⌝ }
 {
     (numbers % 4 != 0) | (8192 < numbers)
+}
+
+// Rule 9 of columns: of unequal length, or over 2,048 rows.
+pub fn columns_broken(x: usize, y: usize, z: usize, t: usize) -> bool
+    ensures { λ r. ⌜ r ≡ refusal9Columns x y z t ⌝ }
+{
+    (y != x) | (z != x) | (t != x) | (2048 < x)
 }
 
 // A mark over 1.
@@ -263,7 +330,36 @@ pub fn ran(counts: [usize; 16]) -> Answer
     }
 }
 
-// A sheet's bytes over a list.
+// A sheet's bytes over columns.
+pub fn shift_columns(
+    inverse: bool,
+    s: &[u8],
+    x: &mut [f64],
+    y: &mut [f64],
+    z: &mut [f64],
+    t: &mut [f64],
+    velocities: &[f64],
+    marks: &[u8],
+) -> Answer
+    ensures { λ r. ⌜ columnsOutcome r (columns (now (x .exit)) (now (y .exit)) (now (z .exit)) (now (t .exit)))
+        ≡ shiftColumnsOf inverse (now (s .entry)) (columns (now (x .entry)) (now (y .entry)) (now (z .entry)) (now (t .entry))) (now (velocities .entry)) (now (marks .entry)) ⌝ }
+{
+    let own = sheet::check(s);
+    if own.number != 0 {
+        return refused(own);
+    }
+    if columns_broken(x.len(), y.len(), z.len(), t.len()) {
+        return refused(Refusal::of_call(9));
+    }
+    let n = sheet::step_count(s);
+    if lent_broken(deforms(s, n), 4 * x.len(), velocities, marks) {
+        return refused(Refusal::of_call(10));
+    }
+    let counts = over_columns(inverse, s, n, x, y, z, t, velocities, marks);
+    ran(counts)
+}
+
+// A sheet's bytes over a flat list.
 pub fn shift(inverse: bool, s: &[u8], list: &mut [f64], velocities: &[f64], marks: &[u8]) -> Answer
     ensures { λ r. ⌜ outcome r (now (list .exit)) ≡ shiftOf inverse (now (s .entry)) (now (list .entry)) (now (velocities .entry)) (now (marks .entry)) ⌝ }
 {
@@ -278,10 +374,6 @@ pub fn shift(inverse: bool, s: &[u8], list: &mut [f64], velocities: &[f64], mark
     if lent_broken(deforms(s, n), list.len(), velocities, marks) {
         return refused(Refusal::of_call(10));
     }
-    if inverse {
-        let counts = backward(s, n, list, velocities, marks);
-        return ran(counts);
-    }
-    let counts = forward(s, n, list, velocities, marks);
+    let counts = over_list(inverse, s, n, list, velocities, marks);
     ran(counts)
 }

@@ -12,13 +12,12 @@ ghost use Rattle.sheet.specs.Rules.{hasDeformation};
 ghost use Rattle.chain.specs.Chain.{stepListOf, tuplesCountedOf, chainForwardOf, chainInverseOf, placesOf, entriesOf};
 ghost use Rattle.chain.specs.Rules.{outcome};
 ghost use Rattle.chain_record.specs.Record.{shiftRecordOf};
-use bodies::Step;
 use chain::Answer;
 use sheet::Entry;
 use sheet::Refusal;
 use sheet::Sheet;
 
-// The kind is decided here, once a list.
+// One step over the list, a window of it at a time.
 fn run_step(
     inverse: bool,
     entry: Entry,
@@ -31,23 +30,7 @@ fn run_step(
 {
     let inv = chain::reversed(inverse, entry);
     let step = entry.step;
-    match step {
-        Step::Cart(r) => {
-            return runs::run_cart(list, inv, r);
-        }
-        Step::Permtide(r) => {
-            return runs::run_permtide(list, inv, r);
-        }
-        Step::Deformation(r) => {
-            return deformation_runs::run_deformation(list, inv, r, velocities, marks);
-        }
-        Step::Molodensky(r) => {
-            return runs::run_molodensky(list, inv, r);
-        }
-        Step::Helmert(h) => {
-            return helmert_runs::run_helmert(list, inv, h);
-        }
-    }
+    step_windows::over(plans::plan_of_step(inv, step), list, velocities, marks)
 }
 
 fn forward_record(

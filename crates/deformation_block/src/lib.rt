@@ -5,7 +5,7 @@
 // depends on the step and not on the tuple is decided before. An absent velocity is worked on like
 // the others, and NaN is written in the end. The columns that the results go to serve for the parts
 // before. Every number is `deformation::common`'s in every bit: proved place by place against the
-// same definition. Used by `deformation_runs`.
+// same definition. Used by `deformation_columns`.
 ghost use mathlib.Core.Path.{_≡_};
 ghost use Prim.Native.Nat.{ℕ};
 ghost use lib.Dec.{eqb};

@@ -14,16 +14,16 @@ use Rattle.sheet.specs.Rules.{rule, accepted, ofCall, firstBroken, refusalOf}
 use Rattle.sheet.proofs.Order.{neither}
 use Rattle.chain.specs.Rules.{refusal9}
 use Rattle.stretch.specs.Kept.{Kept, Redone, freshOf, correctedOf}
-use Rattle.kept.specs.Entries.{refusal12, refusal13, refusal14, keptOrder, keepRefusalOf, correctRefusalOf, shiftIn, reversedIn, keepOf, outcome, correctedAs, correctOf}
+use Rattle.kept.specs.Entries.{refusal12, refusal13, refusal14, orderBy, keptOrder, keepRefusalOf, correctRefusalOf, shiftIn, reversedIn, keepOf, outcome, correctedAs, correctOf}
 
 -- ---- the order
 
 -- the answer, by whether the sheet has a refusal of its own and by the three rules; `later` where
 -- all are kept
-abbrev inOrder : Refusal → Bool → Bool → Bool → Bool → Refusal → Refusal
+abbrev pub inOrder : Refusal → Bool → Bool → Bool → Bool → Refusal → Refusal
 inOrder own none b12 b9 b13 later = cond (not none) own (cond b12 (ofCall 12) (cond b9 (ofCall 9) (cond b13 (ofCall 13) later)))
 
-first-stays : (own later : Refusal) (none b12 b9 b13 : Bool) → (inOrder own none b12 b9 b13 accepted .number ≡ 0 → ⊥)
+pub first-stays : (own later : Refusal) (none b12 b9 b13 : Bool) → (inOrder own none b12 b9 b13 accepted .number ≡ 0 → ⊥)
     → inOrder own none b12 b9 b13 accepted ≡ inOrder own none b12 b9 b13 later
 first-stays own later false b12 b9 b13 h = refl
 first-stays own later true true b9 b13 h = refl
@@ -31,7 +31,7 @@ first-stays own later true false true b13 h = refl
 first-stays own later true false false true h = refl
 first-stays own later true false false false h = absurd (h refl)
 
-all-pass : (own : Refusal) (none b12 b9 b13 : Bool) → (none ≡ false → own .number ≡ 0 → ⊥) → inOrder own none b12 b9 b13 accepted .number ≡ 0
+pub all-pass : (own : Refusal) (none b12 b9 b13 : Bool) → (none ≡ false → own .number ≡ 0 → ⊥) → inOrder own none b12 b9 b13 accepted .number ≡ 0
     → (none ≡ true) × (b12 ≡ false) × (b9 ≡ false) × (b13 ≡ false)
 all-pass own false b12 b9 b13 h e = absurd (h refl e)
 all-pass own true true b9 b13 h e = absurd (omega arith)
@@ -49,29 +49,34 @@ pub record Passed (s : List ℕ) (list results track : ℕ) : Type 0 where
   pub long-results : results ≡ list
   pub long-track : track ≡ list
 
-module _ (s : List ℕ) (list results track : ℕ) where
-  abbrev answer : Refusal
-  answer = firstBroken (keptOrder s list results track [])
+-- by whether rules 9 and 13 are broken
+module _ (s : List ℕ) (nine thirteen : Bool) where
+  abbrev asked : Refusal
+  asked = firstBroken (orderBy s nine thirteen [])
 
-  pub own-refused : (refusalOf s .number ≡ 0 → ⊥) → refusalOf s ≡ answer
+  pub own-refused : (refusalOf s .number ≡ 0 → ⊥) → refusalOf s ≡ asked
   unfolding firstBroken
   own-refused h = rw (ne-eqb _ _ h)
 
-  pub refused-12 : refusalOf s .number ≡ 0 → refusal12 s ≡ true → ofCall 12 ≡ answer
+  pub refused-12 : refusalOf s .number ≡ 0 → refusal12 s ≡ true → ofCall 12 ≡ asked
   unfolding firstBroken
   refused-12 h a = rw (eq-eqb _ _ h, a)
 
-  pub refused-9 : refusalOf s .number ≡ 0 → refusal12 s ≡ false → refusal9 list ≡ true → ofCall 9 ≡ answer
+  pub refused-9 : refusalOf s .number ≡ 0 → refusal12 s ≡ false → nine ≡ true → ofCall 9 ≡ asked
   unfolding firstBroken
   refused-9 h a b = rw (eq-eqb _ _ h, a, b)
 
-  pub refused-13 : refusalOf s .number ≡ 0 → refusal12 s ≡ false → refusal9 list ≡ false → refusal13 list results track ≡ true → ofCall 13 ≡ answer
+  pub refused-13 : refusalOf s .number ≡ 0 → refusal12 s ≡ false → nine ≡ false → thirteen ≡ true → ofCall 13 ≡ asked
   unfolding firstBroken
   refused-13 h a b d = rw (eq-eqb _ _ h, a, b, d)
 
-  pub none-refused : refusalOf s .number ≡ 0 → refusal12 s ≡ false → refusal9 list ≡ false → refusal13 list results track ≡ false → accepted ≡ answer
+  pub none-refused : refusalOf s .number ≡ 0 → refusal12 s ≡ false → nine ≡ false → thirteen ≡ false → accepted ≡ asked
   unfolding firstBroken
   none-refused h a b d = rw (eq-eqb _ _ h, a, b, d)
+
+module _ (s : List ℕ) (list results track : ℕ) where
+  abbrev answer : Refusal
+  answer = firstBroken (keptOrder s list results track [])
 
   pub passed : answer .number ≡ 0 → Passed s list results track
   unfolding firstBroken refusal9 refusal13

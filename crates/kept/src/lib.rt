@@ -16,7 +16,7 @@ ghost use mathlib.Core.Path.{_≡_};
 ghost use mathlib.Core.List.{[]};
 ghost use Rattle.sheet.specs.Rules.{firstBroken};
 ghost use Rattle.stretch.specs.Kept.{keptOf};
-ghost use Rattle.kept.specs.Entries.{refusal12, refusal13, refusal14, keptOrder, keepRefusalOf, keepOf, helmertOf, outcome, correctOf};
+ghost use Rattle.kept.specs.Entries.{refusal12, refusal13, refusal14, orderBy, keptOrder, keepRefusalOf, keepOf, helmertOf, outcome, correctOf};
 use bodies::Step;
 use helmert::Helmert;
 use sheet::Entry;
@@ -39,7 +39,7 @@ fn helmert_of(step: Step) -> Helmert
 }
 
 // The same of a sheet's entry.
-fn step_of(entry: Entry) -> Helmert
+pub fn step_of(entry: Entry) -> Helmert
     ensures { λ r. ⌜ r ≡ helmertOf (entry .step) ⌝ }
 {
     let step = entry.step;
@@ -63,15 +63,15 @@ fn lengths_broken(list: usize, results: usize, track: usize) -> bool
 }
 
 // Rule 14: no fix at the index.
-fn index_broken(list: usize, index: usize) -> bool
+pub fn index_broken(list: usize, index: usize) -> bool
     ensures { λ r. ⌜ r ≡ refusal14 list index ⌝ }
 {
     !(index < list / 4)
 }
 
-// The sheet's own, then 12, 9 and 13, by the lengths of the three lists.
-fn check(s: &[u8], list: usize, results: usize, track: usize) -> Refusal
-    ensures { λ r. ⌜ r ≡ firstBroken (keptOrder (now (s .entry)) list results track []) ⌝ }
+// The sheet's own, then 12, 9 and 13, of which the last two are asked of lengths.
+pub fn check_order(s: &[u8], nine: bool, thirteen: bool) -> Refusal
+    ensures { λ r. ⌜ r ≡ firstBroken (orderBy (now (s .entry)) nine thirteen []) ⌝ }
 {
     let own = sheet::check(s);
     if own.number != 0 {
@@ -80,13 +80,22 @@ fn check(s: &[u8], list: usize, results: usize, track: usize) -> Refusal
     if step_broken(s) {
         return Refusal::of_call(12);
     }
-    if chain::list_broken(list) {
+    if nine {
         return Refusal::of_call(9);
     }
-    if lengths_broken(list, results, track) {
+    if thirteen {
         return Refusal::of_call(13);
     }
     Refusal::none()
+}
+
+// The same by the lengths of three flat lists.
+fn check(s: &[u8], list: usize, results: usize, track: usize) -> Refusal
+    ensures { λ r. ⌜ r ≡ firstBroken (keptOrder (now (s .entry)) list results track []) ⌝ }
+{
+    let nine = chain::list_broken(list);
+    let thirteen = lengths_broken(list, results, track);
+    check_order(s, nine, thirteen)
 }
 
 // ----- the entries -----------------------------------------------------------------------------
@@ -108,7 +117,7 @@ pub fn keep(
         return refusal;
     }
     let entry = sheet::entry_at(s, 0);
-    stretch::fresh(
+    stretch_flat::fresh(
         step_of(entry),
         chain::reversed(inverse, entry), // turned round where the step is inverted
         list,
@@ -153,7 +162,7 @@ pub fn correct(
         };
     }
     let entry = sheet::entry_at(s, 0);
-    let n = stretch::put_right(
+    let n = stretch_flat::put_right(
         step_of(entry),
         chain::reversed(inverse, entry),
         list,

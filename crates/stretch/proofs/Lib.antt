@@ -1,9 +1,12 @@
 pub mod Data
 pub mod Again
+pub mod Track
 pub mod Stretch
 pub mod Meeting
 pub mod Words
 pub mod Start
 pub mod Laws
-pub mod Afresh
-pub mod Fit
+pub mod Made
+pub mod Parts
+pub mod Fits
+pub mod Copied

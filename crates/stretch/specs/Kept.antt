@@ -46,6 +46,10 @@ freshOf shift inverse list =
 abbrev pub stateTurns : Shift → Turns State
 stateTurns shift k state v = record { state = cond (isRunningOf shift) (nextOf shift state (v .t)) state; tuple = v; counted = true }
 
+-- a list of whole tuples, and another as long
+unfoldable pub asLongOf : ℕ → ℕ → Bool
+asLongOf list other = eqb (list % 4) 0 && eqb other list
+
 -- a list of whole tuples, with results and track as long as it
 unfoldable pub fitOf : ℕ → ℕ → ℕ → Bool
 fitOf list results track = eqb (list % 4) 0 && eqb results list && eqb track list

@@ -1,4 +1,7 @@
--- What the contracts of `stretch` cite; and what a correction leaves alone.
+-- What the contracts of `stretch` cite; what a correction leaves alone; and the same over columns.
 pub mod Same
 pub mod Kept
 pub mod Unwritten
+pub mod Rows
+pub mod Track
+pub mod KeptColumns

@@ -13,7 +13,7 @@ use Rattle.bodies.specs.declared.Step.the-variants.{Cart as cartStep, Helmert a
 use Rattle.sheet.specs.declared.Entry.{Entry}
 use Rattle.lists.specs.Run.{ranOf, countOf}
 use Rattle.helmert.specs.Turns.{noState, helmertTurns}
-use Rattle.runs.specs.Turns.{cartTurns}
+use Rattle.turns.specs.Turns.{cartTurns}
 use Rattle.chain.specs.declared.Answer.{Answer}
 use Rattle.chain.specs.Chain.{reversedOf, turnsOf, stateOf, stepListOf, tuplesCountedOf}
 use Rattle.chain.specs.Rules.{Outcome, outcome}
@@ -31,7 +31,7 @@ module _ (inverse : Bool) (velocities : List Float) (marks : List ℕ) (us : Lis
       let turns = turnsOf (reversedOf inverse e) velocities marks (e .step) in
       (flat-tuples turns 0 (stateOf (e .step)) us, flat-tally turns 0 (stateOf (e .step)) us)
 
-  -- ---- Helmert in every mode, with its carried state: `helmert_runs::run_helmert`'s list and count
+  -- ---- Helmert in every mode, with its carried state: `helmert_columns::run_helmert`'s list and count
 
   pub helmert-is-flat : (h : Helmert)
       → (flatOf (stepTuplesOf inverse velocities marks (helmertStep h) us) ≡ ranOf (helmertTurns inverse (prepareOf h)) 0 (startOf (prepareOf h)) (flatOf us))
@@ -39,7 +39,7 @@ module _ (inverse : Bool) (velocities : List Float) (marks : List ℕ) (us : Lis
   helmert-is-flat h =
       (flat-tuples (helmertTurns inverse (prepareOf h)) 0 (startOf (prepareOf h)) us, flat-tally (helmertTurns inverse (prepareOf h)) 0 (startOf (prepareOf h)) us)
 
-  -- ---- cart, which has no state: `runs::run_cart`'s
+  -- ---- cart, which has no state: `cart_columns`'s
 
   pub cart-is-flat : (r : Cart)
       → (flatOf (stepTuplesOf inverse velocities marks (cartStep r) us) ≡ ranOf (cartTurns inverse r) 0 noState (flatOf us))

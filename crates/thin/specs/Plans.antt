@@ -17,8 +17,7 @@ use Rattle.bodies.specs.declared.Step.{Step}
 use Rattle.bodies.specs.declared.Step.the-variants.{Cart, Permtide, Deformation, Molodensky, Helmert}
 use Rattle.lists.specs.Run.{Turn, Turns}
 use Rattle.helmert.specs.Turns.{noState, allTurns, helmertTurns}
-use Rattle.runs.specs.Turns.{plainTurns}
-use Rattle.deformation_runs.specs.Turns.{movedTurns}
+use Rattle.turns.specs.Turns.{plainTurns, movedTurns}
 use Rattle.thin.specs.declared.Plan.{Plan}
 use Rattle.thin.specs.declared.Plan.the-variants.{CartForward, CartInverse, PermtideForward, PermtideInverse, MolodenskyEither, DeformationEither, HelmertEither}
 use Rattle.thin.specs.declared.Carried.{Carried}

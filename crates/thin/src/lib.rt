@@ -169,8 +169,8 @@ fn turn(plan: Plan, at: Carried, k: usize, u: Tuple, velocities: &[f64], marks: 
             return carried_on(at, state, v, true);
         }
         Plan::DeformationEither(op, inverse) => {
-            let v = deformation_runs::velocity_at(velocities, k);
-            let r = deformation::common(op, inverse, v, deformation_runs::mark_at(marks, k), u);
+            let v = turns::velocity_at(velocities, k);
+            let r = deformation::common(op, inverse, v, turns::mark_at(marks, k), u);
             return carried_on(at, state, r.tuple, r.counted);
         }
         Plan::HelmertEither(shift, inverse) => {

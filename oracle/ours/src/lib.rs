@@ -1,4 +1,9 @@
 //! The library under test, by its exported functions.
+//!
+//! Each shift, fresh run and correction is made twice, through the flat entry and through the
+//! columns entry, and the two have to agree in the answer and in every number (`columns`).
+pub mod columns;
+
 use job::{Answer, Job, sheet};
 
 unsafe extern "C" {
@@ -93,8 +98,8 @@ pub fn shift(job: &Job) -> Answer {
     shift_bytes(job.inverse, &sheet(&job.steps), &job.list, &job.velocities, &job.marks)
 }
 
-pub fn shift_bytes(inverse: bool, sheet: &[u8], list: &[f64], velocities: &[f64], marks: &[u8]) -> Answer {
-    let mut list = list.to_vec();
+pub fn shift_bytes(inverse: bool, sheet: &[u8], before: &[f64], velocities: &[f64], marks: &[u8]) -> Answer {
+    let mut list = before.to_vec();
     let mut counts = [u32::MAX; 16]; // each is written, refused or not
     let told = unsafe {
         sillfeather_shift(
@@ -111,12 +116,14 @@ pub fn shift_bytes(inverse: bool, sheet: &[u8], list: &[f64], velocities: &[f64]
         )
     };
     let (refusal, step) = apart(told);
+    columns::shifts_alike(inverse, sheet, before, (told, &counts, &list), velocities, marks);
     Answer { refusal, step, counts, list }
 }
 
 /// A fresh kept run; the refusal's number and step.
 pub fn keep(inverse: bool, sheet: &[u8], list: &[f64], results: &mut [f64], track: &mut [f64]) -> (u32, u32) {
-    apart(unsafe {
+    let before = [list.to_vec(), results.to_vec(), track.to_vec()];
+    let told = unsafe {
         sillfeather_keep(
             inverse as u32,
             sheet.as_ptr(),
@@ -128,7 +135,9 @@ pub fn keep(inverse: bool, sheet: &[u8], list: &[f64], results: &mut [f64], trac
             track.as_mut_ptr(),
             track.len(),
         )
-    })
+    };
+    columns::keeps_alike(inverse, sheet, &before, (told, [list, results, track]));
+    apart(told)
 }
 
 /// A correction of one fix; the refusal's number and step, and the count.
@@ -139,6 +148,7 @@ pub fn correct(
     index: u64,
     fix: [f64; 4],
 ) -> ((u32, u32), u64) {
+    let before = [list.to_vec(), results.to_vec(), track.to_vec()];
     let mut redone = u64::MAX; // written, refused or not
     let told = unsafe {
         sillfeather_correct(
@@ -156,6 +166,7 @@ pub fn correct(
             &mut redone,
         )
     };
+    columns::corrects_alike(inverse, sheet, &before, (index, fix), (told, redone, [list, results, track]));
     (apart(told), redone)
 }
 

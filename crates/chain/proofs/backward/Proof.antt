@@ -1,31 +1,32 @@
--- Invariant (`Backward`): the list is what the steps from index i on make of the list at the start,
--- the last step first, and the counts from i on are theirs, followed by zeros. A turn lowers i and
--- runs the step there (`backward_at`), which adds that step to those that have run
--- (`backward-again`). At i = 0 all steps have run, and list and counts are those of
--- `chainInverseOf` (`backward-end`). The measure is i. Assumes nothing.
-use borrow.Author.Needs.{needs}
+-- Invariant (`Backward`): the columns are what the steps from index i on have made of them, the last
+-- first, and the counts from i on are theirs. A turn runs the step before i (`backward-again`). At
+-- i = 0 every step has run (`backward-end`). The measure is i. Assumes nothing.
+use Prim.Native.Nat.{_-_}
 use native.Mathlib.Omega.{arith}
-use Prim.Native.Nat.{_+_, _-_}
 use mathlib.Core.Path.{_≡_, refl}
+use lib.ListN.{length}
+use Rattle.columns.specs.Columns.{Level, flatOf}
 use Rattle.sheet.specs.Layout.{entryAt}
 use Rattle.chain.proofs.Laws.{Backward, backward-start, backward-again, backward-end}
+use borrow.Author.Needs.{needs}
 use Rattle.chain.proofs.backward.Statement.{statement}
 use Rattle.chain.proofs.backward.Tie as tie
 
 abbrev Inv-loop : tie.InvT-loop
-Inv-loop s n list₀ velocities marks counts₀ i₀ list counts i = Backward velocities marks (entryAt s) n list₀ i list counts
+Inv-loop s n x₀ y₀ z₀ t₀ velocities marks counts₀ i₀ x y z t counts i =
+    Level x y z t × (length x ≡ length x₀) × Backward velocities marks (entryAt s) n (flatOf x₀ y₀ z₀ t₀) i (flatOf x y z t) counts
 
 abbrev μ-loop : tie.MeasureT-loop
-μ-loop s n list₀ velocities marks counts₀ i₀ list counts i = i
+μ-loop s n x₀ y₀ z₀ t₀ velocities marks counts₀ i₀ x y z t counts i = i
 
 loop-holds : tie.Need-loop-holds Inv-loop μ-loop
-loop-holds c = backward-start _ _ _ _ _ (c .before .before .before .before .pre .0)
+loop-holds c = let p = c .before .before .before .before .before .before .before .pre in (p .2, refl, backward-start _ _ _ _ _ (p .0))
 
 sub-i : tie.Need-sub-i Inv-loop μ-loop
 sub-i c = search needs
 
-backward-at-requires : tie.Need-backward-at-requires Inv-loop μ-loop
-backward-at-requires c κs = search needs
+step-at-requires : tie.Need-step-at-requires Inv-loop μ-loop
+step-at-requires c κs = let l = c .before .before .before .before .before .loop in let p = c .before .before .before .before .before .before .before .before .before .before .before .before .before .pre in (omega (arith, p .1, c .before .before .before .before .loop-test .taken, l .inv .2 .within), l .inv .0, omega (arith, l .inv .1, p .3))
 
 mul-counts : tie.Need-mul-counts Inv-loop μ-loop
 mul-counts c = search needs
@@ -34,19 +35,29 @@ array-write-counts : tie.Need-array-write-counts Inv-loop μ-loop
 array-write-counts c = search needs
 
 loop-less : tie.Need-loop-less Inv-loop μ-loop
-loop-less c = search needs
+loop-less c = omega (arith, c .before .before .before .before .before .before .before .before .before .before .before .before .before .loop-test .taken)
 
 loop-again : tie.Need-loop-again Inv-loop μ-loop
 loop-again c =
-    let l = c .before .before .before .before .before .loop in
-    let j : l .i - 1 + 1 ≡ l .i = omega (arith, c .before .before .before .before .loop-test .taken) in
-    backward-again (c .before .before .before .before .before .before .before .before .before .before .pre .0) (l .i - 1) j refl (c .before .before .backward-at .ensures .0) (c .before .before .backward-at .ensures .1) (l .inv)
+    let l = c .before .before .before .before .before .before .before .before .before .before .before .before .before .before .loop in
+    let p = c .before .before .before .before .before .before .before .before .before .before .before .before .before .before .before .before .before .before .before .before .before .before .pre in
+    let e = c .before .before .before .before .before .before .before .before .step-at .ensures in
+    ((search needs, search needs, search needs), search needs, backward-again (p .0) (l .i - 1) (omega (arith, c .before .before .before .before .before .before .before .before .before .before .before .before .before .loop-test .taken)) refl (e .0) (e .1) (l .inv .2))
 
 same-length : tie.Need-same-length Inv-loop μ-loop
-same-length c = c .before .loop .inv .long
+same-length c = search needs
+
+same-length-2 : tie.Need-same-length-2 Inv-loop μ-loop
+same-length-2 c = search needs
+
+same-length-3 : tie.Need-same-length-3 Inv-loop μ-loop
+same-length-3 c = search needs
+
+same-length-4 : tie.Need-same-length-4 Inv-loop μ-loop
+same-length-4 c = search needs
 
 returns : tie.Need-returns Inv-loop μ-loop
-returns c = backward-end (c .before .before .before .before .before .before .pre .0) (search needs) (c .before .loop .inv)
+returns c = backward-end (c .before .before .before .before .before .before .before .before .before .pre .0) (search needs) (c .before .loop .inv .2)
 
 pub backward-spec : {M : Type 1} → statement M
 backward-spec =
@@ -56,10 +67,13 @@ backward-spec =
     μ-loop
     loop-holds
     sub-i
-    backward-at-requires
+    step-at-requires
     mul-counts
     array-write-counts
     loop-less
     loop-again
     same-length
+    same-length-2
+    same-length-3
+    same-length-4
     returns)

@@ -1,27 +1,31 @@
--- Invariant (`Forward`): the steps from index i on make of the list as it stands what all steps
--- make of the list at the start; the counts before i, followed by the counts of those steps, are
--- all the counts; and the counts from i on are still 0. A turn runs step i (`forward_at`) and
--- writes its count at i (`forward-again`). At i = n no step is left, and list and counts are those
--- of `chainForwardOf` (`forward-end`). The measure is n - i. Assumes nothing.
-use borrow.Author.Needs.{needs}
+-- Invariant (`Forward`): the steps from index i on make of the columns as they stand what all steps
+-- make of the columns at the start; the counts before i, followed by the counts of those steps, are
+-- all the counts; and the counts from i on are still 0. A turn runs step i and writes its count at i
+-- (`forward-again`). At i = n no step is left, and columns and counts are those of `chainForwardOf`
+-- (`forward-end`). The measure is n - i. Assumes nothing.
 use Prim.Native.Nat.{_-_}
-use mathlib.Core.Path.{refl}
+use native.Mathlib.Omega.{arith}
+use mathlib.Core.Path.{_≡_, refl}
+use lib.ListN.{length}
+use Rattle.columns.specs.Columns.{Level, flatOf}
 use Rattle.sheet.specs.Layout.{entryAt}
 use Rattle.chain.proofs.Laws.{Forward, forward-start, forward-again, forward-end}
+use borrow.Author.Needs.{needs}
 use Rattle.chain.proofs.forward.Statement.{statement}
 use Rattle.chain.proofs.forward.Tie as tie
 
 abbrev Inv-loop : tie.InvT-loop
-Inv-loop s n list₀ velocities marks counts₀ i₀ list counts i = Forward velocities marks (entryAt s) n list₀ i list counts
+Inv-loop s n x₀ y₀ z₀ t₀ velocities marks counts₀ i₀ x y z t counts i =
+    Level x y z t × (length x ≡ length x₀) × Forward velocities marks (entryAt s) n (flatOf x₀ y₀ z₀ t₀) i (flatOf x y z t) counts
 
 abbrev μ-loop : tie.MeasureT-loop
-μ-loop s n list₀ velocities marks counts₀ i₀ list counts i = n - i
+μ-loop s n x₀ y₀ z₀ t₀ velocities marks counts₀ i₀ x y z t counts i = n - i
 
 loop-holds : tie.Need-loop-holds Inv-loop μ-loop
-loop-holds c = forward-start _ _ _ _ _ (c .before .before .before .before .pre .0)
+loop-holds c = let p = c .before .before .before .before .before .before .before .pre in (p .2, refl, forward-start _ _ _ _ _ (p .0))
 
-forward-at-requires : tie.Need-forward-at-requires Inv-loop μ-loop
-forward-at-requires c κs = search needs
+step-at-requires : tie.Need-step-at-requires Inv-loop μ-loop
+step-at-requires c κs = let l = c .before .before .before .before .before .loop in let p = c .before .before .before .before .before .before .before .before .before .before .before .before .before .pre in (omega (arith, p .1, c .before .before .before .before .loop-test .taken), l .inv .0, omega (arith, l .inv .1, p .3))
 
 mul-counts : tie.Need-mul-counts Inv-loop μ-loop
 mul-counts c = search needs
@@ -33,17 +37,29 @@ add-i : tie.Need-add-i Inv-loop μ-loop
 add-i c = search needs
 
 loop-less : tie.Need-loop-less Inv-loop μ-loop
-loop-less c = search needs
+loop-less c = omega (arith, c .before .before .before .before .before .before .before .before .before .before .before .before .before .loop-test .taken)
 
 loop-again : tie.Need-loop-again Inv-loop μ-loop
 loop-again c =
-    forward-again (c .before .before .before .before .before .before .before .before .before .before .pre .0) (search needs) refl (c .before .before .forward-at .ensures .0) (c .before .before .forward-at .ensures .1) (c .before .before .before .before .before .loop .inv)
+    let l = c .before .before .before .before .before .before .before .before .before .before .before .before .before .before .loop in
+    let p = c .before .before .before .before .before .before .before .before .before .before .before .before .before .before .before .before .before .before .before .before .before .before .pre in
+    let e = c .before .before .before .before .before .before .before .before .step-at .ensures in
+    ((search needs, search needs, search needs), search needs, forward-again (p .0) (c .before .before .before .before .before .before .before .before .before .before .before .before .before .loop-test .taken) refl (e .0) (e .1) (l .inv .2))
 
 same-length : tie.Need-same-length Inv-loop μ-loop
-same-length c = c .before .loop .inv .long
+same-length c = search needs
+
+same-length-2 : tie.Need-same-length-2 Inv-loop μ-loop
+same-length-2 c = search needs
+
+same-length-3 : tie.Need-same-length-3 Inv-loop μ-loop
+same-length-3 c = search needs
+
+same-length-4 : tie.Need-same-length-4 Inv-loop μ-loop
+same-length-4 c = search needs
 
 returns : tie.Need-returns Inv-loop μ-loop
-returns c = forward-end (c .before .before .before .before .before .before .pre .0) (search needs) (c .before .loop .inv)
+returns c = forward-end (c .before .before .before .before .before .before .before .before .before .pre .0) (search needs) (c .before .loop .inv .2)
 
 pub forward-spec : {M : Type 1} → statement M
 forward-spec =
@@ -52,11 +68,14 @@ forward-spec =
     Inv-loop
     μ-loop
     loop-holds
-    forward-at-requires
+    step-at-requires
     mul-counts
     array-write-counts
     add-i
     loop-less
     loop-again
     same-length
+    same-length-2
+    same-length-3
+    same-length-4
     returns)

@@ -4,6 +4,7 @@
 -- (`run_step`, `entryOf`) and writes its count at i (`forward-again`). At i = n no step is left,
 -- and list and counts are those of `chainForwardOf` (`forward-end`). The measure is n - i.
 -- Assumes nothing.
+use native.Mathlib.Omega.{arith}
 use borrow.Author.Needs.{needs}
 use Prim.Native.Nat.{_-_}
 use mathlib.Core.Path.{refl}

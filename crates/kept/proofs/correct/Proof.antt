@@ -3,7 +3,7 @@
 use borrow.Author.Needs.{needs}
 use mathlib.Core.Path.{sym, ap, _∙_}
 use Rattle.sheet.specs.declared.Refusal.{Refusal}
-use Rattle.stretch.proofs.Fit.{fit-told, right-fits}
+use Rattle.stretch_flat.proofs.Fit.{fit-told, right-fits}
 use Rattle.kept.specs.Entries.{keepRefusalOf}
 use Rattle.kept.proofs.Answers.{passed, below, correct-refused, correct-refused-14, correct-done}
 use Rattle.kept.proofs.correct.Statement.{statement}

@@ -3,7 +3,7 @@
 use borrow.Author.Needs.{needs}
 use mathlib.Core.Path.{sym, ap, _∙_}
 use Rattle.sheet.specs.declared.Refusal.{Refusal}
-use Rattle.stretch.proofs.Fit.{fit-told, fresh-fits}
+use Rattle.stretch_flat.proofs.Fit.{fit-told, fresh-fits}
 use Rattle.kept.specs.Entries.{keepRefusalOf}
 use Rattle.kept.proofs.Answers.{passed, keep-refused, keep-done}
 use Rattle.kept.proofs.keep.Statement.{statement}

@@ -1,0 +1,60 @@
+-- The row read is the flat list's tuple, its time stays (`forward-time`), and a tuple put where it
+-- was read is one row passed (`passed-row`). Assumes nothing.
+use borrow.Author.Needs.{needs}
+use Prim.Native.Nat.{_*_}
+use mathlib.Core.Path.{ap, _∙_}
+use Rattle.tuple.specs.declared.Shifted.{Shifted}
+use Rattle.lists.specs.Flat.{putAt}
+use Rattle.columns.specs.Columns.{flatOf}
+use Rattle.columns.proofs.Laws.{room, row-time, timed}
+use Rattle.columns.proofs.Passed.{passed-row}
+use Rattle.turns.proofs.Columns.{forward-time}
+use Rattle.cart_columns.proofs.forward_row.Statement.{statement}
+use Rattle.cart_columns.proofs.forward_row.Tie as tie
+
+read-row-requires : tie.Need-read-row-requires
+read-row-requires c κs = search needs
+
+cart-fwd-requires : tie.Need-cart-fwd-requires
+cart-fwd-requires c κs = search needs
+
+write-point-requires : tie.Need-write-point-requires
+write-point-requires c κs = search needs
+
+one-if-requires : tie.Need-one-if-requires
+one-if-requires c κs = search needs
+
+same-length : tie.Need-same-length
+same-length c = search needs
+
+same-length-2 : tie.Need-same-length-2
+same-length-2 c = search needs
+
+same-length-3 : tie.Need-same-length-3
+same-length-3 c = search needs
+
+returns : tie.Need-returns
+returns c =
+    let o = c .before .before .before .before .before .before .before .before .before .before .before .before .before .before .before .before .before .before .before .before in
+    let a = o .args in
+    let e = rw (c .before .before .before .before .before .before .before .before .before .before .before .before .read-row .ensures) at (c .before .before .before .before .before .before .before .before .before .before .before .cart-fwd .ensures) in
+    let time =
+    ap (λ (s : Shifted). s .tuple .t) e
+    ∙ forward-time (a .ellps) _
+    ∙ row-time _ _ _ _ (o .pre .0) (a .i) (o .pre .1) in
+    rw (c .one-if .ensures .0)
+    (passed-row (a .i) (room _ _ _ _ (o .pre .0) (a .i) (o .pre .1)) (ap (λ (s : Shifted). s .tuple) e) (ap (λ (s : Shifted). s .counted) e)
+    (c .before .before .before .before .before .before .before .write-point .ensures ∙ ap (putAt (flatOf (a .x .now) (a .y .now) (a .z .now) (a .t .now)) (4 * a .i)) (timed time)))
+
+pub forward-row-spec : {M : Type 1} → statement M
+forward-row-spec =
+    tie.close
+    (tie.spec
+    read-row-requires
+    cart-fwd-requires
+    write-point-requires
+    one-if-requires
+    same-length
+    same-length-2
+    same-length-3
+    returns)

@@ -1,0 +1,3 @@
+-- What the contracts of `columns` cite.
+pub mod Columns
+pub mod Passed

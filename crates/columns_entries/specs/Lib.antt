@@ -1,0 +1,2 @@
+-- What the contracts of `columns_entries` cite.
+pub mod Codes

@@ -1,2 +1,0 @@
--- What the contracts of `deformation_runs` cite.
-pub mod Turns

@@ -1,0 +1,2 @@
+-- What the contracts of `helmert_columns` cite.
+pub mod Given

@@ -1,0 +1,2 @@
+-- The laws of `helmert_exact_columns`.
+pub mod Laws

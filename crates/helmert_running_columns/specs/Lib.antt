@@ -1,0 +1,2 @@
+-- What the contracts of `helmert_running_columns` cite.
+pub mod Lanes

@@ -1,0 +1,2 @@
+-- What the contracts of `permtide_columns` cite.
+pub mod Heights

@@ -1,0 +1,181 @@
+-- What a step does not look at does not matter to its run: the index, the state, or both. And a
+-- step that leaves its state alone leaves it over a whole list. Assumes nothing.
+use Prim.Native.Nat.{ℕ, suc, _+_, _*_, _/_}
+use native.Mathlib.Omega.{arith}
+use mathlib.Core.Path.{_≡_, refl, sym, ap, _∙_}
+use mathlib.Core.Bool.{Bool, true, false, cond}
+use mathlib.Core.List.{List, [], _∷_, _++_}
+use lib.ListN.{length}
+use lib.Ieee.{Float}
+use Rattle.tuple.specs.declared.Tuple.{Tuple}
+use Rattle.tuple.specs.declared.Shifted.{Shifted}
+use Rattle.helmert.specs.declared.State.{State}
+use Rattle.helmert.specs.declared.Shift.{Shift}
+use Rattle.helmert.specs.Turns.{noState, allTurns, helmertTurns}
+use Rattle.deformation.specs.declared.Motion.{Motion}
+use Rattle.lists.specs.Flat.{fourOf, numbersOf}
+use Rattle.lists.specs.Run.{Turns, ranOf, countOf, stateAfterOf}
+use Rattle.helmert.proofs.Counts.{all-count}
+use Rattle.columns.specs.Columns.{Level, flatOf}
+use Rattle.columns.proofs.Laws.{flat-length}
+use Rattle.cart.specs.Step.{cartFwdOf, cartInvOf}
+use Rattle.permtide.specs.Step.{fwdOf, invOf}
+use Rattle.molodensky.specs.Step.{commonOf}
+use Rattle.turns.specs.Turns.{plainTurns, movedTurns}
+use Rattle.plans.specs.declared.Plan.{Plan}
+use Rattle.plans.specs.declared.Plan.the-variants.{CartForward, CartInverse, PermtideEither, DeformationEither, MolodenskyEither, HelmertEither}
+use Rattle.plans.specs.Plans.{planTurnsOf}
+
+-- ---- two runs of a step over a list, from indices and states that it does not tell apart
+
+pub record Alike {S : Type 0} (f : Turns S) (Same : ℕ → S → ℕ → S → Type 0) (k : ℕ) (a : S) (j : ℕ) (b : S) (v : Tuple) : Type 0 where
+  pub tuple : f k a v .tuple ≡ f j b v .tuple
+  pub counted : f k a v .counted ≡ f j b v .counted
+  pub onward : Same (suc k) (f k a v .state) (suc j) (f j b v .state)
+
+module _ {S : Type 0} (f : Turns S) (Same : ℕ → S → ℕ → S → Type 0)
+    (alike : (k : ℕ) (a : S) (j : ℕ) (b : S) (v : Tuple) → Same k a j b → Alike f Same k a j b v) where
+  alike-ran : (k : ℕ) (a : S) (j : ℕ) (b : S) (l : List Float) → Same k a j b → ranOf f k a l ≡ ranOf f j b l
+  alike-ran k a j b (x ∷ y ∷ z ∷ t ∷ rest) h =
+      let turn = alike k a j b (fourOf x y z t) h in
+      ap (λ (v : Tuple). numbersOf v ++ ranOf f (suc k) (f k a (fourOf x y z t) .state) rest) (turn .tuple)
+      ∙ ap (λ (u : List Float). numbersOf (f j b (fourOf x y z t) .tuple) ++ u) (alike-ran (suc k) (f k a (fourOf x y z t) .state) (suc j) (f j b (fourOf x y z t) .state) rest (turn .onward))
+  alike-ran k a j b (x ∷ y ∷ z ∷ []) h = refl
+  alike-ran k a j b (x ∷ y ∷ []) h = refl
+  alike-ran k a j b (x ∷ []) h = refl
+  alike-ran k a j b [] h = refl
+
+  alike-count : (k : ℕ) (a : S) (j : ℕ) (b : S) (l : List Float) → Same k a j b → countOf f k a l ≡ countOf f j b l
+  alike-count k a j b (x ∷ y ∷ z ∷ t ∷ rest) h =
+      let turn = alike k a j b (fourOf x y z t) h in
+      ap (λ (c : Bool). cond c 1 0 + countOf f (suc k) (f k a (fourOf x y z t) .state) rest) (turn .counted)
+      ∙ ap (λ (n : ℕ). cond (f j b (fourOf x y z t) .counted) 1 0 + n) (alike-count (suc k) (f k a (fourOf x y z t) .state) (suc j) (f j b (fourOf x y z t) .state) rest (turn .onward))
+  alike-count k a j b (x ∷ y ∷ z ∷ []) h = refl
+  alike-count k a j b (x ∷ y ∷ []) h = refl
+  alike-count k a j b (x ∷ []) h = refl
+  alike-count k a j b [] h = refl
+
+  alike-after : (k : ℕ) (a : S) (j : ℕ) (b : S) (l : List Float) → ((k : ℕ) (a : S) (j : ℕ) (b : S) → Same k a j b → a ≡ b) → Same k a j b
+      → stateAfterOf f k a l ≡ stateAfterOf f j b l
+  alike-after k a j b (x ∷ y ∷ z ∷ t ∷ rest) same h =
+      alike-after (suc k) (f k a (fourOf x y z t) .state) (suc j) (f j b (fourOf x y z t) .state) rest same (alike k a j b (fourOf x y z t) h .onward)
+  alike-after k a j b (x ∷ y ∷ z ∷ []) same h = same k a j b h
+  alike-after k a j b (x ∷ y ∷ []) same h = same k a j b h
+  alike-after k a j b (x ∷ []) same h = same k a j b h
+  alike-after k a j b [] same h = same k a j b h
+
+-- a state that is left alone
+steady : {S : Type 0} (f : Turns S) → ((k : ℕ) (state : S) (v : Tuple) → f k state v .state ≡ state) → (k : ℕ) (state : S) (l : List Float) → stateAfterOf f k state l ≡ state
+steady f stays k state (x ∷ y ∷ z ∷ t ∷ rest) = steady f stays (suc k) (f k state (fourOf x y z t) .state) rest ∙ stays k state (fourOf x y z t)
+steady f stays k state (x ∷ y ∷ z ∷ []) = refl
+steady f stays k state (x ∷ y ∷ []) = refl
+steady f stays k state (x ∷ []) = refl
+steady f stays k state [] = refl
+
+-- ---- what a run leaves, for each kind of step, from what its loop says
+
+-- the columns, the state and the count after a step over a list
+abbrev Ran : Turns State → ℕ → State → List Float → List Float → State → ℕ → Type 0
+Ran f k from l l′ state n = (l′ ≡ ranOf f k from l) × (state ≡ stateAfterOf f k from l) × (n ≡ countOf f k from l)
+
+-- a step that looks at neither, at the index, or at the state
+abbrev Any : ℕ → State → ℕ → State → Type 0
+Any k a j b = _≡_ {A = ℕ} 0 0
+
+abbrev SameIndex : ℕ → State → ℕ → State → Type 0
+SameIndex k a j b = k ≡ j
+
+abbrev SameState : ℕ → State → ℕ → State → Type 0
+SameState k a j b = a ≡ b
+
+plain-alike : (f : Tuple → Shifted) (k : ℕ) (a : State) (j : ℕ) (b : State) (v : Tuple) → Any k a j b → Alike (plainTurns f) Any k a j b v
+plain-alike f k a j b v h = record { tuple = refl; counted = refl; onward = refl }
+
+moved-alike : (op : Motion) (inverse : Bool) (velocities : List Float) (marks : List ℕ) (k : ℕ) (a : State) (j : ℕ) (b : State) (v : Tuple) → SameIndex k a j b
+    → Alike (movedTurns op inverse velocities marks) SameIndex k a j b v
+moved-alike op inverse velocities marks k a j b v h =
+    let f = movedTurns op inverse velocities marks in
+    record { tuple = ap (λ (i : ℕ). f i a v .tuple) h; counted = ap (λ (i : ℕ). f i a v .counted) h; onward = ap suc h }
+
+carried-alike : (inverse : Bool) (shift : Shift) (k : ℕ) (a : State) (j : ℕ) (b : State) (v : Tuple) → SameState k a j b → Alike (helmertTurns inverse shift) SameState k a j b v
+carried-alike inverse shift k a j b v h =
+    let f = helmertTurns inverse shift in
+    record { tuple = ap (λ (u : State). f k u v .tuple) h; counted = refl; onward = ap (λ (u : State). f k u v .state) h }
+
+module _ (k : ℕ) (from : State) (l : List Float) {l′ : List Float} {n : ℕ} where
+  -- the tuple alone
+  plain : (f : Tuple → Shifted) → (l′ ≡ ranOf (plainTurns f) 0 noState l) × (n ≡ countOf (plainTurns f) 0 noState l) → Ran (plainTurns f) k from l l′ from n
+  plain f e = (
+    e .0 ∙ alike-ran (plainTurns f) Any (plain-alike f) 0 noState k from l refl,
+    sym (steady (plainTurns f) (λ k state v. refl) k from l),
+    e .1 ∙ alike-count (plainTurns f) Any (plain-alike f) 0 noState k from l refl,
+  )
+
+  -- the tuple, and the index
+  moved : (op : Motion) (inverse : Bool) (velocities : List Float) (marks : List ℕ)
+      → (l′ ≡ ranOf (movedTurns op inverse velocities marks) k noState l) × (n ≡ countOf (movedTurns op inverse velocities marks) k noState l)
+      → Ran (movedTurns op inverse velocities marks) k from l l′ from n
+  moved op inverse velocities marks e = (
+    e .0 ∙ alike-ran (movedTurns op inverse velocities marks) SameIndex (moved-alike op inverse velocities marks) k noState k from l refl,
+    sym (steady (movedTurns op inverse velocities marks) (λ k state v. refl) k from l),
+    e .1 ∙ alike-count (movedTurns op inverse velocities marks) SameIndex (moved-alike op inverse velocities marks) k noState k from l refl,
+  )
+
+  -- the tuple, and the state
+  carried : (inverse : Bool) (shift : Shift) {state : State} → Ran (helmertTurns inverse shift) 0 from l l′ state n → Ran (helmertTurns inverse shift) k from l l′ state n
+  carried inverse shift e = (
+    e .0 ∙ alike-ran (helmertTurns inverse shift) SameState (carried-alike inverse shift) 0 from k from l refl,
+    e .1 ∙ alike-after (helmertTurns inverse shift) SameState (carried-alike inverse shift) 0 from k from l (λ k a j b h. h) refl,
+    e .2 ∙ alike-count (helmertTurns inverse shift) SameState (carried-alike inverse shift) 0 from k from l refl,
+  )
+
+  -- the tuple alone, and every one counts
+  every : (f : Tuple → Tuple) → (l′ ≡ ranOf (allTurns f) 0 noState l) × (n ≡ length l / 4) → Ran (allTurns f) k from l l′ from n
+  every f e = plain (λ (v : Tuple). record { tuple = f v; counted = true }) (e .0, e .1 ∙ sym (all-count f 0 noState l))
+
+  either : (b : Bool) (f g : Tuple → Tuple) → (l′ ≡ ranOf (cond b (allTurns f) (allTurns g)) 0 noState l) × (n ≡ length l / 4)
+      → Ran (cond b (allTurns f) (allTurns g)) k from l l′ from n
+  either true f g e = every f e
+  either false f g e = every g e
+
+-- four numbers a row
+pub rows : (x y z t : List Float) {n : ℕ} → Level x y z t → n ≡ length x → n ≡ length (flatOf x y z t) / 4
+rows x y z t level e = rw (flat-length x y z t level) (omega (arith, e))
+
+-- ---- what the loop of a plan's kind says, and what follows
+
+abbrev pub Looped : List Float → List ℕ → ℕ → State → List Float → List Float → ℕ → Plan → Type 0
+Looped velocities marks k from l l′ n (CartForward ellps) = (l′ ≡ ranOf (plainTurns (cartFwdOf ellps)) 0 noState l) × (n ≡ countOf (plainTurns (cartFwdOf ellps)) 0 noState l)
+Looped velocities marks k from l l′ n (CartInverse c) = (l′ ≡ ranOf (plainTurns (cartInvOf c)) 0 noState l) × (n ≡ countOf (plainTurns (cartInvOf c)) 0 noState l)
+Looped velocities marks k from l l′ n (PermtideEither op inverse) = (l′ ≡ ranOf (cond inverse (allTurns (invOf op)) (allTurns (fwdOf op))) 0 noState l) × (n ≡ length l / 4)
+Looped velocities marks k from l l′ n (DeformationEither op inverse) =
+    (l′ ≡ ranOf (movedTurns op inverse velocities marks) k noState l) × (n ≡ countOf (movedTurns op inverse velocities marks) k noState l)
+Looped velocities marks k from l l′ n (MolodenskyEither op inverse) = (l′ ≡ ranOf (allTurns (commonOf op inverse)) 0 noState l) × (n ≡ length l / 4)
+Looped velocities marks k from l l′ n (HelmertEither shift inverse) = ⊥
+
+abbrev pub Carried : State → List Float → List Float → ℕ → State → Plan → Type 0
+Carried from l l′ n state (CartForward ellps) = ⊥
+Carried from l l′ n state (CartInverse c) = ⊥
+Carried from l l′ n state (PermtideEither op inverse) = ⊥
+Carried from l l′ n state (DeformationEither op inverse) = ⊥
+Carried from l l′ n state (MolodenskyEither op inverse) = ⊥
+Carried from l l′ n state (HelmertEither shift inverse) = Ran (helmertTurns inverse shift) 0 from l l′ state n
+
+module _ (velocities : List Float) (marks : List ℕ) (k : ℕ) (from : State) (l : List Float) {l′ : List Float} {n : ℕ} where
+  -- a kind that leaves the state alone
+  pub looped : (plan : Plan) → Looped velocities marks k from l l′ n plan → Ran (planTurnsOf velocities marks plan) k from l l′ from n
+  looped (CartForward ellps) e = plain k from l (cartFwdOf ellps) e
+  looped (CartInverse c) e = plain k from l (cartInvOf c) e
+  looped (PermtideEither op inverse) e = either k from l inverse (invOf op) (fwdOf op) e
+  looped (DeformationEither op inverse) e = moved k from l op inverse velocities marks e
+  looped (MolodenskyEither op inverse) e = every k from l (commonOf op inverse) e
+  looped (HelmertEither shift inverse) e = absurd e
+
+  -- Helmert, which hands its state on
+  pub handed-on : {state : State} (plan : Plan) → Carried from l l′ n state plan → Ran (planTurnsOf velocities marks plan) k from l l′ state n
+  handed-on (CartForward ellps) e = absurd e
+  handed-on (CartInverse c) e = absurd e
+  handed-on (PermtideEither op inverse) e = absurd e
+  handed-on (DeformationEither op inverse) e = absurd e
+  handed-on (MolodenskyEither op inverse) e = absurd e
+  handed-on (HelmertEither shift inverse) e = carried k from l inverse shift e

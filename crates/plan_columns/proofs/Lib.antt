@@ -1,0 +1,2 @@
+-- What the proof of `run` needs.
+mod Blind

@@ -1,0 +1,3 @@
+-- What the contracts of `plans` cite: a step made ready, and steps over a part of a list.
+pub mod Plans
+pub mod Windows

@@ -1,0 +1,72 @@
+-- A step made ready: what depends on the record alone is worked out once a list, and the direction
+-- is in the plan.
+use Prim.Native.Nat.{ℕ, _<_}
+use mathlib.Core.Path.{_≡_}
+use mathlib.Core.Bool.{Bool, cond}
+use mathlib.Core.List.{List}
+use lib.Dec.{eqb, ltb}
+use lib.ListN.{getD}
+use lib.Ieee.{Float, nan}
+use Rattle.ellipsoid.specs.Figure.{namedOf}
+use Rattle.cart.specs.Step.{cartFwdOf, cartInvOf, inverseFiguresOf}
+use Rattle.permtide.specs.Step.{tideOf, fwdOf, invOf}
+use Rattle.molodensky.specs.Step.{mopedOf, commonOf}
+use Rattle.deformation.specs.Record.{directedOf}
+use Rattle.deformation.specs.Step.{motionOf}
+use Rattle.helmert.specs.declared.State.{State}
+use Rattle.helmert.specs.Modes.{prepareOf, startOf}
+use Rattle.bodies.specs.declared.Step.{Step}
+use Rattle.cart.specs.declared.Cart as record-of
+use Rattle.bodies.specs.declared.Step.the-variants.{Cart, Permtide, Deformation, Molodensky, Helmert}
+use Rattle.bodies.specs.Kinds.{lengthOf}
+use Rattle.lists.specs.Run.{Turns}
+use Rattle.helmert.specs.Turns.{noState, allTurns, helmertTurns}
+use Rattle.turns.specs.Turns.{plainTurns, movedTurns}
+use Rattle.plans.specs.declared.Plan.{Plan}
+use Rattle.plans.specs.declared.Plan.the-variants.{CartForward, CartInverse, PermtideEither, DeformationEither, MolodenskyEither, HelmertEither}
+
+-- the kind that a body is read by: 0, which is none, where the body is not as long as its kind's
+-- are
+abbrev pub heldKindOf : ℕ → ℕ → ℕ
+heldKindOf kind n = cond (eqb n (lengthOf kind)) kind 0
+
+-- the plan of a cart step in a direction, and of any step
+abbrev pub cartPlanOf : Bool → record-of.Cart → Plan
+cartPlanOf inverse r = cond inverse (CartInverse (inverseFiguresOf (namedOf (r .ellipsoid)))) (CartForward (namedOf (r .ellipsoid)))
+
+unfoldable pub planOf : Bool → Step → Plan
+planOf inverse (Cart r) = cartPlanOf inverse r
+planOf inverse (Permtide r) = PermtideEither (tideOf r) inverse
+planOf inverse (Deformation r) = DeformationEither (motionOf r) (directedOf r inverse)
+planOf inverse (Molodensky r) = MolodenskyEither (mopedOf r) inverse
+planOf inverse (Helmert h) = HelmertEither (prepareOf h) inverse
+
+-- the plan at an index of an array; past the end what an array reads as there
+abbrev pub planIn : List Plan → ℕ → Plan
+planIn plans i = getD plans i (CartForward (record { a = nan; f = nan; es = nan; b = nan; eps = nan }))
+
+-- an array has no more than sixteen
+unfoldable pub atMostSixteen : ℕ → ℕ
+atMostSixteen n = cond (ltb n 16) n 16
+
+-- its first n are the plans of n steps
+abbrev pub Ready : (ℕ → Plan) → ℕ → List Plan → Type 0
+Ready plan n plans = (i : ℕ) → i < n → planIn plans i ≡ plan i
+
+-- what a plan makes of one tuple
+abbrev pub planTurnsOf : List Float → List ℕ → Plan → Turns State
+planTurnsOf velocities marks (CartForward ellps) = plainTurns (cartFwdOf ellps)
+planTurnsOf velocities marks (CartInverse k) = plainTurns (cartInvOf k)
+planTurnsOf velocities marks (PermtideEither op inverse) = cond inverse (allTurns (invOf op)) (allTurns (fwdOf op))
+planTurnsOf velocities marks (DeformationEither op inverse) = movedTurns op inverse velocities marks
+planTurnsOf velocities marks (MolodenskyEither op inverse) = allTurns (commonOf op inverse)
+planTurnsOf velocities marks (HelmertEither shift inverse) = helmertTurns inverse shift
+
+-- the state that a plan starts each list in
+abbrev pub planStartOf : Plan → State
+planStartOf (CartForward ellps) = noState
+planStartOf (CartInverse k) = noState
+planStartOf (PermtideEither op inverse) = noState
+planStartOf (DeformationEither op inverse) = noState
+planStartOf (MolodenskyEither op inverse) = noState
+planStartOf (HelmertEither shift inverse) = startOf shift

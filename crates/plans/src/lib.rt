@@ -1,0 +1,158 @@
+// A step made ready for a list: what depends on its record alone is worked out once, and the
+// direction is in the plan.
+//
+// It stands in place of the Rust's `Op`, which holds a step's prepared values and its direction.
+// `plan_of` reads the record from a sheet's bytes where they lie, `plan_of_step` takes one that is
+// already read. specs/Plans.antt says what a plan makes of one tuple and the state that it starts a
+// list in; specs/Windows.antt says what plans make of a part of a list, each going on from where it
+// stands, and proofs/Windows.antt that a list in parts is the whole list. Exact: no rounding but the
+// records' own. Used by the chain, by what runs a record, and by the thin walk.
+ghost use mathlib.Core.Path.{_≡_};
+ghost use mathlib.Core.Bool.{cond};
+ghost use lib.Dec.{eqb};
+ghost use Rattle.cart.specs.Record.{blankOf};
+ghost use Rattle.helmert.specs.Turns.{noState};
+ghost use Rattle.bodies.specs.Read.{cartIn, stepOf};
+ghost use Rattle.plans.specs.Plans.{heldKindOf, cartPlanOf, planOf, atMostSixteen, planStartOf};
+use bodies::Step;
+use cart::Cart;
+use cart::Inverse;
+use deformation::Motion;
+use ellipsoid::Ellipsoid;
+use helmert::Shift;
+use helmert::State;
+use molodensky::Moped;
+use permtide::Tide;
+use rotation::Vec3;
+
+pub enum Plan {
+    CartForward(Ellipsoid),
+    CartInverse(Inverse),
+    PermtideEither(Tide, bool),
+    DeformationEither(Motion, bool),
+    MolodenskyEither(Moped, bool),
+    HelmertEither(Shift, bool),
+}
+
+// Where a step stands between two parts of a list: its state, and how many tuples it has counted.
+pub struct Standing {
+    pub state: State,
+    pub count: usize,
+}
+
+// ----- a step made ready -----------------------------------------------------------------------
+
+fn cart_plan(inverse: bool, step: Cart) -> Plan
+    ensures { λ r. ⌜ r ≡ cartPlanOf inverse step ⌝ }
+{
+    let ellps = Ellipsoid::named(step.ellipsoid);
+    if inverse {
+        return Plan::CartInverse(Inverse::new(ellps));
+    }
+    Plan::CartForward(ellps)
+}
+
+// A record that is already read.
+pub fn plan_of_step(inverse: bool, step: Step) -> Plan
+    ensures { λ r. ⌜ r ≡ planOf inverse step ⌝ }
+{
+    match step {
+        Step::Cart(r) => {
+            return cart_plan(inverse, r);
+        }
+        Step::Permtide(r) => {
+            return Plan::PermtideEither(Tide::new(r), inverse);
+        }
+        Step::Deformation(r) => {
+            return Plan::DeformationEither(Motion::new(r), r.directed(inverse));
+        }
+        Step::Molodensky(r) => {
+            return Plan::MolodenskyEither(Moped::new(r), inverse);
+        }
+        Step::Helmert(h) => {
+            return Plan::HelmertEither(helmert::prepare(h), inverse);
+        }
+    }
+}
+
+// A body's kind where the body is as long as its kind's are, else 0.
+pub fn held_kind(kind: u32, length: usize) -> u32
+    ensures { λ r. ⌜ r ≡ heldKindOf kind length ⌝ }
+{
+    if length == words::wide(bodies::length_of(kind)) {
+        return kind;
+    }
+    0
+}
+
+// The cart step that a body holds, blank where no kind is held.
+pub fn cart_of(kind: u32, b: &[u8]) -> Cart
+    ensures { λ r. ⌜ r ≡ cond (eqb kind 2) (cartIn (now (b .entry))) blankOf ⌝ }
+{
+    if kind == 2 {
+        return bodies::read_cart(b);
+    }
+    Cart::blank()
+}
+
+// A record in a sheet's bytes. No `Step` is built: the enum is as large as a Helmert record and
+// would be copied at each call.
+pub fn plan_of(inverse: bool, kind: u32, b: &[u8]) -> Plan
+    ensures { λ r. ⌜ r ≡ planOf inverse (stepOf kind (now (b .entry))) ⌝ }
+{
+    let held = held_kind(kind, b.len());
+    if held == 1 {
+        return Plan::HelmertEither(helmert::prepare(bodies::read_helmert(b)), inverse);
+    }
+    if held == 3 {
+        return Plan::MolodenskyEither(Moped::new(bodies::read_molodensky(b)), inverse);
+    }
+    if held == 4 {
+        return Plan::PermtideEither(Tide::new(bodies::read_permtide(b)), inverse);
+    }
+    if held == 5 {
+        let r = bodies::read_deformation(b);
+        return Plan::DeformationEither(Motion::new(r), r.directed(inverse));
+    }
+    cart_plan(inverse, cart_of(held, b))
+}
+
+// As many steps as an array of plans has.
+pub fn at_most_sixteen(n: usize) -> usize
+    ensures { λ r. ⌜ r ≡ atMostSixteen n ⌝ }
+{
+    if n < 16 {
+        return n;
+    }
+    16
+}
+
+// ----- its start -------------------------------------------------------------------------------
+
+// No state: NaN and zeros, which no step but Helmert's reads.
+pub fn no_state() -> State
+    ensures { λ r. ⌜ r ≡ noState ⌝ }
+{
+    State {
+        last: 0.0 / 0.0,
+        t: Vec3 {
+            x: 0.0,
+            y: 0.0,
+            z: 0.0,
+        },
+    }
+}
+
+// The state that a plan starts each list in.
+pub fn start(plan: Plan) -> State
+    ensures { λ r. ⌜ r ≡ planStartOf plan ⌝ }
+{
+    match plan {
+        Plan::CartForward(_) => no_state(),
+        Plan::CartInverse(_) => no_state(),
+        Plan::PermtideEither(_, _) => no_state(),
+        Plan::DeformationEither(_, _) => no_state(),
+        Plan::MolodenskyEither(_, _) => no_state(),
+        Plan::HelmertEither(shift, _) => helmert::start(shift),
+    }
+}

@@ -1,0 +1,3 @@
+-- What the proofs of this crate and of `windows` share.
+pub mod Parts
+pub mod Back

@@ -1,0 +1,97 @@
+// One step over a flat list of any length, a window of rows at a time.
+//
+// Each window is put into columns, passes through the step, and is put back; between two windows the
+// step keeps its state and its count. The columns' room is made once a call and lent to each window.
+// Proved for every plan and list: the list and the count are those of the step over the whole list
+// (plans, specs/Plans.antt); a rest shorter than a tuple stays as it is. No rounding but the step's
+// own. Used by the chain's flat entry for sheets of one step, and its room by `windows`.
+ghost use mathlib.Core.Path.{_≡_};
+ghost use Prim.Native.Nat.{_+_, _*_, _≤_, _<_};
+ghost use lib.ListN.{length};
+ghost use Rattle.lists.specs.Run.{ranOf, countOf, stateAfterOf};
+ghost use Rattle.columns.specs.Columns.{Level};
+ghost use Rattle.plans.specs.Plans.{planTurnsOf, planStartOf};
+use helmert::State;
+use helmert_columns::Went;
+use plans::Plan;
+
+// A window's rows: enough that a call for each window costs little, and few enough that the four
+// columns are 4 kB of stack.
+pub const ROWS: usize = 128;
+
+// A column's room.
+pub fn room() -> [f64; ROWS]
+    ensures { λ r. ⌜ 128 ≡ length r ⌝ }
+{
+    [0.0; ROWS]
+}
+
+// How many rows the next window has, of those that are left.
+pub fn rows_of(left: usize) -> usize
+    ensures { λ r. ⌜ (r ≤ left) × (r ≤ 128) × (0 < left → 0 < r) ⌝ }
+{
+    if left < ROWS {
+        return left;
+    }
+    ROWS
+}
+
+// A window whose first fix has index `first`, through columns that have its rows.
+fn window(
+    plan: Plan,
+    first: usize,
+    from: State,
+    list: &mut [f64],
+    x: &mut [f64],
+    y: &mut [f64],
+    z: &mut [f64],
+    t: &mut [f64],
+    velocities: &[f64],
+    marks: &[u8],
+) -> Went
+    requires { ⌜ Level (now x) (now y) (now z) (now t) × (length (now list) ≡ 4 * length (now x)) × (first + length (now x) < 4611686018427387904) ⌝ }
+    ensures { λ r. ⌜ (now (list .exit) ≡ ranOf (planTurnsOf (now (velocities .entry)) (now (marks .entry)) plan) first from (now (list .entry)))
+        × (r .state ≡ stateAfterOf (planTurnsOf (now (velocities .entry)) (now (marks .entry)) plan) first from (now (list .entry)))
+        × (r .count ≡ countOf (planTurnsOf (now (velocities .entry)) (now (marks .entry)) plan) first from (now (list .entry))) ⌝ }
+{
+    columns::to_columns(list, x, y, z, t);
+    let went = plan_columns::run(plan, first, from, x, y, z, t, velocities, marks);
+    columns::to_flat(x, y, z, t, list);
+    went
+}
+
+// The whole list: how many tuples the step counts.
+pub fn over(plan: Plan, list: &mut [f64], velocities: &[f64], marks: &[u8]) -> usize
+    ensures { λ r. ⌜ (now (list .exit) ≡ ranOf (planTurnsOf (now (velocities .entry)) (now (marks .entry)) plan) 0 (planStartOf plan) (now (list .entry)))
+        × (r ≡ countOf (planTurnsOf (now (velocities .entry)) (now (marks .entry)) plan) 0 (planStartOf plan) (now (list .entry))) ⌝ }
+{
+    let mut x = room();
+    let mut y = room();
+    let mut z = room();
+    let mut t = room();
+    let rows = list.len() / 4;
+    let mut state = plans::start(plan);
+    let mut count = 0;
+    let mut i = 0;
+    while i < rows {
+        let m = rows_of(rows - i);
+        let a = 4 * i;
+        let e = 4 * (i + m);
+        let went = window(
+            plan,
+            i, // the index of the window's first fix
+            state,
+            &mut list[a..e],
+            &mut x[..m],
+            &mut y[..m],
+            &mut z[..m],
+            &mut t[..m],
+            velocities,
+            marks,
+        );
+        state = went.state; // from there the next window goes on
+        count += went.count;
+        i += m;
+    }
+    count
+}

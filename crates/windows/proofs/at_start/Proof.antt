@@ -1,0 +1,17 @@
+-- Calls are replaced by what they ensure; the definition is left. Assumes nothing.
+use borrow.Author.Needs.{needs}
+use Rattle.windows.proofs.at_start.Statement.{statement}
+use Rattle.windows.proofs.at_start.Tie as tie
+
+start-requires : tie.Need-start-requires
+start-requires c κs = search needs
+
+returns : tie.Need-returns
+returns c = rw (c .start .ensures)
+
+pub at-start-spec : {M : Type 1} → statement M
+at-start-spec =
+    tie.close
+    (tie.spec
+    start-requires
+    returns)
