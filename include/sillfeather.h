@@ -39,10 +39,9 @@
  *             program that is linked with -ffast-math may set both. The archive rounds each
  *             multiplication and each addition apart; whoever compiles it again must not let the
  *             compiler contract the two into one operation.
- *   Stack     sillfeather_check needs up to 4 kB of stack, sillfeather_shift up to 20 kB,
- *             sillfeather_keep up to 12 kB, sillfeather_correct up to 10 kB, sillfeather_rescue up
- *             to 6 kB, each sillfeather_add_ function up to 32 kB. examples/c/stack.c holds these
- *             limits.
+ *   Stack     sillfeather_check, sillfeather_shift, sillfeather_keep and sillfeather_correct need
+ *             up to 5 kB of stack, sillfeather_rescue up to 6 kB, each sillfeather_add_ function up
+ *             to 32 kB. examples/c/stack.c holds these limits.
  */
 #ifndef SILLFEATHER_H
 #define SILLFEATHER_H

@@ -2,12 +2,8 @@
 //!
 //!     bench [passes, 200]
 //!
-//! original: docs/src over oracle/shim, as published, in release. before: another build of the
-//! library, where one is linked (build.rs). flat, columns: the library's archive for the machine at
-//! hand, over a flat list and over four columns. A time is the least of the passes, in ns a tuple;
-//! o / flat and o / cols are the original's time over ours, their spread leaves out the lowest and
-//! the highest tenth of the passes; f / b and c / b are ours over that of before. The answers are
-//! compared too.
+//! original: docs/src over oracle/shim, as published, in release. ours: the library's archive for the machine at hand. A time is the least of the passes, in
+//! ns a tuple; a ratio is original / ours; its spread leaves out the lowest and the highest tenth of the passes. The answers are compared too.
 mod clock;
 mod library;
 #[cfg(proj)]
@@ -15,19 +11,17 @@ mod proj;
 mod steps;
 
 use clock::{in_turns, took};
-use library::{Library, before, present};
 use ours::columns::{self, Columns};
 use published::{Flat, Lent, Op, RawParameters};
 use steps::{Row, TUPLES};
 
-/// A row in one direction, with all that each way needs.
+/// A row in one direction, with all that both ways need.
 struct Run<'a> {
     row: &'a Row,
     inverse: bool,
     sheet: Vec<u8>,
     raw: RawParameters,
     list: Vec<f64>,
-    columns: Columns,
     velocities: Vec<f64>,
     marks: Vec<u8>,
 }
@@ -35,10 +29,9 @@ struct Run<'a> {
 impl Run<'_> {
     fn new(row: &Row, inverse: bool) -> Run<'_> {
         let list = steps::list(row.takes[inverse as usize], row.times);
-        let columns = columns::columns(&list);
         let (velocities, marks) = if row.deforms() { (steps::velocities(), vec![1; TUPLES]) } else { (vec![], vec![]) };
         let sheet = job::sheet(&[job::Step { inverted: false, body: row.body.clone() }]);
-        Run { row, inverse, sheet, raw: published::parameters(&row.body), list, columns, velocities, marks }
+        Run { row, inverse, sheet, raw: published::parameters(&row.body), list, velocities, marks }
     }
 
     fn name(&self) -> String {
@@ -63,14 +56,18 @@ impl Run<'_> {
         })
     }
 
-    fn flat(&self, library: &Library, list: &mut [f64]) -> f64 {
+    fn ours(&self, list: &mut [f64]) -> f64 {
         list.copy_from_slice(&self.list);
-        took(|| library.shift(self.inverse, &self.sheet, list, &self.velocities, &self.marks))
+        took(|| {
+            library::shift(self.inverse, &self.sheet, list, &self.velocities, &self.marks);
+        })
     }
 
-    fn columns(&self, list: &mut Columns) -> f64 {
-        list.clone_from(&self.columns);
-        took(|| library::shift_columns(self.inverse, &self.sheet, columns::write(list), &self.velocities, &self.marks))
+    fn ours_columns(&self, list: &mut Columns) -> f64 {
+        *list = columns::columns(&self.list);
+        took(|| {
+            library::shift_columns(self.inverse, &self.sheet, list, &self.velocities, &self.marks);
+        })
     }
 
     /// Each fix a list of its own.
@@ -94,41 +91,26 @@ impl Run<'_> {
         })
     }
 
-    fn flat_ones(&self, library: &Library, list: &mut [f64]) -> f64 {
+    /// The sheet's reading alone, as often as `ours_ones` reads it.
+    fn readings(&self) -> f64 {
+        took(|| (0..TUPLES).for_each(|_| library::check(&self.sheet)))
+    }
+
+    fn ours_ones(&self, list: &mut [f64]) -> f64 {
         list.copy_from_slice(&self.list);
         took(|| {
             for (i, one) in list.chunks_exact_mut(4).enumerate() {
                 let (velocities, marks) = self.lent(i);
-                library.shift(self.inverse, &self.sheet, one, velocities, marks);
+                library::shift(self.inverse, &self.sheet, one, velocities, marks);
             }
         })
     }
+}
 
-    fn column_ones(&self, list: &mut Columns) -> f64 {
-        list.clone_from(&self.columns);
-        took(|| {
-            for i in 0..TUPLES {
-                let (velocities, marks) = self.lent(i);
-                let one = list.each_mut().map(|c| &mut c[i..=i]);
-                library::shift_columns(self.inverse, &self.sheet, one, velocities, marks);
-            }
-        })
-    }
-
-    /// The sheet's reading alone, as often as `flat_ones` reads it.
-    fn readings(&self, library: &Library) -> f64 {
-        took(|| (0..TUPLES).for_each(|_| library.check(&self.sheet)))
-    }
-
-    /// All did the same work: no number of one is further than a micrometre, or 1e-12 rad, from
-    /// another's.
-    fn agree(&self, one: &[f64], others: [&[f64]; 2]) {
-        for other in others {
-            for (i, (a, b)) in one.iter().zip(other).enumerate() {
-                let from = &self.list[i / 4 * 4..i / 4 * 4 + 4];
-                assert!((a - b).abs() <= 1e-6, "{}: number {i} is {a} and {b}, from {from:?}", self.name());
-            }
-        }
+/// Both did the same work: no number of one is further than a micrometre, or 1e-12 rad, from the other's.
+fn agree(name: &str, run: &Run, original: &[f64], ours: &[f64]) {
+    for (i, (a, b)) in original.iter().zip(ours).enumerate() {
+        assert!((a - b).abs() <= 1e-6, "{name}: number {i} is {a} and {b}, from {:?}", &run.list[i / 4 * 4..i / 4 * 4 + 4]);
     }
 }
 
@@ -140,260 +122,166 @@ fn main() {
     let passes = std::env::args().nth(1).map_or(200, |a| a.parse().expect("a number of passes"));
     let rows = steps::rows();
     let runs = runs(&rows);
-    let head = |what: &str| clock::head(what, before().is_some());
 
-    head("lists of 2,048, ns a tuple");
+    clock::head("lists of 2,048, ns a tuple");
     for run in &runs {
         lists(run, passes);
     }
-    head("three steps over 2,048, ns a tuple");
+    clock::head("lists of 2,048 as four columns, ns a tuple");
+    for run in &runs {
+        lists_of_columns(run, passes);
+    }
+    clock::head("three steps over 2,048, ns a tuple");
     for (name, chain) in steps::chains() {
         three_steps(name, &chain, passes);
     }
-    head("lists of one, the sheet read / `new` each time");
+    clock::head("lists of one, the sheet read / `new` each time");
     for run in runs.iter().filter(|run| run.row.in_the_original()) {
         read_each_time(run, passes / 4 + 1);
     }
-    head("lists of one, the step read / operator made");
+    clock::head("lists of one, the step read / operator made");
     for run in runs.iter().filter(|run| run.row.in_the_original()) {
         operator_made(run, passes / 4 + 1);
     }
     beside_proj(&runs, passes);
-    println!(
-        "\n{:<48} {:>8} {:>10} {:>10} {:>11} {:>7}",
-        "kept run, ns a call", "", "keep 2,048", "keep one", "correct one", "redone"
+    kept_runs(&runs, passes / 4 + 1);
+}
+
+/// The cost of correcting one fix of a kept list beside that of keeping the list, and a list of one.
+#[cfg(kept)]
+fn kept(run: &Run, passes: usize) {
+    let mut list = run.list.clone();
+    let (mut results, mut track) = (list.clone(), list.clone());
+    let (mut r, mut t) = ([0.0; 4], [0.0; 4]);
+    let one = run.list[..4].to_vec();
+    let times = 64;
+    let (whole, single) = in_turns(
+        passes,
+        || took(|| library::kept::keep(&run.sheet, &run.list, &mut results, &mut track)),
+        || took(|| (0..times).for_each(|_| library::kept::keep(&run.sheet, &one, &mut r, &mut t))),
     );
+    let mut redone = 0;
+    let (corrected, _) = in_turns(
+        passes,
+        || {
+            took(|| {
+                for k in 0..times {
+                    let at = 4 * (31 * k % TUPLES);
+                    let fix = [list[at] + 1.0, list[at + 1], list[at + 2], list[at + 3]];
+                    redone += library::kept::correct(&run.sheet, &mut list, &mut results, &mut track, at / 4, &fix);
+                }
+            })
+        },
+        || 0.0,
+    );
+    let (whole, single) = (clock::least(&whole), clock::least(&single) / times as f64);
+    let corrected = clock::least(&corrected) / times as f64;
+    let redone = redone as f64 / ((passes + 1) * times) as f64;
+    println!("{:<48} {whole:>9.0} {single:>9.0} {corrected:>9.0} {redone:>7.1}", run.row.step);
+}
+
+#[cfg(kept)]
+fn kept_runs(runs: &[Run], passes: usize) {
+    println!("\n{:<48} {:>9} {:>9} {:>9} {:>7}", "kept run, ns a call", "keep 2,048", "keep one", "correct one", "redone");
     for run in runs.iter().filter(|run| run.row.helmert() && !run.inverse) {
-        kept(run, passes / 4 + 1);
+        kept(run, passes);
     }
 }
+
+#[cfg(not(kept))]
+fn kept_runs(_runs: &[Run], _passes: usize) {}
 
 fn lists(run: &Run, passes: usize) {
-    let [mut a, mut b, mut c] = [(); 3].map(|()| run.list.clone());
-    let mut d = run.columns.clone();
-    let op = run.row.in_the_original().then(|| run.operator());
-    let (now, then) = (present(), before());
-    let told = in_turns(
-        passes,
-        [
-            op.as_ref().map(|op| || run.original(op, &mut a)).as_mut().map(|way| way as _),
-            then.as_ref().map(|then| || run.flat(then, &mut b)).as_mut().map(|way| way as _),
-            Some(&mut || run.flat(&now, &mut c)),
-            Some(&mut || run.columns(&mut d)),
-        ],
-    );
-    if op.is_some() {
-        run.agree(&a, [&c, &columns::flat(&d)]);
+    let (mut a, mut b) = (run.list.clone(), run.list.clone());
+    if !run.row.in_the_original() {
+        let (ours, _) = in_turns(passes, || run.ours(&mut b), || 0.0);
+        return clock::print_alone(&run.name(), &ours, TUPLES);
     }
-    clock::print(&run.name(), &told, TUPLES, run.row.aims[run.inverse as usize]);
+    let op = run.operator();
+    let (original, ours) = in_turns(passes, || run.original(&op, &mut a), || run.ours(&mut b));
+    agree(&run.name(), run, &a, &b);
+    clock::print(&run.name(), &original, &ours, TUPLES, run.row.aims[run.inverse as usize]);
 }
 
-/// A sheet of three steps: the original's three operators one after another, ours in one call.
+/// The original over its own list, ours over four columns.
+fn lists_of_columns(run: &Run, passes: usize) {
+    let (mut a, mut b) = (run.list.clone(), columns::columns(&run.list));
+    if !run.row.in_the_original() {
+        let (ours, _) = in_turns(passes, || run.ours_columns(&mut b), || 0.0);
+        return clock::print_alone(&run.name(), &ours, TUPLES);
+    }
+    let op = run.operator();
+    let (original, ours) = in_turns(passes, || run.original(&op, &mut a), || run.ours_columns(&mut b));
+    agree(&run.name(), run, &a, &columns::flat(&b));
+    clock::print(&run.name(), &original, &ours, TUPLES, run.row.columns_aims[run.inverse as usize]);
+}
+
+/// A sheet of three steps: the original's three operators one after another, ours in one call, flat and as columns.
 fn three_steps(name: &str, chain: &steps::Chain, passes: usize) {
     let list = steps::list(chain.takes, chain.times);
-    let of_columns = columns::columns(&list);
     let sheet = job::sheet(&chain.steps);
     let lent = Lent::new(&[], &[]);
     let raws: Vec<RawParameters> = chain.steps.iter().map(|s| published::parameters(&s.body)).collect();
-    let new =
-        |(step, raw): (&job::Step, &RawParameters)| published::new(&step.body, raw, &lent).expect("the crate takes the step");
-    let ops: Vec<Op> = chain.steps.iter().zip(&raws).map(new).collect();
-    let [mut a, mut b, mut c] = [(); 3].map(|()| list.clone());
-    let mut d = of_columns.clone();
-    let flat = |library: &Library, copy: &mut [f64]| {
-        copy.copy_from_slice(&list);
-        took(|| library.shift(false, &sheet, copy, &[], &[]))
-    };
-    let mut original = || {
-        a.copy_from_slice(&list);
+    let ops: Vec<Op> = chain
+        .steps
+        .iter()
+        .zip(&raws)
+        .map(|(s, raw)| published::new(&s.body, raw, &lent).expect("the crate takes the step"))
+        .collect();
+    let (mut a, mut b, mut c) = (list.clone(), list.clone(), columns::columns(&list));
+    let original = |list: &mut [f64], from: &[f64]| {
+        list.copy_from_slice(from);
         took(|| {
             for (op, step) in ops.iter().zip(&chain.steps) {
-                op.apply(&lent, &mut Flat(&mut a), step.inverted);
+                op.apply(&lent, &mut Flat(list), step.inverted);
             }
         })
     };
-    let (now, then) = (present(), before());
-    let told = in_turns(
+    let (first, ours) = in_turns(
         passes,
-        [
-            Some(&mut original),
-            then.as_ref().map(|then| || flat(then, &mut b)).as_mut().map(|way| way as _),
-            Some(&mut || flat(&now, &mut c)),
-            Some(&mut || {
-                d.clone_from(&of_columns);
-                took(|| library::shift_columns(false, &sheet, columns::write(&mut d), &[], &[]))
-            }),
-        ],
+        || original(&mut a, &list),
+        || {
+            b.copy_from_slice(&list);
+            took(|| library::shift(false, &sheet, &mut b, &[], &[]))
+        },
     );
-    clock::print(name, &told, TUPLES, [0.0; 2]);
+    clock::print(&format!("{name}, flat"), &first, &ours, TUPLES, 0.0);
+    let (first, ours) = in_turns(
+        passes,
+        || original(&mut a, &list),
+        || {
+            c = columns::columns(&list);
+            took(|| library::shift_columns(false, &sheet, &mut c, &[], &[]))
+        },
+    );
+    clock::print(&format!("{name}, columns"), &first, &ours, TUPLES, 0.0);
 }
 
 fn read_each_time(run: &Run, passes: usize) {
-    let [mut a, mut b, mut c] = [(); 3].map(|()| run.list.clone());
-    let mut d = run.columns.clone();
-    let (now, then) = (present(), before());
-    let told = in_turns(
-        passes,
-        [
-            Some(&mut || run.original_ones_new(&mut a)),
-            then.as_ref().map(|then| || run.flat_ones(then, &mut b)).as_mut().map(|way| way as _),
-            Some(&mut || run.flat_ones(&now, &mut c)),
-            Some(&mut || run.column_ones(&mut d)),
-        ],
-    );
-    run.agree(&a, [&c, &columns::flat(&d)]);
-    clock::print(&run.name(), &told, TUPLES, [2.0; 2]);
+    let (mut a, mut b) = (run.list.clone(), run.list.clone());
+    let (original, ours) = in_turns(passes, || run.original_ones_new(&mut a), || run.ours_ones(&mut b));
+    agree(&run.name(), run, &a, &b);
+    clock::print(&run.name(), &original, &ours, TUPLES, 2.0);
 }
 
-/// Over a step that is already read: what a call takes less what `sillfeather_check` takes of it,
-/// which is the reading and its rules. Finding the step's record in the bytes once more is still in
-/// it.
+/// Over a step that is already read: what a call takes less what `sillfeather_check` takes of it, which is the reading and its rules. Finding the step's record in the
+/// bytes once more is still in it.
 fn operator_made(run: &Run, passes: usize) {
-    let [mut a, mut b, mut c] = [(); 3].map(|()| run.list.clone());
-    let mut d = run.columns.clone();
+    let (mut a, mut b) = (run.list.clone(), run.list.clone());
     let op = run.operator();
-    let (now, then) = (present(), before());
-    let mut told = in_turns(
-        passes,
-        [
-            Some(&mut || run.original_ones(&op, &mut a)),
-            then.as_ref().map(|then| || run.flat_ones(then, &mut b)).as_mut().map(|way| way as _),
-            Some(&mut || run.flat_ones(&now, &mut c)),
-            Some(&mut || run.column_ones(&mut d)),
-        ],
-    );
-    run.agree(&a, [&c, &columns::flat(&d)]);
-    let reads = in_turns(
-        passes,
-        [
-            None,
-            then.as_ref().map(|then| || run.readings(then)).as_mut().map(|way| way as _),
-            Some(&mut || run.readings(&now)),
-            Some(&mut || run.readings(&now)),
-        ],
-    );
-    for (way, read) in told.iter_mut().zip(&reads).skip(1) {
-        let read = clock::least(read);
-        way.iter_mut().for_each(|took| *took -= read);
-    }
-    clock::print(&run.name(), &told, TUPLES, [1.0; 2]);
-}
-
-// ----- The kept run ------------------------------------------------------------------------
-
-/// Calls a pass.
-const CALLS: usize = 64;
-
-/// A kept run of one build, over flat lists.
-struct Kept {
-    library: Library,
-    lists: [Vec<f64>; 3],
-    one: [Vec<f64>; 3],
-    redone: u64,
-}
-
-impl Kept {
-    fn new(run: &Run, library: Library) -> Kept {
-        let [lists, one] = [&run.list[..], &run.list[..4]].map(|list| [(); 3].map(|()| list.to_vec()));
-        Kept { library, lists, one, redone: 0 }
-    }
-
-    fn keep(&mut self, run: &Run) -> f64 {
-        let [_, results, track] = &mut self.lists;
-        took(|| self.library.keep(&run.sheet, &run.list, [results, track]))
-    }
-
-    fn keep_one(&mut self, run: &Run) -> f64 {
-        let [list, results, track] = &mut self.one;
-        took(|| (0..CALLS).for_each(|_| self.library.keep(&run.sheet, list, [results, track])))
-    }
-
-    /// Moves some fixes by a metre, one after another, and leaves their times.
-    fn correct(&mut self, run: &Run) -> f64 {
-        took(|| {
-            for k in 0..CALLS {
-                let i = 31 * k % TUPLES;
-                let [x, y, z, t] = [0, 1, 2, 3].map(|k| self.lists[0][4 * i + k]);
-                let lists = self.lists.each_mut().map(|list| list.as_mut_slice());
-                self.redone += self.library.correct(&run.sheet, lists, i, &[x + 1.0, y, z, t]);
-            }
-        })
-    }
-}
-
-/// The same over columns.
-struct KeptColumns {
-    lists: [Columns; 3],
-    one: [Columns; 3],
-    redone: u64,
-}
-
-impl KeptColumns {
-    fn new(run: &Run) -> KeptColumns {
-        let [lists, one] = [&run.list[..], &run.list[..4]].map(|list| [(); 3].map(|()| columns::columns(list)));
-        KeptColumns { lists, one, redone: 0 }
-    }
-
-    fn keep(&mut self, run: &Run) -> f64 {
-        let [_, results, track] = self.lists.each_mut().map(columns::write);
-        took(|| library::keep_columns(&run.sheet, columns::read(&run.columns), [results, track]))
-    }
-
-    fn keep_one(&mut self, run: &Run) -> f64 {
-        let [list, results, track] = &mut self.one;
-        took(|| {
-            for _ in 0..CALLS {
-                library::keep_columns(&run.sheet, columns::read(list), [columns::write(results), columns::write(track)]);
-            }
-        })
-    }
-
-    fn correct(&mut self, run: &Run) -> f64 {
-        took(|| {
-            for k in 0..CALLS {
-                let i = 31 * k % TUPLES;
-                let [x, y, z, t] = self.lists[0].each_ref().map(|c| c[i]);
-                let lists = self.lists.each_mut().map(columns::write);
-                self.redone += library::correct_columns(&run.sheet, lists, i, &[x + 1.0, y, z, t]);
-            }
-        })
-    }
-}
-
-/// The cost of correcting one fix of a kept list beside that of keeping the list, and a list of one;
-/// a line a way.
-fn kept(run: &Run, passes: usize) {
-    let (mut then, mut now, mut of_columns) =
-        (before().map(|b| Kept::new(run, b)), Kept::new(run, present()), KeptColumns::new(run));
-    macro_rules! turns {
-        ($way:ident) => {
-            in_turns(
-                passes,
-                [
-                    then.as_mut().map(|then| || then.$way(run)).as_mut().map(|way| way as _),
-                    Some(&mut || now.$way(run)),
-                    Some(&mut || of_columns.$way(run)),
-                ],
-            )
-            .map(|passes| clock::least(&passes))
-        };
-    }
-    let (whole, single, corrected) = (turns!(keep), turns!(keep_one), turns!(correct));
-    let redone = [then.as_ref().map(|then| then.redone), Some(now.redone), Some(of_columns.redone)];
-    for (i, way) in ["before", "flat", "columns"].into_iter().enumerate() {
-        let Some(redone) = redone[i] else { continue };
-        let (single, corrected) = (single[i] / CALLS as f64, corrected[i] / CALLS as f64);
-        let redone = redone as f64 / ((passes + 1) * CALLS) as f64;
-        println!("{:<48} {way:>8} {:>10.0} {single:>10.0} {corrected:>11.0} {redone:>7.1}", run.row.step, whole[i]);
-    }
+    let (original, ours) = in_turns(passes, || run.original_ones(&op, &mut a), || run.ours_ones(&mut b));
+    let reading = clock::least(&in_turns(passes, || run.readings(), || 0.0).0);
+    let ours: Vec<f64> = ours.iter().map(|took| took - reading).collect();
+    agree(&run.name(), run, &a, &b);
+    clock::print(&run.name(), &original, &ours, TUPLES, 1.0);
 }
 
 /// PROJ in the original's place. It is told apart from the library by more than roundings in places (its Molodensky, its rates): the largest difference stands beside.
 #[cfg(proj)]
 fn beside_proj(runs: &[Run], passes: usize) {
     println!(
-        "\n{:<48} {:>8} {:>8}{:>8} {:<13} {:>10}",
-        "lists of 2,048, ns a tuple", "PROJ", "flat", "ratio", "spread", "differ by"
+        "\n{:<48} {:>9} {:>9} {:>7} {:^16} {:>10}",
+        "lists of 2,048, ns a tuple", "PROJ", "ours", "ratio", "spread", "differ by"
     );
     for run in runs.iter().filter(|run| run.row.in_the_original()) {
         let Some(operation) = proj::Operation::new(&run.row.body) else { continue };
@@ -402,7 +290,7 @@ fn beside_proj(runs: &[Run], passes: usize) {
             list.copy_from_slice(&run.list);
             took(|| operation.apply(list, run.inverse))
         };
-        let [proj, ours] = in_turns(passes, [Some(&mut || theirs(&mut a)), Some(&mut || run.flat(&present(), &mut b))]);
+        let (proj, ours) = in_turns(passes, || theirs(&mut a), || run.ours(&mut b));
         let apart = a.iter().zip(&b).map(|(p, q)| (p - q).abs()).fold(0.0, f64::max);
         clock::print_beside(&run.name(), &proj, &ours, TUPLES, apart);
     }

@@ -23,8 +23,10 @@ pub struct Row {
     /// where the tuples of the forward step stand, and those of the inverse
     pub takes: [Place; 2],
     pub times: Times,
-    /// the aims of original / ours over 2,048 fixes, flat and as columns; forward and inverse
-    pub aims: [[f64; 2]; 2],
+    /// the aim of original / ours over a list of 2,048, forward and inverse
+    pub aims: [f64; 2],
+    /// the same over four columns
+    pub columns_aims: [f64; 2],
 }
 
 /// Three steps of a sheet that is run forward.
@@ -35,12 +37,12 @@ pub struct Chain {
 }
 
 fn row(step: &'static str, body: Body, place: Place, times: Times, aim: f64) -> Row {
-    Row { step, body, takes: [place; 2], times, aims: [[aim; 2]; 2] }
+    Row { step, body, takes: [place; 2], times, aims: [aim; 2], columns_aims: [aim; 2] }
 }
 
 /// A row whose aim over columns is another.
 fn columned(aim: f64, row: Row) -> Row {
-    Row { aims: row.aims.map(|[flat, _]| [flat, aim]), ..row }
+    Row { columns_aims: [aim; 2], ..row }
 }
 
 fn named(all: Vec<Published>, name: &str) -> Body {
@@ -77,7 +79,8 @@ pub fn rows() -> Vec<Row> {
             body: Body::Cart { ellipsoid: 1 },
             takes: [Geographic, Cartesian],
             times: Differ,
-            aims: [[1.3; 2], [1.0; 2]],
+            aims: [1.3, 1.0],
+            columns_aims: [1.3, 1.0],
         },
         row("Molodensky, full", full, Geographic, Differ, 1.3),
         row("Molodensky, abridged", abridged, Geographic, Differ, 1.3),
@@ -105,6 +108,7 @@ impl Row {
         !matches!(&self.body, Body::Helmert(h) if h.flags & OWN_EPOCH != 0)
     }
 
+    #[cfg(kept)]
     pub fn helmert(&self) -> bool {
         matches!(self.body, Body::Helmert(_))
     }

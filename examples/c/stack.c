@@ -1,8 +1,7 @@
 /* Tests how much stack each call takes: a thread runs it on a stack that was filled before, and
  * what is no longer filled was used. A box plans with the limits, which include/sillfeather.h
- * states; the figures are the machine's and the compiler's. The entries over columns are measured
- * too, which the header does not have yet: crates/columns_entries exports them. The last line is 'N
- * passed, M failed'. */
+ * states; the figures are the machine's and the compiler's. The last line is 'N passed, M
+ * failed'. */
 #define _GNU_SOURCE
 #include "sillfeather.h"
 #include <pthread.h>
@@ -10,18 +9,11 @@
 #include <stdlib.h>
 #include <string.h>
 
-enum { STACK = 1 << 20, FILL = 0xa5, ROWS = SILLFEATHER_TUPLES_MAX, NUMBERS = 4 * ROWS };
+enum { STACK = 1 << 20, FILL = 0xa5, NUMBERS = 4 * SILLFEATHER_TUPLES_MAX };
 
-#define COLUMNS(list) double *list##_x, size_t, double *list##_y, size_t, double *list##_z, size_t, double *list##_t, size_t
-uint32_t columns_shift(uint32_t, const uint8_t *, size_t, COLUMNS(list), const double *, size_t, const uint8_t *, size_t, uint64_t[16]);
-uint32_t columns_keep(uint32_t, const uint8_t *, size_t, COLUMNS(list), COLUMNS(results), COLUMNS(track));
-uint32_t columns_correct(uint32_t, const uint8_t *, size_t, COLUMNS(list), COLUMNS(results), COLUMNS(track), size_t, const double[4], uint64_t *);
-
-/* every kind; one exact Helmert step, running and in own-epoch mode */
-static uint8_t all_kinds[SILLFEATHER_SHEET_MAX], helmerts[2][SILLFEATHER_SHEET_MAX], marks[ROWS];
-static uint64_t all_kinds_len, helmerts_len[2];
-static double list[NUMBERS], results[NUMBERS], track[NUMBERS], velocities[3 * ROWS];
-static double columns[3][4][ROWS];
+static uint8_t all_kinds[SILLFEATHER_SHEET_MAX], one_helmert[SILLFEATHER_SHEET_MAX], marks[SILLFEATHER_TUPLES_MAX];
+static uint64_t all_kinds_len, one_helmert_len;
+static double list[NUMBERS], results[NUMBERS], track[NUMBERS], velocities[3 * SILLFEATHER_TUPLES_MAX];
 static struct sillfeather_helmert helmert = SILLFEATHER_HELMERT_BLANK;
 
 static void make(void) {
@@ -29,80 +21,36 @@ static void make(void) {
     const size_t room = SILLFEATHER_SHEET_MAX;
     helmert.t_epoch = 2000.0;
     helmert.dxyz[0] = helmert.rxyz[0] = helmert.drxyz[0] = 1.0;
-    for (uint32_t own = 0; own < 2; own++)
-        sillfeather_add_helmert(helmerts[own], room, &helmerts_len[own], 0, SILLFEATHER_HELMERT_EXACT + own * SILLFEATHER_HELMERT_OWN_EPOCH,
-                                SILLFEATHER_POSITION_VECTOR, SILLFEATHER_NUMBERS(&helmert));
+    sillfeather_add_helmert(one_helmert, room, &one_helmert_len, 0, SILLFEATHER_HELMERT_EXACT, SILLFEATHER_POSITION_VECTOR, SILLFEATHER_NUMBERS(&helmert));
     sillfeather_add_helmert(all_kinds, room, &all_kinds_len, 0, SILLFEATHER_HELMERT_EXACT, SILLFEATHER_POSITION_VECTOR, SILLFEATHER_NUMBERS(&helmert));
     sillfeather_add_cart(all_kinds, room, &all_kinds_len, 1, SILLFEATHER_GRS80);
     sillfeather_add_molodensky(all_kinds, room, &all_kinds_len, 0, 0, SILLFEATHER_GRS80, 0, molodensky);
     sillfeather_add_permtide(all_kinds, room, &all_kinds_len, 0, SILLFEATHER_GRS80, SILLFEATHER_TIDE_MEAN, SILLFEATHER_TIDE_FREE, SILLFEATHER_PERMTIDE_K);
     sillfeather_add_deformation(all_kinds, room, &all_kinds_len, 0, 0, SILLFEATHER_GRS80, SILLFEATHER_NOT_GIVEN, 2000.0);
     memset(marks, 1, sizeof marks);
-    for (int i = 0; i < NUMBERS; i++) list[i] = columns[0][i % 4][i / 4] = i;
+    for (int i = 0; i < NUMBERS; i++) list[i] = i;
 }
 
 static uint32_t nothing(void) { return 0; }
 
 static uint32_t check(void) { return sillfeather_check(all_kinds, (size_t)all_kinds_len); }
 
-/* forward and inverse; 16 rows and the longest list, which take rooms of their own */
 static uint32_t shift(void) {
     uint32_t counts[16], told = 0;
     for (uint32_t inverse = 0; inverse < 2; inverse++)
-        for (size_t rows = 16; rows <= ROWS; rows += ROWS - 16) {
-            told |= sillfeather_shift(inverse, all_kinds, (size_t)all_kinds_len, list, 4 * rows, velocities, 3 * rows, marks, rows, counts);
-            for (int own = 0; own < 2; own++)
-                told |= sillfeather_shift(inverse, helmerts[own], (size_t)helmerts_len[own], list, 4 * rows, velocities, 0, marks, 0, counts);
-        }
+        told |= sillfeather_shift(inverse, all_kinds, (size_t)all_kinds_len, list, NUMBERS, velocities, 3 * SILLFEATHER_TUPLES_MAX, marks,
+                                  SILLFEATHER_TUPLES_MAX, counts);
     return told;
 }
 
 static uint32_t keep(void) {
-    uint32_t told = 0;
-    for (int own = 0; own < 2; own++)
-        told |= sillfeather_keep(0, helmerts[own], (size_t)helmerts_len[own], list, NUMBERS, results, NUMBERS, track, NUMBERS);
-    return told;
+    return sillfeather_keep(0, one_helmert, (size_t)one_helmert_len, list, NUMBERS, results, NUMBERS, track, NUMBERS);
 }
 
-/* of a running list every fix is redone */
 static uint32_t correct(void) {
     const double fix[4] = {1, 2, 3, 2001};
     uint64_t redone;
-    uint32_t told = 0;
-    for (int own = 0; own < 2; own++)
-        told |= sillfeather_correct(0, helmerts[own], (size_t)helmerts_len[own], list, NUMBERS, results, NUMBERS, track, NUMBERS, 3, fix, &redone);
-    return told;
-}
-
-#define LENT(c, rows) (c)[0], rows, (c)[1], rows, (c)[2], rows, (c)[3], rows
-
-static uint32_t shift_columns(void) {
-    uint64_t counts[16];
-    uint32_t told = 0;
-    for (uint32_t inverse = 0; inverse < 2; inverse++)
-        for (size_t rows = 16; rows <= ROWS; rows += ROWS - 16) {
-            told |= columns_shift(inverse, all_kinds, (size_t)all_kinds_len, LENT(columns[0], rows), velocities, 3 * rows, marks, rows, counts);
-            for (int own = 0; own < 2; own++)
-                told |= columns_shift(inverse, helmerts[own], (size_t)helmerts_len[own], LENT(columns[0], rows), velocities, 0, marks, 0, counts);
-        }
-    return told;
-}
-
-static uint32_t keep_columns(void) {
-    uint32_t told = 0;
-    for (int own = 0; own < 2; own++)
-        told |= columns_keep(0, helmerts[own], (size_t)helmerts_len[own], LENT(columns[0], ROWS), LENT(columns[1], ROWS), LENT(columns[2], ROWS));
-    return told;
-}
-
-static uint32_t correct_columns(void) {
-    const double fix[4] = {1, 2, 3, 2001};
-    uint64_t redone;
-    uint32_t told = 0;
-    for (int own = 0; own < 2; own++)
-        told |= columns_correct(0, helmerts[own], (size_t)helmerts_len[own], LENT(columns[0], ROWS), LENT(columns[1], ROWS), LENT(columns[2], ROWS), 3, fix,
-                                &redone);
-    return told;
+    return sillfeather_correct(0, one_helmert, (size_t)one_helmert_len, list, NUMBERS, results, NUMBERS, track, NUMBERS, 3, fix, &redone);
 }
 
 static uint32_t add(void) {
@@ -144,12 +92,9 @@ int main(void) {
         uint32_t (*call)(void);
         size_t limit;
     } calls[] = {{"check", check, 4096},
-                 {"shift", shift, 20480},
-                 {"keep", keep, 12288},
-                 {"correct", correct, 10240},
-                 {"shift over columns", shift_columns, 10240},
-                 {"keep over columns", keep_columns, 6144},
-                 {"correct over columns", correct_columns, 6144},
+                 {"shift", shift, 5120},
+                 {"keep", keep, 4096},
+                 {"correct", correct, 4096},
                  {"rescue", rescue, 6144},
                  {"add", add, 32768}};
     int passed = 0, failed = 0;

@@ -45,7 +45,7 @@ pub enum Refusal {
         /// The step, from 1.
         step: u16,
     },
-    /// 9: a list not of whole tuples, or of over 2,048; columns of unequal length.
+    /// 9: a list not of whole tuples, or of over 2,048.
     List,
     /// 10: velocities or marks of the wrong length (both are empty without a deformation step), or a mark over 1.
     Velocities,

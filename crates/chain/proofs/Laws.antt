@@ -1,17 +1,18 @@
 -- The chain's laws: what a chain of one step and of steps A then B is; and the invariants by which
 -- the loops over the steps are proved. Working definitions, which no promise cites: `leftFrom`,
--- `Forward`, `Backward`. Assumes nothing.
+-- `Forward`, `Backward`, `Walked`. Assumes nothing.
 use Prim.Native.Nat.{ℕ, zero, suc, _+_, _-_, _≤_, _<_}
 use native.Mathlib.Omega.{arith}
 use mathlib.Core.Path.{_≡_, refl, sym, ap, _∙_}
-use mathlib.Core.Bool.{Bool, true, false}
+use mathlib.Core.Bool.{Bool, true, false, true≢false}
 use mathlib.Core.List.{List, [], _∷_, _++_, append-assoc, append-nil}
 use lib.ListN.{length, take, drop, set, replicate, length-take, length-set, take-append-drop}
 use lib.Seq.{take-suc-set, drop-set-lt, drop-cons, drop-drop, getD-set-same}
 use lib.Ieee.{Float}
 use Rattle.sheet.specs.declared.Entry.{Entry}
 use Rattle.lists.proofs.Laws.{ran-length}
-use Rattle.chain.specs.Chain.{turnsOf, stateOf, reversedOf, stepListOf, tuplesCountedOf, Run, chainForwardOf, chainInverseOf, placesOf, entriesOf}
+use Rattle.plans.specs.Plans.{stepIndexOf}
+use Rattle.chain.specs.Chain.{turnsOf, stateOf, reversedOf, stepListOf, tuplesCountedOf, Run, chainForwardOf, chainInverseOf, chainOf, placesOf, entriesOf}
 
 module _ (velocities : List Float) (marks : List ℕ) where
   -- ---- a chain of one step is that step over the list
@@ -205,3 +206,35 @@ module _ {velocities : List Float} {marks : List ℕ} {entry : ℕ → Entry} {n
       counts-length velocities marks (entriesOf entry n 0) l₀ ∙ entries-length entry n 0
       in
       (rw (s, z) at (now .list), c ∙ rw k)
+
+-- ---- either way: i steps have run
+
+pub record Walked (inverse : Bool) (velocities : List Float) (marks : List ℕ) (entry : ℕ → Entry) (n : ℕ) (l₀ : List Float) (i : ℕ) (l : List Float) (counts : List ℕ) : Type 0 where
+  pub within : i ≤ n
+  pub forth : inverse ≡ false → Forward velocities marks entry n l₀ i l counts
+  pub back : inverse ≡ true → Backward velocities marks entry n l₀ (n - i) l counts
+
+pub walked-start : (inverse : Bool) (velocities : List Float) (marks : List ℕ) (entry : ℕ → Entry) (n : ℕ) (l₀ : List Float) → n ≤ 16
+    → Walked inverse velocities marks entry n l₀ 0 l₀ (replicate 16 0)
+walked-start inverse velocities marks entry n l₀ most =
+    let s : n - 0 ≡ n = omega arith in
+    record { within = omega arith; forth = λ e. forward-start velocities marks entry n l₀ most; back = λ e. rw s (backward-start velocities marks entry n l₀ most) }
+
+module _ {velocities : List Float} {marks : List ℕ} {entry : ℕ → Entry} {n : ℕ} {l₀ : List Float} {i : ℕ} {l : List Float} {counts : List ℕ} (most : n ≤ 16) where
+  one-more : (inverse : Bool) {l′ : List Float} {count : ℕ} → i < n → l′ ≡ stepListOf inverse velocities marks (entry (stepIndexOf inverse n i)) l
+      → count ≡ tuplesCountedOf inverse velocities marks (entry (stepIndexOf inverse n i)) l
+      → Walked inverse velocities marks entry n l₀ i l counts → Walked inverse velocities marks entry n l₀ (i + 1) l′ (set counts (stepIndexOf inverse n i) count)
+  one-more false h el ec now = record { within = omega arith; forth = λ e. forward-again most h refl el ec (now .forth refl); back = λ e. absurd (true≢false (sym e)) }
+  one-more true h el ec now =
+      let s : n - (i + 1) ≡ n - 1 - i = omega arith in
+      record { within = omega arith; forth = λ e. absurd (true≢false e); back = λ e. rw s (backward-again most (n - 1 - i) (omega arith) refl el ec (now .back refl)) }
+
+  pub walked-again : (inverse : Bool) {l′ : List Float} {count j : ℕ} → j ≡ stepIndexOf inverse n i → i < n → l′ ≡ stepListOf inverse velocities marks (entry j) l
+      → count ≡ tuplesCountedOf inverse velocities marks (entry j) l
+      → Walked inverse velocities marks entry n l₀ i l counts → Walked inverse velocities marks entry n l₀ (i + 1) l′ (set counts j count)
+  walked-again inverse e h el ec now = rw e (one-more inverse h (rw e at el) (rw e at ec) now)
+
+  pub walked-end : (inverse : Bool) → n ≤ i → Walked inverse velocities marks entry n l₀ i l counts
+      → (l ≡ chainOf inverse velocities marks (entriesOf entry n 0) l₀ .list) × (counts ≡ placesOf (chainOf inverse velocities marks (entriesOf entry n 0) l₀ .counts))
+  walked-end false h now = forward-end most h (now .forth refl)
+  walked-end true h now = backward-end most (omega arith) (now .back refl)

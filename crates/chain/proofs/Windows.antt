@@ -20,9 +20,9 @@ use Rattle.plans.specs.declared.Standing.{Standing}
 use Rattle.plans.specs.Plans.{planOf, planIn, Ready, planTurnsOf, planStartOf}
 use Rattle.plans.specs.Windows.{goneOf}
 use Rattle.plans.proofs.Arrays.{sixteen-or-fewer}
-use Rattle.sheet_plans.specs.Sheets.{planAt}
 use Rattle.windows.specs.Steps.{turnsIn, turnsFrom, noStanding, startsFrom, countsOf, goneOver}
-use Rattle.chain.specs.Chain.{Run, turnsOf, stateOf, reversedOf, stepListOf, tuplesCountedOf, chainForwardOf, chainInverseOf, chainOf, placesOf, entriesOf}
+use Rattle.sheet_plans.specs.Sheets.{planAt}
+use Rattle.chain.specs.Chain.{turnsOf, stateOf, entryPlanOf, stepListOf, tuplesCountedOf, chainForwardOf, chainInverseOf, chainOf, placesOf, entriesOf}
 use Rattle.chain.proofs.Laws.{counts-length, entries-length, forward-counts-length}
 
 -- ---- one step
@@ -46,78 +46,50 @@ plan-start inverse (Deformation r) = refl
 plan-start inverse (Molodensky r) = refl
 plan-start inverse (Helmert h) = refl
 
-module _ (inverse : Bool) (velocities : List Float) (marks s : List ℕ) (i : ℕ) (below : i < stepCountOf s) where
-  turns-at : planTurnsOf velocities marks (planAt inverse s i) ≡ turnsOf (reversedOf inverse (entryAt s i)) velocities marks (entryAt s i .step)
-  unfolding planAt entryAt
-  turns-at = rw (lt-ltb i (stepCountOf s) below) (plan-turns velocities marks _ _)
+-- an entry's plan, from its start
+module _ (inverse : Bool) (velocities : List Float) (marks : List ℕ) (e : Entry) {plan : Plan} (is : plan ≡ entryPlanOf inverse e) (l : List Float) where
+  pub list-by : ranOf (planTurnsOf velocities marks plan) 0 (planStartOf plan) l ≡ stepListOf inverse velocities marks e l
+  unfolding stepListOf
+  list-by = rw (is, plan-turns, plan-start)
 
-  start-at : planStartOf (planAt inverse s i) ≡ stateOf (entryAt s i .step)
-  unfolding planAt entryAt
-  start-at = rw (lt-ltb i (stepCountOf s) below) (plan-start _ _)
+  pub count-by : countOf (planTurnsOf velocities marks plan) 0 (planStartOf plan) l ≡ tuplesCountedOf inverse velocities marks e l
+  unfolding tuplesCountedOf
+  count-by = rw (is, plan-turns, plan-start)
 
-  module _ {plan : Plan} (e : plan ≡ planAt inverse s i) (l : List Float) where
-    pub list-at : ranOf (planTurnsOf velocities marks plan) 0 (planStartOf plan) l ≡ stepListOf inverse velocities marks (entryAt s i) l
-    unfolding stepListOf
-    list-at = ap (λ (p : Plan). ranOf (planTurnsOf velocities marks p) 0 (planStartOf p) l) e ∙ rw (turns-at, start-at)
-
-    pub count-at : countOf (planTurnsOf velocities marks plan) 0 (planStartOf plan) l ≡ tuplesCountedOf inverse velocities marks (entryAt s i) l
-    unfolding tuplesCountedOf
-    count-at = ap (λ (p : Plan). countOf (planTurnsOf velocities marks p) 0 (planStartOf p) l) e ∙ rw (turns-at, start-at)
-
--- ---- a sheet of one step
-
-module _ (inverse : Bool) (velocities : List Float) (marks s : List ℕ) (below : 0 < stepCountOf s) (l : List Float) where
-  one : Bool → Run
-  one inverted = record { list = stepListOf inverted velocities marks (entryAt s 0) l; counts = tuplesCountedOf inverted velocities marks (entryAt s 0) l ∷ [] }
-
-  one-run : (inverted : Bool) → chainOf inverted velocities marks (entriesOf (entryAt s) 1 0) l ≡ one inverted
-  unfolding one entriesOf chainForwardOf chainInverseOf
-  one-run true = refl
-  one-run false = refl
-
-  pub one-step : {plan : Plan} {l′ : List Float} {n : ℕ} → plan ≡ planAt inverse s 0 → l′ ≡ ranOf (planTurnsOf velocities marks plan) 0 (planStartOf plan) l
-      → n ≡ countOf (planTurnsOf velocities marks plan) 0 (planStartOf plan) l
-      → let run = chainOf inverse velocities marks (entriesOf (entryAt s) 1 0) l in (l′ ≡ run .list) × (n ∷ replicate 15 0 ≡ placesOf (run .counts))
-  unfolding one
-  one-step e el en =
-      let r = one-run inverse in (
-        el ∙ list-at inverse velocities marks s 0 below e l ∙ sym (ap (λ (run : Run). run .list) r),
-        ap (λ (k : ℕ). k ∷ replicate 15 0) (en ∙ count-at inverse velocities marks s 0 below e l) ∙ sym (ap (λ (run : Run). placesOf (run .counts)) r),
-      )
+-- a sheet's step by its plan
+pub plan-at : (inverse : Bool) (s : List ℕ) (i : ℕ) → i < stepCountOf s → planAt inverse s i ≡ entryPlanOf inverse (entryAt s i)
+unfolding planAt entryAt
+plan-at inverse s i below = rw (lt-ltb i (stepCountOf s) below)
 
 -- ---- steps one after another
 
-module _ (velocities : List Float) (marks s : List ℕ) (plans : List Plan) where
-  forward-gone : (n i : ℕ) (more : List Standing) (l : List Float) → i + n ≤ stepCountOf s → Ready (planAt false s) (i + n) plans
+module _ (velocities : List Float) (marks : List ℕ) (entry : ℕ → Entry) (plans : List Plan) (m : ℕ) where
+  forward-gone : Ready (λ (i : ℕ). entryPlanOf false (entry i)) m plans → (n i : ℕ) (more : List Standing) (l : List Float) → i + n ≤ m
       → let gone = goneOf false 0 (turnsFrom (turnsIn velocities marks plans) n i) (startsFrom (planIn plans) n i ++ more) l in
-      let run = chainForwardOf velocities marks (entriesOf (entryAt s) n i) l in
+      let run = chainForwardOf velocities marks (entriesOf entry n i) l in
       (gone .list ≡ run .list) × (countsOf (gone .standings) ≡ run .counts ++ countsOf more)
   unfolding goneOf turnsFrom startsFrom entriesOf chainForwardOf countsOf
-  forward-gone zero i more l h ready = (refl, refl)
-  forward-gone (suc n) i more l h ready =
-      let below : i < stepCountOf s = omega (arith, h) in
-      let next : suc i + n ≡ i + suc n = omega arith in
-      let there = ready i (omega arith) in
-      let listed = list-at false velocities marks s i below there l in
-      let counted = count-at false velocities marks s i below there l in
-      let later = forward-gone n (suc i) more (stepListOf false velocities marks (entryAt s i) l) (omega (arith, h)) (rw next ready) in
-      (rw listed (later .0), rw (listed, zero-add, counted) (ap (λ (counts : List ℕ). tuplesCountedOf false velocities marks (entryAt s i) l ∷ counts) (later .1)))
+  forward-gone ready zero i more l h = (refl, refl)
+  forward-gone ready (suc n) i more l h =
+      let is = ready i (omega (arith, h)) in
+      let listed = list-by false velocities marks (entry i) is l in
+      let counted = count-by false velocities marks (entry i) is l in
+      let later = forward-gone ready n (suc i) more (stepListOf false velocities marks (entry i) l) (omega (arith, h)) in
+      (rw listed (later .0), rw (listed, zero-add, counted) (ap (λ (counts : List ℕ). tuplesCountedOf false velocities marks (entry i) l ∷ counts) (later .1)))
 
-  inverse-gone : (n i : ℕ) (more : List Standing) (l : List Float) → i + n ≤ stepCountOf s → Ready (planAt true s) (i + n) plans
+  inverse-gone : Ready (λ (i : ℕ). entryPlanOf true (entry i)) m plans → (n i : ℕ) (more : List Standing) (l : List Float) → i + n ≤ m
       → let gone = goneOf true 0 (turnsFrom (turnsIn velocities marks plans) n i) (startsFrom (planIn plans) n i ++ more) l in
-      let run = chainInverseOf velocities marks (entriesOf (entryAt s) n i) l in
+      let run = chainInverseOf velocities marks (entriesOf entry n i) l in
       (gone .list ≡ run .list) × (countsOf (gone .standings) ≡ run .counts ++ countsOf more)
   unfolding goneOf turnsFrom startsFrom entriesOf chainInverseOf countsOf
-  inverse-gone zero i more l h ready = (refl, refl)
-  inverse-gone (suc n) i more l h ready =
-      let below : i < stepCountOf s = omega (arith, h) in
-      let next : suc i + n ≡ i + suc n = omega arith in
-      let there = ready i (omega arith) in
-      let later = inverse-gone n (suc i) more l (omega (arith, h)) (rw next ready) in
-      let run = chainInverseOf velocities marks (entriesOf (entryAt s) n (suc i)) l in
-      let listed = list-at true velocities marks s i below there (run .list) in
-      let counted = count-at true velocities marks s i below there (run .list) in
-      (rw (later .0) listed, rw (later .0, zero-add, counted) (ap (λ (counts : List ℕ). tuplesCountedOf true velocities marks (entryAt s i) (run .list) ∷ counts) (later .1)))
+  inverse-gone ready zero i more l h = (refl, refl)
+  inverse-gone ready (suc n) i more l h =
+      let is = ready i (omega (arith, h)) in
+      let later = inverse-gone ready n (suc i) more l (omega (arith, h)) in
+      let run = chainInverseOf velocities marks (entriesOf entry n (suc i)) l in
+      let listed = list-by true velocities marks (entry i) is (run .list) in
+      let counted = count-by true velocities marks (entry i) is (run .list) in
+      (rw (later .0) listed, rw (later .0, zero-add, counted) (ap (λ (counts : List ℕ). tuplesCountedOf true velocities marks (entry i) (run .list) ∷ counts) (later .1)))
 
 -- no step, no count
 none-counted : (m : ℕ) → countsOf (replicate m noStanding) ≡ replicate m 0
@@ -126,16 +98,25 @@ none-counted zero = refl
 none-counted (suc m) = ap (λ (counts : List ℕ). 0 ∷ counts) (none-counted m)
 
 -- all steps in windows are the chain
-pub windows-are-the-chain : (inverse : Bool) (velocities : List Float) (marks s : List ℕ) (plans : List Plan) (n : ℕ) (l : List Float) → n ≤ stepCountOf s → n ≤ 16 → Ready (planAt inverse s) n plans
+pub windows-are-the-chain : (inverse : Bool) (velocities : List Float) (marks : List ℕ) (entry : ℕ → Entry) (plans : List Plan) (n : ℕ) (l : List Float) → n ≤ 16
+    → Ready (λ (i : ℕ). entryPlanOf inverse (entry i)) n plans
     → let gone = goneOver inverse velocities marks plans n l in
-    let run = chainOf inverse velocities marks (entriesOf (entryAt s) n 0) l in
+    let run = chainOf inverse velocities marks (entriesOf entry n 0) l in
     (gone .list ≡ run .list) × (countsOf (gone .standings) ≡ placesOf (run .counts))
 unfolding goneOver
-windows-are-the-chain true velocities marks s plans n l h few ready =
-    let e = inverse-gone velocities marks s plans n 0 (replicate (16 - n) noStanding) l (omega (arith, h)) (rw (zero-add n) ready) in
-    let k = counts-length velocities marks (entriesOf (entryAt s) n 0) l ∙ entries-length (entryAt s) n 0 in
-    rw (sixteen-or-fewer n few) (e .0, e .1 ∙ rw (none-counted, k))
-windows-are-the-chain false velocities marks s plans n l h few ready =
-    let e = forward-gone velocities marks s plans n 0 (replicate (16 - n) noStanding) l (omega (arith, h)) (rw (zero-add n) ready) in
-    let k = forward-counts-length velocities marks (entriesOf (entryAt s) n 0) l ∙ entries-length (entryAt s) n 0 in
-    rw (sixteen-or-fewer n few) (e .0, e .1 ∙ rw (none-counted, k))
+windows-are-the-chain true velocities marks entry plans n l most ready =
+    let e = inverse-gone velocities marks entry plans n ready n 0 (replicate (16 - n) noStanding) l (omega arith) in
+    let k = counts-length velocities marks (entriesOf entry n 0) l ∙ entries-length entry n 0 in
+    rw (sixteen-or-fewer n most) (e .0, e .1 ∙ rw (none-counted, k))
+windows-are-the-chain false velocities marks entry plans n l most ready =
+    let e = forward-gone velocities marks entry plans n ready n 0 (replicate (16 - n) noStanding) l (omega arith) in
+    let k = forward-counts-length velocities marks (entriesOf entry n 0) l ∙ entries-length entry n 0 in
+    rw (sixteen-or-fewer n most) (e .0, e .1 ∙ rw (none-counted, k))
+
+-- a sheet of one step is that step
+pub one-step : (inverse : Bool) (velocities : List Float) (marks : List ℕ) (entry : ℕ → Entry) (l : List Float)
+    → chainOf inverse velocities marks (entriesOf entry 1 0) l
+    ≡ record { list = stepListOf inverse velocities marks (entry 0) l; counts = tuplesCountedOf inverse velocities marks (entry 0) l ∷ [] }
+unfolding entriesOf chainForwardOf chainInverseOf
+one-step true velocities marks entry l = refl
+one-step false velocities marks entry l = refl

@@ -14,6 +14,8 @@ use Rattle.sheet.specs.declared.Entry.{Entry}
 use Rattle.lists.specs.Run.{Turns, ranOf, countOf}
 use Rattle.helmert.specs.Turns.{noState, helmertTurns}
 use Rattle.turns.specs.Turns.{cartTurns, permtideTurns, molodenskyTurns, deformationTurns}
+use Rattle.plans.specs.declared.Plan.{Plan}
+use Rattle.plans.specs.Plans.{planOf}
 
 -- ---- one step over a list
 
@@ -36,6 +38,10 @@ stateOf (Helmert h) = startOf (prepareOf h)
 -- a step runs in the chain's direction, turned round where its inverted word is 1
 abbrev pub reversedOf : Bool → Entry → Bool
 reversedOf inverse e = cond (eqb (e .inverted) 1) (not inverse) inverse
+
+-- the plan that it runs by
+abbrev pub entryPlanOf : Bool → Entry → Plan
+entryPlanOf inverse e = planOf (reversedOf inverse e) (e .step)
 
 -- the list after a step, and how many tuples the step counted
 unfoldable pub stepListOf : Bool → List Float → List ℕ → Entry → List Float → List Float

@@ -2,21 +2,21 @@
 //
 // Document 01, "The sheet" (a chain runs steps in order, inverse in reverse with each turned round)
 // and "Numbers of refusal"; document 02, A7: the list is four columns, and the flat entry converts
-// around them. `shift_columns` checks the sheet where it lies and makes one step ready at a time,
-// steps outermost and rows innermost. `shift` puts a short list into columns of its own, and a long
-// one window by window (`windows`). chain_record does the same over a record that is already read,
-// and the two agree (proved there). The answer, the counts and the list are fixed for every input by
-// specs/Rules.antt and specs/Columns.antt over specs/Chain.antt, which is made of the steps' own
-// definitions; nothing is written before the last test has passed. No rounding but the steps' own.
-// Used by the program and by callers that keep lists.
+// around them. `shift_columns` checks the sheet where it lies and runs it step after step over the
+// columns. `shift` does the same over columns of its own where the list has sixteen tuples at most;
+// a longer one goes window by window, with every step made ready once (`step_windows` where there is
+// one, `windows`). chain_record does so over a record that is already read, and the two agree (proved
+// there). The answer, the counts and the list are fixed for every input by specs/Rules.antt and
+// specs/Columns.antt over specs/Chain.antt, which is made of the steps' own definitions; nothing is
+// written before the last test has passed. No rounding but the steps' own. Used by the program and
+// by callers that keep lists.
 ghost use mathlib.Core.Path.{_≡_};
-ghost use mathlib.Core.Bool.{true, false};
 ghost use Prim.Native.Nat.{_*_, _%_, _≤_, _<_};
 ghost use lib.ListN.{length};
 ghost use Rattle.columns.specs.Columns.{columns, Level, flatOf};
 ghost use Rattle.sheet.specs.Layout.{stepCountOf, kindAt, entryAt};
 ghost use Rattle.sheet.specs.Rules.{hasDeformation};
-ghost use Rattle.chain.specs.Chain.{reversedOf, stepListOf, tuplesCountedOf, chainForwardOf, chainInverseOf, chainOf, placesOf, entriesOf};
+ghost use Rattle.chain.specs.Chain.{reversedOf, stepListOf, tuplesCountedOf, chainOf, placesOf, entriesOf};
 ghost use Rattle.chain.specs.Rules.{refusal9, overOne, lentFor, refusal10, refusedAnswer, ranAnswer, outcome, shiftOf};
 ghost use Rattle.chain.specs.Columns.{refusal9Columns, columnsOutcome, shiftColumnsOf};
 use sheet::Entry;
@@ -37,8 +37,7 @@ pub fn reversed(inverse: bool, entry: Entry) -> bool
     sheet_plans::reversed_by(inverse, entry.inverted)
 }
 
-// The step at index i over the whole columns, in the chain's direction. No `Step` is built: the
-// enum is as large as a Helmert record and would be copied at each call.
+// The step at index i over the whole columns, in the chain's direction.
 fn step_at(
     inverse: bool,
     s: &[u8],
@@ -50,68 +49,18 @@ fn step_at(
     velocities: &[f64],
     marks: &[u8],
 ) -> usize
-    requires { ⌜ (i < stepCountOf (now s)) × Level (now x) (now y) (now z) (now t) × (length (now x) ≤ 2048) ⌝ }
+    requires { ⌜ i < stepCountOf (now s) ⌝ }
     ensures { λ r. ⌜ (flatOf (now (x .exit)) (now (y .exit)) (now (z .exit)) (now (t .exit))
         ≡ stepListOf inverse (now (velocities .entry)) (now (marks .entry)) (entryAt (now (s .entry)) i) (flatOf (now (x .entry)) (now (y .entry)) (now (z .entry)) (now (t .entry))))
         × (r ≡ tuplesCountedOf inverse (now (velocities .entry)) (now (marks .entry)) (entryAt (now (s .entry)) i) (flatOf (now (x .entry)) (now (y .entry)) (now (z .entry)) (now (t .entry)))) ⌝ }
 {
-    let plan = sheet_plans::plan_at(inverse, s, i);
-    let from = plans::start(plan);
-    let went = plan_columns::run(plan, 0, from, x, y, z, t, velocities, marks);
-    went.count
+    let inv = sheet_plans::reversed_by(inverse, sheet::inverted_at(s, i));
+    let kind = sheet::kind_at(s, i);
+    let b = sheet::body_at(s, i);
+    body_columns::run(inv, kind, b, x, y, z, t, velocities, marks)
 }
 
 // ----- a sheet's steps, one after another ------------------------------------------------------
-
-fn forward(
-    s: &[u8],
-    n: usize,
-    x: &mut [f64],
-    y: &mut [f64],
-    z: &mut [f64],
-    t: &mut [f64],
-    velocities: &[f64],
-    marks: &[u8],
-) -> [usize; 16]
-    requires { ⌜ (n ≤ 16) × (n ≡ stepCountOf (now s)) × Level (now x) (now y) (now z) (now t) × (length (now x) ≤ 2048) ⌝ }
-    ensures { λ r. ⌜ (flatOf (now (x .exit)) (now (y .exit)) (now (z .exit)) (now (t .exit))
-        ≡ chainForwardOf (now (velocities .entry)) (now (marks .entry)) (entriesOf (entryAt (now (s .entry))) n 0) (flatOf (now (x .entry)) (now (y .entry)) (now (z .entry)) (now (t .entry))) .list)
-        × (r ≡ placesOf (chainForwardOf (now (velocities .entry)) (now (marks .entry)) (entriesOf (entryAt (now (s .entry))) n 0) (flatOf (now (x .entry)) (now (y .entry)) (now (z .entry)) (now (t .entry))) .counts)) ⌝ }
-{
-    let mut counts = [0usize; 16];
-    let mut i = 0;
-    while i < n {
-        let count = step_at(false, s, i, x, y, z, t, velocities, marks); // the first step first
-        counts[i] = count; // in the sheet's order
-        i += 1;
-    }
-    counts
-}
-
-fn backward(
-    s: &[u8],
-    n: usize,
-    x: &mut [f64],
-    y: &mut [f64],
-    z: &mut [f64],
-    t: &mut [f64],
-    velocities: &[f64],
-    marks: &[u8],
-) -> [usize; 16]
-    requires { ⌜ (n ≤ 16) × (n ≡ stepCountOf (now s)) × Level (now x) (now y) (now z) (now t) × (length (now x) ≤ 2048) ⌝ }
-    ensures { λ r. ⌜ (flatOf (now (x .exit)) (now (y .exit)) (now (z .exit)) (now (t .exit))
-        ≡ chainInverseOf (now (velocities .entry)) (now (marks .entry)) (entriesOf (entryAt (now (s .entry))) n 0) (flatOf (now (x .entry)) (now (y .entry)) (now (z .entry)) (now (t .entry))) .list)
-        × (r ≡ placesOf (chainInverseOf (now (velocities .entry)) (now (marks .entry)) (entriesOf (entryAt (now (s .entry))) n 0) (flatOf (now (x .entry)) (now (y .entry)) (now (z .entry)) (now (t .entry))) .counts)) ⌝ }
-{
-    let mut counts = [0usize; 16];
-    let mut i = n;
-    while 0 < i {
-        i -= 1;
-        let count = step_at(true, s, i, x, y, z, t, velocities, marks); // the last step first
-        counts[i] = count;
-    }
-    counts
-}
 
 // The whole columns in either direction.
 fn over_columns(
@@ -125,18 +74,58 @@ fn over_columns(
     velocities: &[f64],
     marks: &[u8],
 ) -> [usize; 16]
-    requires { ⌜ (n ≤ 16) × (n ≡ stepCountOf (now s)) × Level (now x) (now y) (now z) (now t) × (length (now x) ≤ 2048) ⌝ }
+    requires { ⌜ (n ≤ 16) × (n ≡ stepCountOf (now s)) ⌝ }
     ensures { λ r. ⌜ (flatOf (now (x .exit)) (now (y .exit)) (now (z .exit)) (now (t .exit))
         ≡ chainOf inverse (now (velocities .entry)) (now (marks .entry)) (entriesOf (entryAt (now (s .entry))) n 0) (flatOf (now (x .entry)) (now (y .entry)) (now (z .entry)) (now (t .entry))) .list)
         × (r ≡ placesOf (chainOf inverse (now (velocities .entry)) (now (marks .entry)) (entriesOf (entryAt (now (s .entry))) n 0) (flatOf (now (x .entry)) (now (y .entry)) (now (z .entry)) (now (t .entry))) .counts)) ⌝ }
 {
-    if inverse {
-        return backward(s, n, x, y, z, t, velocities, marks);
+    let mut counts = [0usize; 16];
+    let mut i = 0;
+    while i < n {
+        let k = plans::step_index(inverse, n, i); // the first step first, inverse the last
+        let count = step_at(inverse, s, k, x, y, z, t, velocities, marks);
+        counts[k] = count; // in the sheet's order
+        i += 1;
     }
-    forward(s, n, x, y, z, t, velocities, marks)
+    counts
 }
 
-// ----- a flat list -----------------------------------------------------------------------------
+// ----- a short flat list ------------------------------------------------------------------------
+
+// One tuple, as columns of one row: no room is laid out and no loop converts.
+fn single(
+    inverse: bool,
+    s: &[u8],
+    n: usize,
+    list: &mut [f64],
+    velocities: &[f64],
+    marks: &[u8],
+) -> [usize; 16]
+    requires { ⌜ (n ≤ 16) × (n ≡ stepCountOf (now s)) × (length (now list) ≡ 4) ⌝ }
+    ensures { λ r. ⌜ (now (list .exit) ≡ chainOf inverse (now (velocities .entry)) (now (marks .entry)) (entriesOf (entryAt (now (s .entry))) n 0) (now (list .entry)) .list)
+        × (r ≡ placesOf (chainOf inverse (now (velocities .entry)) (now (marks .entry)) (entriesOf (entryAt (now (s .entry))) n 0) (now (list .entry)) .counts)) ⌝ }
+{
+    let mut x = [list[0]];
+    let mut y = [list[1]];
+    let mut z = [list[2]];
+    let mut t = [list[3]];
+    let counts = over_columns(
+        inverse,
+        s,
+        n,
+        &mut x[..1],
+        &mut y[..1],
+        &mut z[..1],
+        &mut t[..1],
+        velocities,
+        marks,
+    );
+    list[0] = x[0];
+    list[1] = y[0];
+    list[2] = z[0];
+    list[3] = t[0];
+    counts
+}
 
 // A flat list through columns that have its rows.
 fn through(
@@ -151,7 +140,7 @@ fn through(
     velocities: &[f64],
     marks: &[u8],
 ) -> [usize; 16]
-    requires { ⌜ (n ≤ 16) × (n ≡ stepCountOf (now s)) × Level (now x) (now y) (now z) (now t) × (length (now list) ≡ 4 * length (now x)) × (length (now x) ≤ 16) ⌝ }
+    requires { ⌜ (n ≤ 16) × (n ≡ stepCountOf (now s)) × Level (now x) (now y) (now z) (now t) × (length (now list) ≡ 4 * length (now x)) ⌝ }
     ensures { λ r. ⌜ (now (list .exit) ≡ chainOf inverse (now (velocities .entry)) (now (marks .entry)) (entriesOf (entryAt (now (s .entry))) n 0) (now (list .entry)) .list)
         × (r ≡ placesOf (chainOf inverse (now (velocities .entry)) (now (marks .entry)) (entriesOf (entryAt (now (s .entry))) n 0) (now (list .entry)) .counts)) ⌝ }
 {
@@ -168,7 +157,7 @@ fn zeros() -> [f64; 16]
     [0.0; 16]
 }
 
-// A list of at most sixteen tuples, in one go.
+// At most sixteen tuples, in one go.
 fn short(
     inverse: bool,
     s: &[u8],
@@ -200,15 +189,24 @@ fn short(
     )
 }
 
-// A sheet of one step over a long list: its plan alone is made.
-fn alone(inverse: bool, s: &[u8], list: &mut [f64], velocities: &[f64], marks: &[u8]) -> [usize; 16]
-    requires { ⌜ 0 < stepCountOf (now s) ⌝ }
-    ensures { λ r. ⌜ (now (list .exit) ≡ chainOf inverse (now (velocities .entry)) (now (marks .entry)) (entriesOf (entryAt (now (s .entry))) 1 0) (now (list .entry)) .list)
-        × (r ≡ placesOf (chainOf inverse (now (velocities .entry)) (now (marks .entry)) (entriesOf (entryAt (now (s .entry))) 1 0) (now (list .entry)) .counts)) ⌝ }
+// ----- a flat list of any length ----------------------------------------------------------------
+
+// A sheet of one step.
+fn alone(
+    inverse: bool,
+    s: &[u8],
+    n: usize,
+    list: &mut [f64],
+    velocities: &[f64],
+    marks: &[u8],
+) -> [usize; 16]
+    requires { ⌜ (n ≡ 1) × (n ≡ stepCountOf (now s)) ⌝ }
+    ensures { λ r. ⌜ (now (list .exit) ≡ chainOf inverse (now (velocities .entry)) (now (marks .entry)) (entriesOf (entryAt (now (s .entry))) n 0) (now (list .entry)) .list)
+        × (r ≡ placesOf (chainOf inverse (now (velocities .entry)) (now (marks .entry)) (entriesOf (entryAt (now (s .entry))) n 0) (now (list .entry)) .counts)) ⌝ }
 {
     let plan = sheet_plans::plan_at(inverse, s, 0);
-    let count = step_windows::over(plan, list, velocities, marks);
     let mut counts = [0usize; 16];
+    let count = step_windows::over(plan, list, velocities, marks);
     counts[0] = count;
     counts
 }
@@ -222,15 +220,18 @@ fn over_list(
     velocities: &[f64],
     marks: &[u8],
 ) -> [usize; 16]
-    requires { ⌜ (n ≤ 16) × (n ≡ stepCountOf (now s)) × (length (now list) % 4 ≡ 0) × (length (now list) ≤ 8192) ⌝ }
+    requires { ⌜ (n ≤ 16) × (n ≡ stepCountOf (now s)) × (length (now list) % 4 ≡ 0) ⌝ }
     ensures { λ r. ⌜ (now (list .exit) ≡ chainOf inverse (now (velocities .entry)) (now (marks .entry)) (entriesOf (entryAt (now (s .entry))) n 0) (now (list .entry)) .list)
         × (r ≡ placesOf (chainOf inverse (now (velocities .entry)) (now (marks .entry)) (entriesOf (entryAt (now (s .entry))) n 0) (now (list .entry)) .counts)) ⌝ }
 {
+    if list.len() == 4 {
+        return single(inverse, s, n, list, velocities, marks);
+    }
     if list.len() <= 64 {
         return short(inverse, s, n, list, velocities, marks);
     }
     if n == 1 {
-        return alone(inverse, s, list, velocities, marks);
+        return alone(inverse, s, n, list, velocities, marks);
     }
     let plans = sheet_plans::plans_of(inverse, s, n);
     windows::over(inverse, plans, n, list, velocities, marks)

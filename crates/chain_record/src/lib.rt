@@ -6,75 +6,42 @@
 // answer, the counts and the list are fixed for every input by specs/Record.antt over chain's
 // definitions. No rounding but the steps' own. For callers that hold a sheet as a record.
 ghost use mathlib.Core.Path.{_≡_};
-ghost use Prim.Native.Nat.{_≤_};
+ghost use Prim.Native.Nat.{ℕ, _≤_};
+ghost use Rattle.plans.specs.Plans.{Ready};
 ghost use Rattle.sheet.specs.Layout.{entryOf, kindIn};
 ghost use Rattle.sheet.specs.Rules.{hasDeformation};
-ghost use Rattle.chain.specs.Chain.{stepListOf, tuplesCountedOf, chainForwardOf, chainInverseOf, placesOf, entriesOf};
+ghost use Rattle.chain.specs.Chain.{entryPlanOf};
 ghost use Rattle.chain.specs.Rules.{outcome};
 ghost use Rattle.chain_record.specs.Record.{shiftRecordOf};
 use chain::Answer;
+use plans::Plan;
 use sheet::Entry;
 use sheet::Refusal;
 use sheet::Sheet;
 
-// One step over the list, a window of it at a time.
-fn run_step(
-    inverse: bool,
-    entry: Entry,
-    list: &mut [f64],
-    velocities: &[f64],
-    marks: &[u8],
-) -> usize
-    ensures { λ r. ⌜ (now (list .exit) ≡ stepListOf inverse (now (velocities .entry)) (now (marks .entry)) entry (now (list .entry)))
-        × (r ≡ tuplesCountedOf inverse (now (velocities .entry)) (now (marks .entry)) entry (now (list .entry))) ⌝ }
+// An entry's step made ready.
+fn plan_of_entry(inverse: bool, entry: Entry) -> Plan
+    ensures { λ r. ⌜ r ≡ entryPlanOf inverse entry ⌝ }
 {
     let inv = chain::reversed(inverse, entry);
     let step = entry.step;
-    step_windows::over(plans::plan_of_step(inv, step), list, velocities, marks)
+    plans::plan_of_step(inv, step)
 }
 
-fn forward_record(
-    kept: Sheet,
-    n: usize,
-    list: &mut [f64],
-    velocities: &[f64],
-    marks: &[u8],
-) -> [usize; 16]
+// The first n steps made ready. The other places have the first step's plan, and no one reads them.
+fn plans_of_record(inverse: bool, kept: Sheet, n: usize) -> [Plan; 16]
     requires { ⌜ n ≤ 16 ⌝ }
-    ensures { λ r. ⌜ (now (list .exit) ≡ chainForwardOf (now (velocities .entry)) (now (marks .entry)) (entriesOf (entryOf kept) n 0) (now (list .entry)) .list)
-        × (r ≡ placesOf (chainForwardOf (now (velocities .entry)) (now (marks .entry)) (entriesOf (entryOf kept) n 0) (now (list .entry)) .counts)) ⌝ }
+    ensures { λ r. ⌜ Ready (λ (i : ℕ). entryPlanOf inverse (entryOf kept i)) n r ⌝ }
 {
-    let mut counts = [0usize; 16];
-    let mut i = 0;
+    let first = kept.entries[0];
+    let mut plans = [plan_of_entry(inverse, first); 16];
+    let mut i = 1;
     while i < n {
         let entry = kept.entries[i];
-        let count = run_step(false, entry, list, velocities, marks);
-        counts[i] = count;
+        plans[i] = plan_of_entry(inverse, entry);
         i += 1;
     }
-    counts
-}
-
-fn backward_record(
-    kept: Sheet,
-    n: usize,
-    list: &mut [f64],
-    velocities: &[f64],
-    marks: &[u8],
-) -> [usize; 16]
-    requires { ⌜ n ≤ 16 ⌝ }
-    ensures { λ r. ⌜ (now (list .exit) ≡ chainInverseOf (now (velocities .entry)) (now (marks .entry)) (entriesOf (entryOf kept) n 0) (now (list .entry)) .list)
-        × (r ≡ placesOf (chainInverseOf (now (velocities .entry)) (now (marks .entry)) (entriesOf (entryOf kept) n 0) (now (list .entry)) .counts)) ⌝ }
-{
-    let mut counts = [0usize; 16];
-    let mut i = n;
-    while 0 < i {
-        i -= 1;
-        let entry = kept.entries[i];
-        let count = run_step(true, entry, list, velocities, marks);
-        counts[i] = count;
-    }
-    counts
+    plans
 }
 
 // Whether one of the first n steps is a deformation step.
@@ -114,10 +81,7 @@ pub fn shift_record(
     if chain::lent_broken(deforms_record(kept, n), list.len(), velocities, marks) {
         return chain::refused(Refusal::of_call(10));
     }
-    if inverse {
-        let counts = backward_record(kept, n, list, velocities, marks);
-        return chain::ran(counts);
-    }
-    let counts = forward_record(kept, n, list, velocities, marks);
+    let plans = plans_of_record(inverse, kept, n);
+    let counts = windows::over(inverse, plans, n, list, velocities, marks);
     chain::ran(counts)
 }

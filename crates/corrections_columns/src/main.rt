@@ -34,11 +34,7 @@ fn coordinate(seed: usize) -> f64 {
 // Wild times are NaN or a zero now and then; calm ones let T grow, and a correction is redone far.
 fn time(seed: usize, calm: bool) -> f64 {
     if calm {
-        return if seed / 65536 % 2 == 0 {
-            2000.5
-        } else {
-            2001.0
-        };
+        return if seed / 65536 % 2 == 0 { 2000.5 } else { 2001.0 };
     }
     match seed / 65536 % 8 {
         0 => 0.0 / 0.0,
@@ -165,7 +161,8 @@ fn one_if(b: bool) -> usize {
 }
 
 fn same4(x: f64, y: f64, z: f64, t: f64, v: Tuple) -> bool {
-    floats::same(x, v.x) & (floats::same(y, v.y) & (floats::same(z, v.z) & floats::same(t, v.t)))
+    floats::same(x, v.x)
+        & (floats::same(y, v.y) & (floats::same(z, v.z) & floats::same(t, v.t)))
 }
 
 // How many rows differ in a bit from a flat list's tuples.

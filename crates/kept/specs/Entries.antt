@@ -34,8 +34,16 @@ refusal13 list results track = not (eqb results list) || not (eqb track list)
 unfoldable pub refusal14 : ℕ → ℕ → Bool
 refusal14 list index = not (ltb index (list / 4))
 
--- the order: the sheet's own, 11 the last of them; then 12, 9, 13, of which lengths tell the last
--- two
+-- the order: the sheet's own, 11 the last of them; then 12, 9, 13
+abbrev pub keptOrder : List ℕ → ℕ → ℕ → ℕ → List Rule → List Rule
+keptOrder s list results track later =
+    rule (refusalOf s) (not (eqb (refusalOf s .number) 0))
+    ∷ rule (ofCall 12) (refusal12 s)
+    ∷ rule (ofCall 9) (refusal9 list)
+    ∷ rule (ofCall 13) (refusal13 list results track)
+    ∷ later
+
+-- the same by whether 9 and 13 are broken, which lengths tell
 abbrev pub orderBy : List ℕ → Bool → Bool → List Rule → List Rule
 orderBy s nine thirteen later =
     rule (refusalOf s) (not (eqb (refusalOf s .number) 0))
@@ -43,10 +51,6 @@ orderBy s nine thirteen later =
     ∷ rule (ofCall 9) nine
     ∷ rule (ofCall 13) thirteen
     ∷ later
-
--- the same of three flat lists
-abbrev pub keptOrder : List ℕ → ℕ → ℕ → ℕ → List Rule → List Rule
-keptOrder s list results track later = orderBy s (refusal9 list) (refusal13 list results track) later
 
 unfoldable pub keepRefusalOf : List ℕ → Kept → Refusal
 keepRefusalOf s old = firstBroken (keptOrder s (length (old .list)) (length (old .results)) (length (old .track)) [])

@@ -1,35 +1,36 @@
 -- The entries over columns. Columns of one length are refused as the flat lists that they stand for
 -- are, and the kept run over them gives the old answer on the converted lists: the same refusal and
 -- count, and columns that stand for what the flat entries leave. Assumes nothing.
-use Prim.Native.Nat.{ℕ, _*_, _%_, _<_}
+use Prim.Native.Nat.{ℕ, _+_, _*_, _/_, _%_, _≤_, _<_}
 use native.Mathlib.Omega.{arith}
 use mathlib.Core.Bool.{Bool, true, false, not, cond, _||_}
 use mathlib.Core.Path.{_≡_, refl, sym, ap, _∙_}
 use mathlib.Core.List.{List, [], _∷_}
-use lib.Dec.{eqb}
+use lib.Dec.{eqb, ltb}
 use lib.ListN.{length}
 use lib.Ieee.{Float}
-use borrow.Author.Tests.{eq-eqb, ne-eqb, eqb-true, eqb-false, not-false, lt-ltb}
+use borrow.Author.Tests.{eq-eqb, ne-eqb, eqb-true, eqb-false, not-false}
 use Rattle.tuple.specs.declared.Tuple.{Tuple}
-use Rattle.columns.specs.Columns.{columnsOf}
+use Rattle.columns.specs.Columns.{Columns, columns, Level, flatOf, columnsOf}
 use Rattle.columns.proofs.Laws.{flat-length, back-and-there}
 use Rattle.lists.specs.Run.{ranOf, trackOf}
 use Rattle.lists.proofs.Laws.{ran-length}
 use Rattle.helmert.specs.Modes.{startOf}
 use Rattle.helmert.specs.Turns.{helmertTurns}
 use Rattle.sheet.specs.declared.Refusal.{Refusal}
-use Rattle.sheet.specs.Rules.{rule, ofCall, firstBroken, refusalOf}
+use Rattle.sheet.specs.Rules.{rule, accepted, ofCall, firstBroken, refusalOf}
 use Rattle.sheet.proofs.Order.{neither}
+use Rattle.chain.specs.Columns.{refusal9Columns}
 use Rattle.chain.specs.Rules.{refusal9}
-use Rattle.chain.proofs.Columns.{nine-kept, level-nine}
-use Rattle.stretch.specs.Kept.{trackedOf, Kept, keptOf, freshOf, correctedOf}
-use Rattle.stretch.specs.KeptColumns.{KeptColumns, flatListOf, flatKeptOf, keptColumnsOf, AllLevel, freshColumnsOf, RedoneColumns, redoneColumns, putRightColumnsOf}
-use Rattle.stretch.proofs.Fits.{all-level-test}
+use Rattle.chain.proofs.Columns.{nine-kept, columns-of, level-nine}
+use Rattle.stretch.specs.Kept.{trackedOf, Kept, keptOf, redoneOf, freshOf, correctedOf}
+use Rattle.stretch.specs.KeptColumns.{KeptColumns, keptColumns, flatListOf, flatKeptOf, keptColumnsOf, LevelColumns, AllLevel}
 use Rattle.stretch.proofs.Meeting.{track-length}
+use Rattle.kept.specs.declared.Corrected.{Corrected}
 use Rattle.kept.specs.Entries.{orderBy, refusal12, refusal13, refusal14, keepRefusalOf, correctRefusalOf, shiftIn, reversedIn, keepOf, CorrectOutcome, outcome, correctedAs, correctOf}
-use Rattle.kept_columns.specs.Columns.{uneven, listUneven, keptUneven, keepColumnsRefusalOf, correctColumnsRefusalOf, keepColumnsOf, columnsOutcome, correctColumnsOf}
+use Rattle.kept_columns.specs.Columns.{uneven, listUneven, keptUneven, keepColumnsRefusalOf, correctColumnsRefusalOf, keepColumnsOf, CorrectColumnsOutcome, columnsOutcome, correctColumnsOf}
 use Rattle.kept.proofs.Promises.{refused-alters-nothing, results-unwritten, track-unwritten, list-unwritten}
-use Rattle.kept.proofs.Answers.{first-stays, all-pass, below, keep-refused, keep-done, correct-done}
+use Rattle.kept.proofs.Answers.{inOrder, first-stays, all-pass, passed, below, keep-refused, keep-done, taken, correct-done}
 
 -- ---- lengths
 
@@ -111,12 +112,18 @@ module _ (inverse : Bool) (s : List ℕ) (old : KeptColumns) where
   unfolding keepColumnsOf
   columns-kept-out h = rw (ne-eqb _ _ h)
 
-  pub columns-kept : {new : KeptColumns} → keepColumnsRefusalOf s old .number ≡ 0 → new ≡ freshColumnsOf (shiftIn s) (reversedIn inverse s) old → new ≡ keepColumnsOf inverse s old
-  unfolding keepColumnsOf freshColumnsOf
-  columns-kept none e =
+  pub columns-kept : (rx ry rz rt kx ky kz kt : List Float) → keepColumnsRefusalOf s old .number ≡ 0 → Level rx ry rz rt → Level kx ky kz kt
+      → keptOf (flatListOf (old .list)) (flatOf rx ry rz rt) (flatOf kx ky kz kt) ≡ freshOf (shiftIn s) (reversedIn inverse s) (flatListOf (old .list))
+      → keptColumns (old .list) (columns rx ry rz rt) (columns kx ky kz kt) ≡ keepColumnsOf inverse s old
+  unfolding keepColumnsOf
+  columns-kept rx ry rz rt kx ky kz kt none lr lk e =
       let level = passes-level s old none in
       let flat-none : keepRefusalOf s (flatKeptOf old) .number ≡ 0 = sym (ap (λ (r : Refusal). r .number) (keep-refused-alike old level s)) ∙ none in
-      rw (eq-eqb _ _ none) ((rw (all-level-test old level) at e) ∙ ap keptColumnsOf (keep-done inverse s (flatKeptOf old) flat-none refl))
+      rw (eq-eqb _ _ none)
+      (ap (λ (c : Columns). keptColumns c (columns rx ry rz rt) (columns kx ky kz kt)) (columns-of (old .list .x) (old .list .y) (old .list .z) (old .list .t) (level .0) refl)
+      ∙ ap (λ (c : Columns). keptColumns (columnsOf (flatListOf (old .list))) c (columns kx ky kz kt)) (columns-of rx ry rz rt lr refl)
+      ∙ ap (λ (c : Columns). keptColumns (columnsOf (flatListOf (old .list))) (columnsOf (flatOf rx ry rz rt)) c) (columns-of kx ky kz kt lk refl)
+      ∙ ap keptColumnsOf (keep-done inverse s (flatKeptOf old) flat-none e))
 
 module _ (inverse : Bool) (s : List ℕ) (old : KeptColumns) (index : ℕ) (fix : Tuple) where
   abbrev before-14 : Refusal
@@ -147,21 +154,22 @@ module _ (inverse : Bool) (s : List ℕ) (old : KeptColumns) (index : ℕ) (fix 
   unfolding firstBroken
   columns-refused-14 h a = given-back (sym (late h ∙ rw a)) (λ z. omega arith)
 
-  pub columns-corrected : {r : Refusal} {n : ℕ} {new : KeptColumns} → r ≡ before-14 → r .number ≡ 0 → broken-14 ≡ false
-      → redoneColumns n new ≡ putRightColumnsOf (shiftIn s) (reversedIn inverse s) old index fix
-      → columnsOutcome (correctedAs r n) new ≡ correctColumnsOf inverse s old index fix
-  unfolding correctColumnsOf putRightColumnsOf firstBroken
-  columns-corrected {r} e h a d =
+  pub columns-corrected : {r : Refusal} {n : ℕ} (x y z t rx ry rz rt kx ky kz kt : List Float) → r ≡ before-14 → r .number ≡ 0 → broken-14 ≡ false
+      → Level x y z t → Level rx ry rz rt → Level kx ky kz kt
+      → redoneOf n (keptOf (flatOf x y z t) (flatOf rx ry rz rt) (flatOf kx ky kz kt)) ≡ correctedOf (shiftIn s) (reversedIn inverse s) (flatKeptOf old) index fix
+      → columnsOutcome (correctedAs r n) (keptColumns (columns x y z t) (columns rx ry rz rt) (columns kx ky kz kt)) ≡ correctColumnsOf inverse s old index fix
+  unfolding correctColumnsOf firstBroken
+  columns-corrected {r} {n} x y z t rx ry rz rt kx ky kz kt e h a ll lr lk d =
       let none : before-14 .number ≡ 0 = sym (ap (λ (q : Refusal). q .number) e) ∙ h in
       let level = passes-level s old none in
       let zero : correctColumnsRefusalOf s old index .number ≡ 0 = ap (λ (q : Refusal). q .number) (late none) ∙ rw a in
       let there : refusal14 (length (flatListOf (old .list))) index ≡ false = rw (list-long old level) a in
-      let inside : index < length (old .list .x) = omega (arith, below (4 * length (old .list .x)) index a) in
-      let made = correctedOf (shiftIn s) (reversedIn inverse s) (flatKeptOf old) index fix in
-      let done : outcome (correctedAs r (made .count)) (made .kept) ≡ correctOf inverse s (flatKeptOf old) index fix =
-      correct-done inverse s (flatKeptOf old) index fix (e ∙ keep-refused-alike old level s) h there refl in
+      let done : outcome (correctedAs r n) (keptOf (flatOf x y z t) (flatOf rx ry rz rt) (flatOf kx ky kz kt)) ≡ correctOf inverse s (flatKeptOf old) index fix =
+      correct-done inverse s (flatKeptOf old) index fix (e ∙ keep-refused-alike old level s) h there d in
       rw (eq-eqb _ _ zero)
-      (ap (λ (k : RedoneColumns). columnsOutcome (correctedAs r (k .count)) (k .kept)) (rw (all-level-test old level, lt-ltb _ _ inside) at d)
+      (ap (λ (c : Columns). columnsOutcome (correctedAs r n) (keptColumns c (columns rx ry rz rt) (columns kx ky kz kt))) (columns-of x y z t ll refl)
+      ∙ ap (λ (c : Columns). columnsOutcome (correctedAs r n) (keptColumns (columnsOf (flatOf x y z t)) c (columns kx ky kz kt))) (columns-of rx ry rz rt lr refl)
+      ∙ ap (λ (c : Columns). columnsOutcome (correctedAs r n) (keptColumns (columnsOf (flatOf x y z t)) (columnsOf (flatOf rx ry rz rt)) c)) (columns-of kx ky kz kt lk refl)
       ∙ ap (λ (o : CorrectOutcome). columnsOutcome (o .answer) (keptColumnsOf (o .kept))) done)
 
 -- ---- the old answer on the converted lists

@@ -7,9 +7,11 @@ use mathlib.Core.List.{List, [], _∷_}
 use lib.Dec.{eqb}
 use lib.ListN.{length}
 use Rattle.tuple.specs.declared.Tuple.{Tuple}
+use Rattle.columns.specs.Columns.{Columns}
 use Rattle.sheet.specs.declared.Refusal.{Refusal}
 use Rattle.sheet.specs.Rules.{rule, ofCall, firstBroken}
 use Rattle.chain.specs.Columns.{refusal9Columns}
+use Rattle.stretch.specs.Kept.{Kept}
 use Rattle.stretch.specs.KeptColumns.{KeptColumns, flatKeptOf, keptColumnsOf}
 use Rattle.kept.specs.declared.Corrected.{Corrected}
 use Rattle.kept.specs.Entries.{orderBy, refusal14, keepOf, correctedAs, correctOf}

@@ -1,4 +1,4 @@
 -- What the proofs of this crate share, and the laws that callers cite.
-mod Bodies
+pub mod Bodies
 pub mod Windows
 pub mod Arrays

@@ -1,6 +1,6 @@
 -- A step made ready: what depends on the record alone is worked out once a list, and the direction
 -- is in the plan.
-use Prim.Native.Nat.{ℕ, _<_}
+use Prim.Native.Nat.{ℕ, _-_, _<_}
 use mathlib.Core.Path.{_≡_}
 use mathlib.Core.Bool.{Bool, cond}
 use mathlib.Core.List.{List}
@@ -52,6 +52,10 @@ atMostSixteen n = cond (ltb n 16) n 16
 -- its first n are the plans of n steps
 abbrev pub Ready : (ℕ → Plan) → ℕ → List Plan → Type 0
 Ready plan n plans = (i : ℕ) → i < n → planIn plans i ≡ plan i
+
+-- the index of the step that runs i-th of n: the first first, inverse the last first
+abbrev pub stepIndexOf : Bool → ℕ → ℕ → ℕ
+stepIndexOf inverse n i = cond inverse (n - 1 - i) i
 
 -- what a plan makes of one tuple
 abbrev pub planTurnsOf : List Float → List ℕ → Plan → Turns State

@@ -9,11 +9,12 @@
 // records' own. Used by the chain, by what runs a record, and by the thin walk.
 ghost use mathlib.Core.Path.{_≡_};
 ghost use mathlib.Core.Bool.{cond};
+ghost use Prim.Native.Nat.{_<_};
 ghost use lib.Dec.{eqb};
 ghost use Rattle.cart.specs.Record.{blankOf};
 ghost use Rattle.helmert.specs.Turns.{noState};
 ghost use Rattle.bodies.specs.Read.{cartIn, stepOf};
-ghost use Rattle.plans.specs.Plans.{heldKindOf, cartPlanOf, planOf, atMostSixteen, planStartOf};
+ghost use Rattle.plans.specs.Plans.{heldKindOf, cartPlanOf, planOf, atMostSixteen, stepIndexOf, planStartOf};
 use bodies::Step;
 use cart::Cart;
 use cart::Inverse;
@@ -125,6 +126,19 @@ pub fn at_most_sixteen(n: usize) -> usize
         return n;
     }
     16
+}
+
+// The index of the step that runs i-th of n: the first first, inverse the last first.
+pub fn step_index(inverse: bool, n: usize, i: usize) -> usize
+    ensures { λ r. ⌜ (r ≡ stepIndexOf inverse n i) × (i < n → r < n) ⌝ }
+{
+    if inverse {
+        if i < n {
+            return n - 1 - i;
+        }
+        return 0;
+    }
+    i
 }
 
 // ----- its start -------------------------------------------------------------------------------

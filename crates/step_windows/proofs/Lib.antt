@@ -1,3 +1,2 @@
 -- What the proofs of this crate and of `windows` share.
 pub mod Parts
-pub mod Back

@@ -3,13 +3,16 @@
 use Prim.Native.Nat.{ℕ, _+_, _*_, _-_, _/_, _≤_, _<_}
 use native.Mathlib.Omega.{arith}
 use mathlib.Core.Path.{_≡_, sym, ap, _∙_}
+use mathlib.Core.Bool.{cond}
 use mathlib.Core.List.{List, _++_, append-assoc}
 use lib.ListN.{length, take, drop, length-drop, length-append, take-append-drop}
 use lib.Seq.{drop-drop, length-take-le, take-at, drop-at}
 use lib.Ieee.{Float}
 use Rattle.lists.specs.Run.{Turns, ranOf, countOf, stateAfterOf}
 use Rattle.lists.proofs.Laws.{ran-length, ran-short, count-short}
+use Rattle.columns.specs.Columns.{Level, flatOf, fitsOf}
 use Rattle.columns.specs.Passed.{Passed}
+use Rattle.columns.proofs.Laws.{in-flat}
 use Rattle.plans.proofs.Windows.{ran-append, count-append, state-append, count-few}
 
 -- as many rows of a room as a window has
@@ -19,6 +22,10 @@ room-rows room m e h = length-take-le m room (omega (arith, e, h))
 -- and a room that is given back has all its rows
 pub room-back : (room rows : List Float) (m : ℕ) → 128 ≡ length room → length rows ≡ length (take m room) → 128 ≡ length (rows ++ drop m room)
 room-back room rows m e h = e ∙ ap length (sym (take-append-drop m room)) ∙ length-append (take m room) (drop m room) ∙ rw (sym h) (sym (length-append rows (drop m room)))
+
+-- columns put back into a list that has their rows
+pub put-back : (list x y z t : List Float) {l : List Float} → l ≡ cond (fitsOf list x y z t) (flatOf x y z t) list → Level x y z t → length list ≡ 4 * length x → l ≡ flatOf x y z t
+put-back list x y z t e h k = in-flat list x y z t h k e
 
 -- ---- a window of a list, lent and given back
 

@@ -9,4 +9,3 @@ pub mod Laws
 pub mod Made
 pub mod Parts
 pub mod Fits
-pub mod Copied

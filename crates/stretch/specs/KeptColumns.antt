@@ -4,13 +4,12 @@ use Prim.Native.Nat.{ℕ}
 use mathlib.Core.Path.{_≡_}
 use mathlib.Core.Bool.{Bool, cond, _&&_}
 use mathlib.Core.List.{List}
-use lib.Dec.{ltb, leb}
+use lib.Dec.{eqb, ltb}
 use lib.ListN.{length}
 use lib.Ieee.{Float}
 use Rattle.tuple.specs.declared.Tuple.{Tuple}
 use Rattle.helmert.specs.declared.Shift.{Shift}
-use Rattle.columns.specs.Columns.{Columns, columnsOf, Level, flatOf}
-use Rattle.stretch.specs.Rows.{hasRows}
+use Rattle.columns.specs.Columns.{Columns, columnsOf, Level, levelOf, flatOf}
 use Rattle.stretch.specs.Kept.{Kept, keptOf, freshOf, correctedOf}
 
 pub record KeptColumns : Type 0 where
@@ -45,13 +44,12 @@ AllLevel k =
 
 -- ---- the same as a test
 
--- four columns beside four others, all of one length, and rows from one index to another in them
-unfoldable pub rowsBesideOf : Columns → Columns → ℕ → ℕ → Bool
-rowsBesideOf a b start end = hasRows (length (a .x)) a && hasRows (length (a .x)) b && leb start end && leb end (length (a .x))
+-- four columns of one length, and four others of that length
+unfoldable pub besideOf : Columns → Columns → Bool
+besideOf a b = levelOf (a .x) (a .y) (a .z) (a .t) && levelOf (b .x) (b .y) (b .z) (b .t) && eqb (length (b .x)) (length (a .x))
 
--- all twelve columns of one length
 unfoldable pub allLevelOf : KeptColumns → Bool
-allLevelOf k = hasRows (length (k .list .x)) (k .list) && hasRows (length (k .list .x)) (k .results) && hasRows (length (k .list .x)) (k .track)
+allLevelOf k = besideOf (k .list) (k .results) && besideOf (k .list) (k .track)
 
 -- ---- a run and a correction
 

@@ -2,6 +2,5 @@
 pub mod Same
 pub mod Kept
 pub mod Unwritten
-pub mod Rows
 pub mod Track
 pub mod KeptColumns

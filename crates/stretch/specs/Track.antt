@@ -1,21 +1,22 @@
 -- The track alone. A Helmert step moves its state by the times and by nothing else of a fix, so
 -- what is written into a track is told by a column of times.
 use Prim.Native.Nat.{ℕ, _+_}
-use mathlib.Core.Bool.{Bool, true, false, cond}
+use mathlib.Core.Bool.{Bool, true, false, cond, _&&_}
 use mathlib.Core.List.{List, [], _∷_, _++_}
+use lib.Dec.{eqb}
 use lib.ListN.{length, drop}
 use lib.Ieee.{Float}
 use Rattle.helmert.specs.declared.Shift.{Shift}
 use Rattle.helmert.specs.declared.State.{State}
 use Rattle.helmert.specs.Modes.{nextOf, isRunningOf}
 use Rattle.lists.specs.Flat.{numbersOf, tupleAt}
+use Rattle.columns.specs.Columns.{levelOf}
 use Rattle.stretch.specs.Same.{alikeOf}
-use Rattle.stretch.specs.Rows.{ofRowsOf}
 use Rattle.stretch.specs.Kept.{trackedOf}
 
 -- the columns of a track have one row for each time
-abbrev pub trackFitsOf : List Float → List Float → List Float → List Float → List Float → Bool
-trackFitsOf times x y z t = ofRowsOf (length times) (length x) (length y) (length z) (length t)
+unfoldable pub trackFitsOf : List Float → List Float → List Float → List Float → List Float → Bool
+trackFitsOf times x y z t = levelOf x y z t && eqb (length x) (length times)
 
 -- ---- a fresh run
 

@@ -18,7 +18,6 @@ ghost use mathlib.Core.Path.{_≡_};
 ghost use Rattle.stretch.specs.Same.{alikeNumberOf, alikeOf};
 ghost use Rattle.stretch.specs.Kept.{trackedOf, heldOf};
 ghost use Rattle.stretch.specs.Track.{movedOf};
-ghost use Rattle.stretch.specs.Rows.{ofRowsOf};
 use helmert::Shift;
 use helmert::State;
 use rotation::Vec3;
@@ -74,13 +73,4 @@ pub fn moved(shift: Shift, state: State, time: f64) -> State
         return helmert::next(shift, state, time);
     }
     state
-}
-
-// ----- what is lent -------------------------------------------------------------------------
-
-// Whether four columns, by their lengths, are of n rows.
-pub fn of_rows(n: usize, x: usize, y: usize, z: usize, t: usize) -> bool
-    ensures { λ r. ⌜ r ≡ ofRowsOf n x y z t ⌝ }
-{
-    (x == n) & (y == n) & (z == n) & (t == n)
 }

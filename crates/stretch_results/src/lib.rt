@@ -1,20 +1,18 @@
-// The results of a kept run in columns: rows of a list put through one Helmert step, into the rows
-// of the results.
+// The results of a kept run: a list's rows or fixes put through one Helmert step, into others.
 //
-// Document 01, "Kept run", over the columns of document 02, A7; the Rust has none. `shift_between`
-// copies the rows of a stretch, or of the whole list, and runs the step over the copy.
+// Document 01, "Kept run", over the columns of document 02, A7; the Rust has none. `shift_rows` copies
+// columns and runs the step over the copy; `shift_between` does so for the rows of a stretch alone.
+// `shift_window` is the same for a window of a flat list: it converts into lent columns and back.
 //
-// No rounding but the step's own. Proved equal to the step's run from tuple to tuple. Where the
-// columns do not fit together, nothing is written. Used by `stretch_columns`.
+// No rounding but the step's own. Proved equal to the step's run from tuple to tuple. Used by
+// `stretch_columns` and, window after window, by `stretch_windows`.
 ghost use mathlib.Core.Path.{_≡_};
-ghost use mathlib.Core.Bool.{true, false};
 ghost use mathlib.Core.List.{_++_};
 ghost use Prim.Native.Nat.{_-_, _*_, _≤_};
 ghost use lib.ListN.{length, take, drop};
-ghost use Rattle.columns.specs.Columns.{columns, Level, flatOf};
-ghost use Rattle.lists.specs.Run.{ranOf};
+ghost use Rattle.columns.specs.Columns.{Level, flatOf};
+ghost use Rattle.lists.specs.Run.{ranOf, stateAfterOf};
 ghost use Rattle.helmert.specs.Turns.{helmertTurns};
-ghost use Rattle.stretch.specs.KeptColumns.{rowsBesideOf};
 use helmert::Shift;
 use helmert::State;
 
@@ -52,7 +50,7 @@ fn copy_columns(
 }
 
 // The list's rows copied into the results, and the step run over them from a state on.
-fn shift_rows(
+pub fn shift_rows(
     inverse: bool,
     shift: Shift,
     from: State,
@@ -73,45 +71,8 @@ fn shift_rows(
     helmert_columns::run_helmert(rx, ry, rz, rt, inverse, shift, from);
 }
 
-// The rows from one index to another put through the step from a state on, into the results' rows;
-// no other row is written, and none where the columns do not fit together or have no such rows.
+// The same for the rows from one index to another, and no others.
 pub fn shift_between(
-    inverse: bool,
-    shift: Shift,
-    from: State,
-    x: &[f64],
-    y: &[f64],
-    z: &[f64],
-    t: &[f64],
-    rx: &mut [f64],
-    ry: &mut [f64],
-    rz: &mut [f64],
-    rt: &mut [f64],
-    start: usize,
-    end: usize,
-)
-    ensures { λ _. ⌜ (rowsBesideOf (columns (now (x .entry)) (now (y .entry)) (now (z .entry)) (now (t .entry)))
-        (columns (now (rx .entry)) (now (ry .entry)) (now (rz .entry)) (now (rt .entry))) start end ≡ true
-        → flatOf (now (rx .exit)) (now (ry .exit)) (now (rz .exit)) (now (rt .exit))
-        ≡ take (4 * start) (flatOf (now (rx .entry)) (now (ry .entry)) (now (rz .entry)) (now (rt .entry)))
-        ++ (ranOf (helmertTurns inverse shift) 0 from (take (4 * (end - start)) (drop (4 * start) (flatOf (now (x .entry)) (now (y .entry)) (now (z .entry)) (now (t .entry)))))
-        ++ drop (4 * end) (flatOf (now (rx .entry)) (now (ry .entry)) (now (rz .entry)) (now (rt .entry)))))
-        × (rowsBesideOf (columns (now (x .entry)) (now (y .entry)) (now (z .entry)) (now (t .entry)))
-        (columns (now (rx .entry)) (now (ry .entry)) (now (rz .entry)) (now (rt .entry))) start end ≡ false
-        → columns (now (rx .exit)) (now (ry .exit)) (now (rz .exit)) (now (rt .exit))
-        ≡ columns (now (rx .entry)) (now (ry .entry)) (now (rz .entry)) (now (rt .entry))) ⌝ }
-{
-    let n = x.len();
-    if stretch::of_rows(n, n, y.len(), z.len(), t.len())
-        & stretch::of_rows(n, rx.len(), ry.len(), rz.len(), rt.len())
-        & (start <= end)
-        & (end <= n)
-    {
-        rows_between(inverse, shift, from, x, y, z, t, rx, ry, rz, rt, start, end);
-    }
-}
-
-fn rows_between(
     inverse: bool,
     shift: Shift,
     from: State,
@@ -146,4 +107,27 @@ fn rows_between(
         &mut rz[start..end],
         &mut rt[start..end],
     );
+}
+
+// A window of the list into columns, the step over them from a state on, and into the results.
+// Gives the state after the window.
+pub fn shift_window(
+    inverse: bool,
+    shift: Shift,
+    from: State,
+    list: &[f64],
+    results: &mut [f64],
+    x: &mut [f64],
+    y: &mut [f64],
+    z: &mut [f64],
+    t: &mut [f64],
+) -> State
+    requires { ⌜ Level (now x) (now y) (now z) (now t) × (length (now list) ≡ 4 * length (now x)) × (length (now results) ≡ length (now list)) ⌝ }
+    ensures { λ r. ⌜ (now (results .exit) ≡ ranOf (helmertTurns inverse shift) 0 from (now (list .entry)))
+        × (r ≡ stateAfterOf (helmertTurns inverse shift) 0 from (now (list .entry))) ⌝ }
+{
+    columns::to_columns(list, x, y, z, t);
+    let went = helmert_columns::run_helmert(x, y, z, t, inverse, shift, from);
+    columns::to_flat(x, y, z, t, results);
+    went.state
 }

@@ -7,7 +7,7 @@
 //
 // No rounding but the step's own. Every contract is told by the flat list that the columns stand
 // for (stretch, specs/Track.antt). Where the columns have not one row for each time, nothing is
-// written. Used by `stretch_columns` and, window by window, by `stretch_flat_track`.
+// written. Used by `stretch_columns` and, window by window, by `stretch_windows`.
 ghost use mathlib.Core.Path.{_≡_};
 ghost use mathlib.Core.Bool.{true, false};
 ghost use Prim.Native.Nat.{_*_, _<_};
@@ -20,6 +20,13 @@ ghost use Rattle.stretch.specs.Track.{trackFitsOf, movedByOf, tracksOf, retrack
 use helmert::Shift;
 use helmert::State;
 use tuple::Tuple;
+
+// Whether a track has one row for each time.
+fn fits(t: &[f64], kx: &[f64], ky: &[f64], kz: &[f64], kt: &[f64]) -> bool
+    ensures { λ r. ⌜ r ≡ trackFitsOf (now (t .entry)) (now (kx .entry)) (now (ky .entry)) (now (kz .entry)) (now (kt .entry)) ⌝ }
+{
+    columns::level(kx, ky, kz, kt) & (kx.len() == t.len())
+}
 
 // ----- one row --------------------------------------------------------------------------------
 
@@ -68,7 +75,7 @@ pub fn track_all(
         ≡ columns (now (kx .entry)) (now (ky .entry)) (now (kz .entry)) (now (kt .entry)))
         × (r ≡ from)) ⌝ }
 {
-    if stretch::of_rows(t.len(), kx.len(), ky.len(), kz.len(), kt.len()) {
+    if fits(t, kx, ky, kz, kt) {
         return track_rows(shift, from, t, kx, ky, kz, kt);
     }
     from
@@ -146,7 +153,7 @@ pub fn track_again(
         ≡ columns (now (kx .entry)) (now (ky .entry)) (now (kz .entry)) (now (kt .entry)))
         × (r .count ≡ 0) × (r .met ≡ false) × (r .state ≡ from)) ⌝ }
 {
-    if stretch::of_rows(t.len(), kx.len(), ky.len(), kz.len(), kt.len()) {
+    if fits(t, kx, ky, kz, kt) {
         return track_until(shift, from, t, kx, ky, kz, kt);
     }
     Retrack {

@@ -2,7 +2,7 @@
 use Prim.Native.Nat.{ℕ, zero, suc, _+_, _*_, _-_, _/_, _≤_, _<_}
 use native.Mathlib.Omega.{arith}
 use mathlib.Core.Path.{_≡_, refl, sym, ap, _∙_}
-use mathlib.Core.Bool.{Bool, true, false, cond}
+use mathlib.Core.Bool.{Bool, true, false, cond, true≢false}
 use mathlib.Core.List.{List, [], _∷_, _++_, append-assoc, append-nil}
 use lib.ListN.{length, take, drop, getD, set, replicate, length-set, length-take, length-drop, length-append, take-append-drop, drop-of-length-le}
 use lib.Seq.{take-suc-set, drop-set-lt, take-set-le, drop-cons, drop-drop, getD-set-same, getD-take, getD-drop, take-take, take-add, take-all, length-take-le, take-at, drop-at, drop-append-le}
@@ -15,6 +15,7 @@ use Rattle.columns.specs.Columns.{Level, flatOf}
 use Rattle.columns.proofs.Laws.{flat-length}
 use Rattle.plans.specs.declared.Plan.{Plan}
 use Rattle.plans.specs.declared.Standing.{Standing}
+use Rattle.plans.specs.Plans.{stepIndexOf}
 use Rattle.plans.specs.Windows.{movedOn, Gone, goneOf}
 use Rattle.plans.proofs.Windows.{in-parts, in-no-part, gone-length, gone-standings, count-few}
 use Rattle.windows.specs.Steps.{turnsFrom, atStart, noStanding, startsFrom, startsOf, countsOf, Few}
@@ -170,6 +171,47 @@ module _ {f : ℕ → Turns State} {n k : ℕ} {standings₀ : List Standing} {l
   pub backward-end : i ≡ 0 → Backward f n k standings₀ l₀ i standings l
       → (l ≡ goneOf true k (turnsFrom f n 0) standings₀ l₀ .list) × (standings ≡ goneOf true k (turnsFrom f n 0) standings₀ l₀ .standings)
   backward-end s now = let z : n - 0 ≡ n = omega arith in (rw (s, z) at (now .list), rw (s, z) at (now .gone))
+
+-- ---- either way: i steps have run
+
+pub record Walked (inverse : Bool) (f : ℕ → Turns State) (n k : ℕ) (standings₀ : List Standing) (l₀ : List Float) (i : ℕ) (standings : List Standing) (l : List Float) : Type 0 where
+  pub within : i ≤ n
+  pub forth : inverse ≡ false → Forward f n k standings₀ l₀ i standings l
+  pub back : inverse ≡ true → Backward f n k standings₀ l₀ (n - i) standings l
+
+pub walked-start : (inverse : Bool) (f : ℕ → Turns State) (n k : ℕ) (standings₀ : List Standing) (l₀ : List Float) → length standings₀ ≡ 16
+    → Walked inverse f n k standings₀ l₀ 0 standings₀ l₀
+walked-start inverse f n k standings₀ l₀ h =
+    let s : n - 0 ≡ n = omega arith in
+    record { within = omega arith; forth = λ e. forward-start f n k standings₀ l₀ h; back = λ e. rw s (backward-start f n k standings₀ l₀ h) }
+
+module _ {f : ℕ → Turns State} {n k : ℕ} {standings₀ : List Standing} {l₀ : List Float} {i : ℕ} {standings : List Standing} {l : List Float} (most : n ≤ 16) where
+  few-there : (inverse : Bool) (d : Standing) → i < n → Few k standings₀ → Walked inverse f n k standings₀ l₀ i standings l
+      → getD standings (stepIndexOf inverse n i) d .count ≤ k
+  few-there false d h few now = forward-few most d h few (now .forth refl)
+  few-there true d h few now = backward-few most d (n - 1 - i) (omega arith) few (now .back refl)
+
+  pub walked-few : (inverse : Bool) (d : Standing) {j : ℕ} → j ≡ stepIndexOf inverse n i → i < n → Few k standings₀ → Walked inverse f n k standings₀ l₀ i standings l
+      → getD standings j d .count ≤ k
+  walked-few inverse d e h few now = rw e (few-there inverse d h few now)
+
+  one-more : (inverse : Bool) {g : Turns State} {standing : Standing} {l′ : List Float} (d : Standing) → i < n → g ≡ f (stepIndexOf inverse n i)
+      → l′ ≡ ranOf g k (getD standings (stepIndexOf inverse n i) d .state) l → standing ≡ movedOn g k (getD standings (stepIndexOf inverse n i) d) l
+      → Walked inverse f n k standings₀ l₀ i standings l → Walked inverse f n k standings₀ l₀ (i + 1) (set standings (stepIndexOf inverse n i) standing) l′
+  one-more false d h eg el es now = record { within = omega arith; forth = λ e. forward-again most d h eg el es (now .forth refl); back = λ e. absurd (true≢false (sym e)) }
+  one-more true d h eg el es now =
+      let s : n - (i + 1) ≡ n - 1 - i = omega arith in
+      record { within = omega arith; forth = λ e. absurd (true≢false e); back = λ e. rw s (backward-again most d (n - 1 - i) (omega arith) eg el es (now .back refl)) }
+
+  pub walked-again : (inverse : Bool) {g : Turns State} {standing : Standing} {l′ : List Float} (d : Standing) {j : ℕ} → j ≡ stepIndexOf inverse n i → i < n → g ≡ f j
+      → l′ ≡ ranOf g k (getD standings j d .state) l → standing ≡ movedOn g k (getD standings j d) l
+      → Walked inverse f n k standings₀ l₀ i standings l → Walked inverse f n k standings₀ l₀ (i + 1) (set standings j standing) l′
+  walked-again inverse d e h eg el es now = rw e (one-more inverse d h (rw e at eg) (rw e at el) (rw e at es) now)
+
+  pub walked-end : (inverse : Bool) → n ≤ i → Walked inverse f n k standings₀ l₀ i standings l
+      → (l ≡ goneOf inverse k (turnsFrom f n 0) standings₀ l₀ .list) × (standings ≡ goneOf inverse k (turnsFrom f n 0) standings₀ l₀ .standings)
+  walked-end false h now = forward-end most h (now .forth refl)
+  walked-end true h now = backward-end most (omega arith) (now .back refl)
 
 -- ---- the starts
 

@@ -8,7 +8,6 @@
 // a tuple stays as it is. No rounding but the steps' own. Used by the chain's flat entry and by what
 // runs a record.
 ghost use mathlib.Core.Path.{_≡_};
-ghost use mathlib.Core.Bool.{true, false};
 ghost use Prim.Native.Nat.{_+_, _*_, _≤_, _<_};
 ghost use lib.ListN.{length};
 ghost use Rattle.lists.specs.Run.{ranOf};
@@ -99,66 +98,6 @@ fn moved_on(
 
 // All steps over a window in columns, whose first fix has index `first`, from the standings before
 // it.
-fn forward(
-    plans: [Plan; 16],
-    n: usize,
-    first: usize,
-    before: [Standing; 16],
-    x: &mut [f64],
-    y: &mut [f64],
-    z: &mut [f64],
-    t: &mut [f64],
-    velocities: &[f64],
-    marks: &[u8],
-) -> [Standing; 16]
-    requires { ⌜ (n ≤ 16) × Level (now x) (now y) (now z) (now t) × (first + length (now x) < 4611686018427387904) × Few first before ⌝ }
-    ensures { λ r. ⌜ (flatOf (now (x .exit)) (now (y .exit)) (now (z .exit)) (now (t .exit))
-        ≡ goneOf false first (turnsFrom (turnsIn (now (velocities .entry)) (now (marks .entry)) plans) n 0) before (flatOf (now (x .entry)) (now (y .entry)) (now (z .entry)) (now (t .entry))) .list)
-        × (r ≡ goneOf false first (turnsFrom (turnsIn (now (velocities .entry)) (now (marks .entry)) plans) n 0) before (flatOf (now (x .entry)) (now (y .entry)) (now (z .entry)) (now (t .entry))) .standings) ⌝ }
-{
-    let mut standings = before;
-    let mut i = 0;
-    while i < n {
-        let plan = plans[i]; // the first step first
-        let standing = standings[i];
-        let next = moved_on(plan, first, standing, x, y, z, t, velocities, marks);
-        standings[i] = next; // from there the next window goes on
-        i += 1;
-    }
-    standings
-}
-
-// The same inverse. Two loops, since the list that a step gets is in each what another step left.
-fn backward(
-    plans: [Plan; 16],
-    n: usize,
-    first: usize,
-    before: [Standing; 16],
-    x: &mut [f64],
-    y: &mut [f64],
-    z: &mut [f64],
-    t: &mut [f64],
-    velocities: &[f64],
-    marks: &[u8],
-) -> [Standing; 16]
-    requires { ⌜ (n ≤ 16) × Level (now x) (now y) (now z) (now t) × (first + length (now x) < 4611686018427387904) × Few first before ⌝ }
-    ensures { λ r. ⌜ (flatOf (now (x .exit)) (now (y .exit)) (now (z .exit)) (now (t .exit))
-        ≡ goneOf true first (turnsFrom (turnsIn (now (velocities .entry)) (now (marks .entry)) plans) n 0) before (flatOf (now (x .entry)) (now (y .entry)) (now (z .entry)) (now (t .entry))) .list)
-        × (r ≡ goneOf true first (turnsFrom (turnsIn (now (velocities .entry)) (now (marks .entry)) plans) n 0) before (flatOf (now (x .entry)) (now (y .entry)) (now (z .entry)) (now (t .entry))) .standings) ⌝ }
-{
-    let mut standings = before;
-    let mut i = n;
-    while 0 < i {
-        i -= 1;
-        let plan = plans[i]; // the last step first
-        let standing = standings[i];
-        let next = moved_on(plan, first, standing, x, y, z, t, velocities, marks);
-        standings[i] = next;
-    }
-    standings
-}
-
-// Either way.
 fn all_steps(
     inverse: bool,
     plans: [Plan; 16],
@@ -177,10 +116,17 @@ fn all_steps(
         ≡ goneOf inverse first (turnsFrom (turnsIn (now (velocities .entry)) (now (marks .entry)) plans) n 0) before (flatOf (now (x .entry)) (now (y .entry)) (now (z .entry)) (now (t .entry))) .list)
         × (r ≡ goneOf inverse first (turnsFrom (turnsIn (now (velocities .entry)) (now (marks .entry)) plans) n 0) before (flatOf (now (x .entry)) (now (y .entry)) (now (z .entry)) (now (t .entry))) .standings) ⌝ }
 {
-    if inverse {
-        return backward(plans, n, first, before, x, y, z, t, velocities, marks);
+    let mut standings = before;
+    let mut i = 0;
+    while i < n {
+        let k = plans::step_index(inverse, n, i);
+        let plan = plans[k];
+        let standing = standings[k];
+        let next = moved_on(plan, first, standing, x, y, z, t, velocities, marks);
+        standings[k] = next; // from there the next window goes on
+        i += 1;
     }
-    forward(plans, n, first, before, x, y, z, t, velocities, marks)
+    standings
 }
 
 // A window of a flat list, through columns that have its rows.
@@ -203,19 +149,7 @@ fn window(
         × (r ≡ goneOf inverse first (turnsFrom (turnsIn (now (velocities .entry)) (now (marks .entry)) plans) n 0) before (now (list .entry)) .standings) ⌝ }
 {
     columns::to_columns(list, x, y, z, t);
-    let standings = all_steps(
-        inverse,
-        plans,
-        n,
-        first,
-        before,
-        x,
-        y,
-        z,
-        t,
-        velocities,
-        marks,
-    );
+    let standings = all_steps(inverse, plans, n, first, before, x, y, z, t, velocities, marks);
     columns::to_flat(x, y, z, t, list);
     standings
 }

@@ -101,25 +101,11 @@ pub fn flat(columns: &Columns) -> Vec<f64> {
     (0..columns[0].len()).flat_map(|i| columns.iter().map(move |c| c[i])).collect()
 }
 
-/// Columns as they are lent to be read, and to be written.
-pub fn read(columns: &Columns) -> [&[f64]; 4] {
-    columns.each_ref().map(|c| c.as_slice())
-}
-
-pub fn write(columns: &mut Columns) -> [&mut [f64]; 4] {
-    columns.each_mut().map(|c| c.as_mut_slice())
-}
-
-/// A sheet over four columns; the refusal as C gets it.
-pub fn shift(
-    inverse: bool,
-    sheet: &[u8],
-    [x, y, z, t]: [&mut [f64]; 4],
-    velocities: &[f64],
-    marks: &[u8],
-    counts: &mut [u64; 16],
-) -> u32 {
-    unsafe {
+/// A sheet over four columns; the refusal as C gets it, and the counts.
+pub fn shift(inverse: bool, sheet: &[u8], list: &mut Columns, velocities: &[f64], marks: &[u8]) -> (u32, [u32; 16]) {
+    let mut counts = [u64::MAX; 16]; // each is written, refused or not
+    let [x, y, z, t] = list;
+    let told = unsafe {
         columns_shift(
             inverse as u32,
             sheet.as_ptr(),
@@ -138,17 +124,15 @@ pub fn shift(
             marks.len(),
             counts.as_mut_ptr(),
         )
-    }
+    };
+    (told, counts.map(|count| count as u32))
 }
 
 /// A fresh kept run over columns.
-pub fn keep(
-    inverse: bool,
-    sheet: &[u8],
-    [x, y, z, t]: [&[f64]; 4],
-    [rx, ry, rz, rt]: [&mut [f64]; 4],
-    [kx, ky, kz, kt]: [&mut [f64]; 4],
-) -> u32 {
+pub fn keep(inverse: bool, sheet: &[u8], list: &Columns, results: &mut Columns, track: &mut Columns) -> u32 {
+    let [x, y, z, t] = list;
+    let [rx, ry, rz, rt] = results;
+    let [kx, ky, kz, kt] = track;
     unsafe {
         columns_keep(
             inverse as u32,
@@ -182,16 +166,13 @@ pub fn keep(
     }
 }
 
-/// A correction over the columns of list, results and track; the refusal as C gets it.
-pub fn correct(
-    inverse: bool,
-    sheet: &[u8],
-    [[x, y, z, t], [rx, ry, rz, rt], [kx, ky, kz, kt]]: [[&mut [f64]; 4]; 3],
-    index: usize,
-    fix: &[f64; 4],
-    redone: &mut u64,
-) -> u32 {
-    unsafe {
+/// A correction over columns; the refusal as C gets it, and the count.
+pub fn correct(inverse: bool, sheet: &[u8], [list, results, track]: [&mut Columns; 3], index: u64, fix: [f64; 4]) -> (u32, u64) {
+    let mut redone = u64::MAX; // written, refused or not
+    let [x, y, z, t] = list;
+    let [rx, ry, rz, rt] = results;
+    let [kx, ky, kz, kt] = track;
+    let told = unsafe {
         columns_correct(
             inverse as u32,
             sheet.as_ptr(),
@@ -220,11 +201,12 @@ pub fn correct(
             kz.len(),
             kt.as_mut_ptr(),
             kt.len(),
-            index,
+            index as usize,
             fix.as_ptr(),
-            redone,
+            &mut redone,
         )
-    }
+    };
+    (told, redone)
 }
 
 // ----- the flat entry beside the columns entry ---------------------------------------------
@@ -267,9 +249,8 @@ pub fn shifts_alike(
         return;
     }
     let mut list = columns(before);
-    let mut said = [u64::MAX; 16]; // each is written, refused or not
-    assert_eq!(told, shift(inverse, sheet, write(&mut list), velocities, marks, &mut said), "a shift's answer through columns");
-    assert_eq!(counts.map(u64::from), said, "a shift's counts through columns");
+    let said = shift(inverse, sheet, &mut list, velocities, marks);
+    assert_eq!((told, *counts), said, "a shift's answer through columns");
     if told == 0 {
         same("a shift", &list, after, |i| is_time(i) && marks.is_empty());
     } else {
@@ -288,7 +269,7 @@ pub fn keeps_alike(inverse: bool, sheet: &[u8], before: &[Vec<f64>; 3], (told, a
         return;
     }
     let [list, mut results, mut track] = [0, 1, 2].map(|k| columns(&before[k]));
-    let said = keep(inverse, sheet, read(&list), write(&mut results), write(&mut track));
+    let said = keep(inverse, sheet, &list, &mut results, &mut track);
     assert_eq!(told, said, "a kept run's answer through columns");
     if told == 0 {
         same("kept results", &results, after[1], is_time);
@@ -314,10 +295,8 @@ pub fn corrects_alike(
         return;
     }
     let [mut list, mut results, mut track] = [0, 1, 2].map(|k| columns(&before[k]));
-    let mut again = u64::MAX; // written, refused or not
-    let lists = [&mut list, &mut results, &mut track].map(write);
-    let said = correct(inverse, sheet, lists, index as usize, &fix, &mut again);
-    assert_eq!((told, redone), (said, again), "a correction's answer through columns");
+    let said = correct(inverse, sheet, [&mut list, &mut results, &mut track], index, fix);
+    assert_eq!((told, redone), said, "a correction's answer through columns");
     let (from, to) = if told == 0 { (4 * index as usize, 4 * (index + redone) as usize) } else { (0, 0) };
     let left = |i: usize| i < from || to <= i;
     same_memory("a corrected list", &list, after[0]);

@@ -1,7 +1,6 @@
 -- The list into columns, the steps over those, and back: three equations joined. Assumes nothing.
 use mathlib.Core.Path.{_∙_}
 use borrow.Author.Needs.{needs}
-use Rattle.step_windows.proofs.Back.{to-rows, from-rows}
 use Rattle.chain.proofs.through.Statement.{statement}
 use Rattle.chain.proofs.through.Tie as tie
 
@@ -14,7 +13,9 @@ over-columns-requires c κs =
     (p .0, p .1, (search (needs, c .before .before .before .before .before .before .before .before .before .before .before .x .given, c .before .before .before .before .before .before .before .before .before .y .given, p .2 .0), search (needs, c .before .before .before .before .before .before .before .before .before .before .before .x .given, c .before .before .before .before .before .before .before .z .given, p .2 .1), search (needs, c .before .before .before .before .before .before .before .before .before .before .before .x .given, c .before .before .before .before .before .t .given, p .2 .2)), search (needs, c .before .before .before .before .before .before .before .before .before .before .before .x .given, p .4))
 
 to-flat-requires : tie.Need-to-flat-requires
-to-flat-requires c κs = search needs
+to-flat-requires c κs =
+    let p = c .before .before .before .before .before .before .before .before .before .before .before .before .before .before .before .before .before .before .before .before .before .before .before .before .before .before .before .before .before .before .before .before .before .before .before .before .before .before .before .before .pre in
+    ((search (needs, c .before .before .before .before .before .before .before .before .before .before .before .before .before .before .before .before .before .before .before .before .before .before .before .before .before .x .given, c .before .before .before .before .before .before .before .before .before .before .before .before .x2 .given, c .before .before .before .before .before .before .before .before .before .before .before .before .before .before .before .before .before .before .before .before .before .before .before .y .given, c .before .before .before .before .before .before .before .before .before .before .y2 .given, p .2 .0), search (needs, c .before .before .before .before .before .before .before .before .before .before .before .before .before .before .before .before .before .before .before .before .before .before .before .before .before .x .given, c .before .before .before .before .before .before .before .before .before .before .before .before .x2 .given, c .before .before .before .before .before .before .before .before .before .before .before .before .before .before .before .before .before .before .before .before .before .z .given, c .before .before .before .before .before .before .before .before .z2 .given, p .2 .1), search (needs, c .before .before .before .before .before .before .before .before .before .before .before .before .before .before .before .before .before .before .before .before .before .before .before .before .before .x .given, c .before .before .before .before .before .before .before .before .before .before .before .before .x2 .given, c .before .before .before .before .before .before .before .before .before .before .before .before .before .before .before .before .before .before .before .t .given, c .before .before .before .before .before .before .t2 .given, p .2 .2)), search (needs, c .before .before .before .before .before .before .before .before .before .before .before .before .before .before .before .before .before .before .before .before .before .before .before .before .before .x .given, c .before .before .before .before .before .before .before .before .before .before .before .before .x2 .given, p .3))
 
 same-length : tie.Need-same-length
 same-length c = search needs
@@ -32,16 +33,7 @@ same-length-5 : tie.Need-same-length-5
 same-length-5 c = search needs
 
 returns : tie.Need-returns
-returns c =
-    let p = c .before .before .before .before .before .before .before .before .before .before .before .before .before .before .before .before .before .before .before .before .before .before .before .before .before .before .before .before .before .before .before .before .before .before .before .before .before .before .before .before .before .before .before .pre in
-    let there = to-rows _ _ _ _ _ (c .before .before .before .before .before .before .before .before .before .before .before .before .before .before .before .before .before .before .before .before .before .before .before .before .before .before .before .before .before .to-columns .ensures) (p .2) (p .3) in
-    let e = c .before .before .before .before .before .before .before .before .before .before .before .before .before .before .before .before .over-columns .ensures in
-    let back = from-rows _ _ _ _ _ (c .before .before .to-flat .ensures) (
-      search (needs, c .before .before .before .before .before .before .before .before .before .before .before .before .before .before .before .before .before .before .before .before .before .before .before .before .before .before .before .before .x .given, c .before .before .before .before .before .before .before .before .before .before .before .before .before .before .before .x2 .given, c .before .before .before .before .before .before .before .before .before .before .before .before .before .before .before .before .before .before .before .before .before .before .before .before .before .before .y .given, c .before .before .before .before .before .before .before .before .before .before .before .before .before .y2 .given, p .2 .0),
-      search (needs, c .before .before .before .before .before .before .before .before .before .before .before .before .before .before .before .before .before .before .before .before .before .before .before .before .before .before .before .before .x .given, c .before .before .before .before .before .before .before .before .before .before .before .before .before .before .before .x2 .given, c .before .before .before .before .before .before .before .before .before .before .before .before .before .before .before .before .before .before .before .before .before .before .before .before .z .given, c .before .before .before .before .before .before .before .before .before .before .before .z2 .given, p .2 .1),
-      search (needs, c .before .before .before .before .before .before .before .before .before .before .before .before .before .before .before .before .before .before .before .before .before .before .before .before .before .before .before .before .x .given, c .before .before .before .before .before .before .before .before .before .before .before .before .before .before .before .x2 .given, c .before .before .before .before .before .before .before .before .before .before .before .before .before .before .before .before .before .before .before .before .before .before .t .given, c .before .before .before .before .before .before .before .before .before .t2 .given, p .2 .2),
-    ) (search (needs, c .before .before .before .before .before .before .before .before .before .before .before .before .before .before .before .before .before .before .before .before .before .before .before .before .before .before .before .before .x .given, c .before .before .before .before .before .before .before .before .before .before .before .before .before .before .before .x2 .given, p .3)) in
-    rw (← there) (back ∙ e .0, e .1)
+returns c = let e = c .before .before .before .before .before .before .before .before .before .before .before .before .before .before .before .before .over-columns .ensures in rw (← c .before .before .before .before .before .before .before .before .before .before .before .before .before .before .before .before .before .before .before .before .before .before .before .before .before .before .before .before .before .to-columns .ensures) (c .before .before .to-flat .ensures ∙ e .0, e .1)
 
 pub through-spec : {M : Type 1} → statement M
 through-spec =

@@ -4,9 +4,9 @@ use mathlib.Core.Path.{_≡_, sym, ap, _∙_}
 use mathlib.Core.Bool.{true, false}
 use Rattle.sheet.specs.declared.Refusal.{Refusal}
 use Rattle.chain_record.specs.Record.{shiftRecordOf}
+use Rattle.chain.proofs.Outcome.{refused-own, refused-9, refused-10, run-through, flat-nine-kept}
 use Rattle.chain_record.proofs.Few.{few-kept}
 use borrow.Author.Needs.{needs}
-use Rattle.chain.proofs.Outcome.{refused-own, refused-9, refused-10, run-through}
 use Rattle.chain_record.proofs.shift_record.Statement.{statement}
 use Rattle.chain_record.proofs.shift_record.Tie as tie
 
@@ -59,7 +59,8 @@ returns-3 c =
 
 backward-record-requires : tie.Need-backward-record-requires
 backward-record-requires c κs =
-    rw (c .before .before .before .before .before .wide .ensures .0) (few-kept _ _ (ap (λ (r : Refusal). r .number) (sym (c .before .before .before .before .before .before .before .before .before .before .check-record .ensures)) ∙ c .before .before .before .before .before .before .before .before .if1 .left))
+    let nine = flat-nine-kept _ (sym (c .before .before .before .before .before .before .before .list-broken .ensures) ∙ c .before .before .before .before .before .before .if2 .left) in
+    (rw (c .before .before .before .before .before .wide .ensures .0) (few-kept _ _ (ap (λ (r : Refusal). r .number) (sym (c .before .before .before .before .before .before .before .before .before .before .check-record .ensures)) ∙ c .before .before .before .before .before .before .before .before .if1 .left)), nine .0, nine .1)
 
 ran-requires : tie.Need-ran-requires
 ran-requires c κs = search needs
@@ -75,7 +76,8 @@ returns-4 c =
 
 forward-record-requires : tie.Need-forward-record-requires
 forward-record-requires c κs =
-    rw (c .before .before .before .before .before .wide .ensures .0) (few-kept _ _ (ap (λ (r : Refusal). r .number) (sym (c .before .before .before .before .before .before .before .before .before .before .check-record .ensures)) ∙ c .before .before .before .before .before .before .before .before .if1 .left))
+    let nine = flat-nine-kept _ (sym (c .before .before .before .before .before .before .before .list-broken .ensures) ∙ c .before .before .before .before .before .before .if2 .left) in
+    (rw (c .before .before .before .before .before .wide .ensures .0) (few-kept _ _ (ap (λ (r : Refusal). r .number) (sym (c .before .before .before .before .before .before .before .before .before .before .check-record .ensures)) ∙ c .before .before .before .before .before .before .before .before .if1 .left)), nine .0, nine .1)
 
 ran-requires-2 : tie.Need-ran-requires-2
 ran-requires-2 c κs = search needs

@@ -1,11 +1,14 @@
 -- One case for each way through the tests: refused by the rules in their order (`refusal-is`), by 14
--- (`columns-refused-14`), or corrected (`columns-corrected`). Assumes nothing.
+-- (`columns-refused-14`), or the columns are of one length (`passes-level`) and corrected
+-- (`columns-corrected`). Assumes nothing.
 use borrow.Author.Needs.{needs}
+use native.Mathlib.Omega.{arith}
 use mathlib.Core.Path.{sym, ap, _∙_}
 use Rattle.columns.specs.Columns.{columns}
 use Rattle.sheet.specs.declared.Refusal.{Refusal}
 use Rattle.stretch.specs.KeptColumns.{keptColumns}
-use Rattle.kept_columns.proofs.Columns.{refusal-is, columns-refused, columns-refused-14, columns-corrected}
+use Rattle.kept_columns.proofs.Columns.{refusal-is, passes-level, columns-refused, columns-refused-14, columns-corrected}
+use Rattle.kept.proofs.Answers.{below}
 use Rattle.kept_columns.proofs.correct.Statement.{statement}
 use Rattle.kept_columns.proofs.correct.Tie as tie
 
@@ -42,7 +45,15 @@ step-in-requires : tie.Need-step-in-requires
 step-in-requires c κs = search needs
 
 put-right-requires : tie.Need-put-right-requires
-put-right-requires c κs = search needs
+put-right-requires c κs =
+    let a = c .before .before .before .before .before .before .before .before .before .before .before .before .before .before .before .before .before .before .before .before .before .before .before .before .before .before .before .before .before .before .before .before .args in
+    let s = a .s .now in
+    let old = keptColumns (columns (a .x .now) (a .y .now) (a .z .now) (a .t .now)) (columns (a .rx .now) (a .ry .now) (a .rz .now) (a .rt .now)) (columns (a .kx .now) (a .ky .now) (a .kz .now) (a .kt .now)) in
+    let e = refusal-is s old (c .before .before .before .before .before .before .before .before .before .before .before .before .before .before .before .before .before .before .check-lengths .ensures) in
+    let none = sym (ap (λ (r : Refusal). r .number) e) ∙ c .before .before .before .before .before .before .before .before .before .before .before .before .before .before .before .before .if1 .left in
+    let level = passes-level s old none in
+    let there = below _ _ (sym (c .before .before .before .before .before .before .before .before .before .before .before .before .before .before .before .index-broken .ensures) ∙ c .before .before .before .before .before .before .before .before .before .before .before .before .before .before .if2 .left) in
+    (level .0, level .1, level .2, level .3, level .4, omega (arith, there))
 
 same-length : tie.Need-same-length
 same-length c = c .before .before .before .before .before .before .before .before .before .before .before .before .before .before .before .before .before .before .before .before .before .before .before .x .given
@@ -86,9 +97,16 @@ returns-3 c =
     let s = a .s .now in
     let old = keptColumns (columns (a .x .now) (a .y .now) (a .z .now) (a .t .now)) (columns (a .rx .now) (a .ry .now) (a .rz .now) (a .rt .now)) (columns (a .kx .now) (a .ky .now) (a .kz .now) (a .kt .now)) in
     let e = refusal-is s old (c .before .before .before .before .before .before .before .before .before .before .before .before .before .before .before .before .before .before .before .before .before .before .before .before .before .before .before .before .before .before .before .before .before .before .before .before .before .before .before .before .before .before .before .check-lengths .ensures) in
+    let none = sym (ap (λ (r : Refusal). r .number) e) ∙ c .before .before .before .before .before .before .before .before .before .before .before .before .before .before .before .before .before .before .before .before .before .before .before .before .before .before .before .before .before .before .before .before .before .before .before .before .before .before .before .before .before .if1 .left in
+    let level = passes-level s old none in
     let there = sym (c .before .before .before .before .before .before .before .before .before .before .before .before .before .before .before .before .before .before .before .before .before .before .before .before .before .before .before .before .before .before .before .before .before .before .before .before .before .before .before .before .index-broken .ensures) ∙ c .before .before .before .before .before .before .before .before .before .before .before .before .before .before .before .before .before .before .before .before .before .before .before .before .before .before .before .before .before .before .before .before .before .before .before .before .before .before .before .if2 .left in
     let step = c .before .before .before .before .before .before .before .before .before .before .before .before .before .before .before .before .before .before .before .before .before .before .before .before .before .before .before .before .before .before .before .before .before .before .before .before .before .before .step-in .ensures in
-    columns-corrected (a .inverse) s old (a .index) (a .fix) e (c .before .before .before .before .before .before .before .before .before .before .before .before .before .before .before .before .before .before .before .before .before .before .before .before .before .before .before .before .before .before .before .before .before .before .before .before .before .before .before .before .before .if1 .left) there (rw (step .0, step .1) at (c .before .before .before .before .before .before .before .before .before .before .before .before .before .before .before .before .before .before .before .before .before .before .before .before .put-right .ensures))
+    let last = c .before .before .before .before .before .before .before .before .before .before .before .before .before .before .before .before .before .before .before .before .before .before .before .before .put-right .last .1 .1 in
+    columns-corrected (a .inverse) s old (a .index) (a .fix) (last .0) (last .1 .0) (last .1 .1 .0) (last .1 .1 .1 .0) (last .1 .1 .1 .1 .0) (last .1 .1 .1 .1 .1 .0) (last .1 .1 .1 .1 .1 .1 .0) (last .1 .1 .1 .1 .1 .1 .1 .0) (last .1 .1 .1 .1 .1 .1 .1 .1 .0) (last .1 .1 .1 .1 .1 .1 .1 .1 .1 .0) (last .1 .1 .1 .1 .1 .1 .1 .1 .1 .1 .0) (last .1 .1 .1 .1 .1 .1 .1 .1 .1 .1 .1 .0) e (c .before .before .before .before .before .before .before .before .before .before .before .before .before .before .before .before .before .before .before .before .before .before .before .before .before .before .before .before .before .before .before .before .before .before .before .before .before .before .before .before .before .if1 .left) there
+    (omega (arith, c .before .before .before .before .before .before .before .before .before .before .before .before .before .before .before .before .before .before .before .before .before .y .given, c .before .before .before .before .before .before .before .before .before .before .before .before .before .before .before .before .before .before .before .before .before .before .before .x .given, level .0 .0), omega (arith, c .before .before .before .before .before .before .before .before .before .before .before .before .before .before .before .before .before .before .before .z .given, c .before .before .before .before .before .before .before .before .before .before .before .before .before .before .before .before .before .before .before .before .before .before .before .x .given, level .0 .1), omega (arith, c .before .before .before .before .before .before .before .before .before .before .before .before .before .before .before .before .before .t .given, c .before .before .before .before .before .before .before .before .before .before .before .before .before .before .before .before .before .before .before .before .before .before .before .x .given, level .0 .2))
+    (omega (arith, c .before .before .before .before .before .before .before .before .before .before .before .before .before .ry .given, c .before .before .before .before .before .before .before .before .before .before .before .before .before .before .before .rx .given, level .1 .0), omega (arith, c .before .before .before .before .before .before .before .before .before .before .before .rz .given, c .before .before .before .before .before .before .before .before .before .before .before .before .before .before .before .rx .given, level .1 .1), omega (arith, c .before .before .before .before .before .before .before .before .before .rt .given, c .before .before .before .before .before .before .before .before .before .before .before .before .before .before .before .rx .given, level .1 .2))
+    (omega (arith, c .before .before .before .before .before .ky .given, c .before .before .before .before .before .before .before .kx .given, level .2 .0), omega (arith, c .before .before .before .kz .given, c .before .before .before .before .before .before .before .kx .given, level .2 .1), omega (arith, c .before .kt .given, c .before .before .before .before .before .before .before .kx .given, level .2 .2))
+    (rw (step .0, step .1) at (c .before .before .before .before .before .before .before .before .before .before .before .before .before .before .before .before .before .before .before .before .before .before .before .before .put-right .ensures))
 
 pub correct-spec : {M : Type 1} → statement M
 correct-spec =

@@ -1,5 +1,6 @@
 -- Calls are replaced by what they ensure; the definition is left. Assumes nothing.
 use borrow.Author.Needs.{needs}
+use mathlib.Core.Path.{_∙_}
 use Rattle.kept_columns.proofs.step_in.Statement.{statement}
 use Rattle.kept_columns.proofs.step_in.Tie as tie
 

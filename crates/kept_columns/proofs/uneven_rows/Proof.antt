@@ -1,4 +1,5 @@
 -- By computation: the body's operations are the definition's, in its order. Assumes nothing.
+use borrow.Author.Needs.{needs}
 use mathlib.Core.Path.{refl}
 use Rattle.kept_columns.specs.Columns.{uneven}
 use Rattle.kept_columns.proofs.uneven_rows.Statement.{statement}

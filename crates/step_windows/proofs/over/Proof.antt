@@ -90,7 +90,7 @@ slice-aggregate-window-4 : tie.Need-slice-aggregate-window-4 Inv-loop μ-loop
 slice-aggregate-window-4 c = let l = c .before .before .before .before .before .before .before .loop in sym (room-rows (l .t) (c .before .before .before .before .before .rows-of .result) (l .inv .4) (c .before .before .before .before .before .rows-of .ensures .1))
 
 window-requires : tie.Need-window-requires Inv-loop μ-loop
-window-requires c κs =
+window-requires c κs = 
     let l = c .before .before .before .before .before .before .before .loop in
     let r = c .before .before .before .before .before .rows-of .ensures in
     let m = c .before .before .before .before .before .rows-of .result in
@@ -102,7 +102,7 @@ window-requires c κs =
     ((y ∙ sym x, z ∙ sym x, t ∙ sym x), omega (arith, x, k), omega (arith, x, l .inv .0, l .inv .7, r .0, c .before .before .before .before .before .before .loop-test .taken))
 
 add-count : tie.Need-add-count Inv-loop μ-loop
-add-count c =
+add-count c = 
     let l = c .before .before .before .before .before .before .before .before .before .before .before .before .before .before .before .before .loop in
     let r = c .before .before .before .before .before .before .before .before .before .before .before .before .before .before .rows-of .ensures in
     let m = c .before .before .before .before .before .before .before .before .before .before .before .before .before .before .rows-of .result in
@@ -118,7 +118,7 @@ loop-less : tie.Need-loop-less Inv-loop μ-loop
 loop-less c = let l = c .before .before .before .before .before .before .before .before .before .before .before .before .before .before .before .before .loop in let r = c .before .before .before .before .before .before .before .before .before .before .before .before .before .before .rows-of .ensures in let more = c .before .before .before .before .before .before .before .before .before .before .before .before .before .before .before .loop-test .taken in omega (arith, l .inv .0, r .0, r .2 (omega (arith, more)), more)
 
 loop-again : tie.Need-loop-again Inv-loop μ-loop
-loop-again c =
+loop-again c = 
     let l = c .before .before .before .before .before .before .before .before .before .before .before .before .before .before .before .before .loop in
     let r = c .before .before .before .before .before .before .before .before .before .before .before .before .before .before .rows-of .ensures in
     let m = c .before .before .before .before .before .before .before .before .before .before .before .before .before .before .rows-of .result in
@@ -126,22 +126,20 @@ loop-again c =
     let more = c .before .before .before .before .before .before .before .before .before .before .before .before .before .before .before .loop-test .taken in
     let fits = fits-list (l .i) m (l .inv .0) (l .inv .5) (r .0) more in
     let k = part-taken (l .list) (l .i) m in
-    let w = c .before .before .before .before .before .before .before .before .window .last in (
-      omega (arith, l .inv .0, r .0, more),
-      room-back (l .x) (w .1 .1 .1 .1 .0) m (l .inv .1) (c .before .before .before .before .before .x2 .given),
-      room-back (l .y) (w .1 .1 .1 .1 .1 .0) m (l .inv .2) (c .before .before .before .before .y2 .given),
-      room-back (l .z) (w .1 .1 .1 .1 .1 .1 .0) m (l .inv .3) (c .before .before .before .z2 .given),
-      room-back (l .t) (w .1 .1 .1 .1 .1 .1 .1 .0) m (l .inv .4) (c .before .before .t2 .given),
-      search (needs, l .inv .5, c .before .before .before .before .before .before .before .list .given),
-      passed-on (l .inv .6) (passed-window m fits (part-put (l .list) (l .i) m _) (rw k at (e .0)) (rw k at (e .1)) (rw k at (e .2))),
-      l .inv .7,
-    )
+    let w = c .before .before .before .before .before .before .before .before .window .last in
+    (omega (arith, l .inv .0, r .0, more),
+     room-back (l .x) (w .1 .1 .1 .1 .0) m (l .inv .1) (c .before .before .before .before .before .x2 .given),
+     room-back (l .y) (w .1 .1 .1 .1 .1 .0) m (l .inv .2) (c .before .before .before .before .y2 .given),
+     room-back (l .z) (w .1 .1 .1 .1 .1 .1 .0) m (l .inv .3) (c .before .before .before .z2 .given),
+     room-back (l .t) (w .1 .1 .1 .1 .1 .1 .1 .0) m (l .inv .4) (c .before .before .t2 .given),
+     search (needs, l .inv .5, c .before .before .before .before .before .before .before .list .given),
+     passed-on (l .inv .6) (passed-window m fits (part-put (l .list) (l .i) m _) (rw k at (e .0)) (rw k at (e .1)) (rw k at (e .2))), l .inv .7)
 
 same-length : tie.Need-same-length Inv-loop μ-loop
 same-length c = search needs
 
 returns : tie.Need-returns Inv-loop μ-loop
-returns c =
+returns c = 
     let l = c .before .loop in
     let st = c .before .before .start .ensures in
     let end = last-left (l .i) (l .inv .5) (c .loop-test .left) in

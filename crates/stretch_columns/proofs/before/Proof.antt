@@ -4,8 +4,8 @@ use borrow.Author.Needs.{needs}
 use mathlib.Core.Path.{sym, ap, _∙_}
 use Rattle.stretch.specs.Kept.{heldOf}
 use Rattle.stretch.proofs.Start.{before-first, before-running, before-else}
-use Rattle.stretch_columns.proofs.before.Statement.{statement}
-use Rattle.stretch_columns.proofs.before.Tie as tie
+use Rattle.stretch_track.proofs.before.Statement.{statement}
+use Rattle.stretch_track.proofs.before.Tie as tie
 
 start-requires : tie.Need-start-requires
 start-requires c κs = search needs

@@ -1,15 +1,12 @@
 -- The part from the index on is tracked anew, and stands after what was before it (`from-track`).
 -- Assumes nothing.
 use borrow.Author.Needs.{needs}
-use Prim.Native.Nat.{_-_}
 use native.Mathlib.Omega.{arith}
-use lib.ListN.{length, take, drop}
 use Rattle.columns.specs.Columns.{flatOf}
 use Rattle.stretch.specs.Kept.{beforeOf}
-use Rattle.stretch.proofs.Fits.{of-rows-test}
-use Rattle.stretch_columns.proofs.Later.{from-track, from-count, from-within}
-use Rattle.stretch_columns.proofs.track_stretch.Statement.{statement}
-use Rattle.stretch_columns.proofs.track_stretch.Tie as tie
+use Rattle.stretch_track.proofs.Later.{from-track, from-count, from-within}
+use Rattle.stretch_track.proofs.track_stretch.Statement.{statement}
+use Rattle.stretch_track.proofs.track_stretch.Tie as tie
 
 before-requires : tie.Need-before-requires
 before-requires c κs = search needs
@@ -75,19 +72,24 @@ part-track-again-end-5 : tie.Need-part-track-again-end-5
 part-track-again-end-5 c = search needs
 
 track-again-requires : tie.Need-track-again-requires
-track-again-requires c κs = search needs
+track-again-requires c κs =
+    let x = c .before .before .before .track-again-arg2 .given .2 in
+    let o = c .before .before .before .before .before .before .before .before .before .before .before .before .before .before .before .pre in (
+      (omega (arith, c .before .before .track-again-arg3 .given .2, x, o .0 .0), omega (arith, c .before .track-again-arg4 .given .2, x, o .0 .1), omega (arith, c .track-again-arg5 .given .2, x, o .0 .2)),
+      omega (arith, c .before .before .before .before .track-again-arg .given .2, x, o .1),
+    )
 
 same-length : tie.Need-same-length
-same-length c = c .before .before .before .before .before .before .before .kx .given .1
+same-length c = search needs
 
 same-length-2 : tie.Need-same-length-2
-same-length-2 c = c .before .before .before .before .before .ky .given .1
+same-length-2 c = search needs
 
 same-length-3 : tie.Need-same-length-3
-same-length-3 c = c .before .before .before .kz .given .1
+same-length-3 c = search needs
 
 same-length-4 : tie.Need-same-length-4
-same-length-4 c = c .before .kt .given .1
+same-length-4 c = search needs
 
 returns : tie.Need-returns
 returns c =
@@ -100,8 +102,7 @@ returns c =
     let py = last .1 .0 in
     let pz = last .1 .1 .0 in
     let pt = last .1 .1 .1 .0 in
-    let rows = c .before .before .before .before .before .before .before .before .before .before .before .before .track-again-arg2 .given .2 in
-    let e = rw start at (c .before .before .before .before .before .before .before .before .track-again .ensures .0 (of-rows-test (length (take (length (a .t .now) - a .index) (drop (a .index) (a .t .now)))) (take (length (a .kx .now) - a .index) (drop (a .index) (a .kx .now))) (take (length (a .ky .now) - a .index) (drop (a .index) (a .ky .now))) (take (length (a .kz .now) - a .index) (drop (a .index) (a .kz .now))) (take (length (a .kt .now) - a .index) (drop (a .index) (a .kt .now))) (omega (arith, c .before .before .before .before .before .before .before .before .before .before .before .track-again-arg3 .given .2, rows, o .pre .0 .0), omega (arith, c .before .before .before .before .before .before .before .before .before .before .track-again-arg4 .given .2, rows, o .pre .0 .1), omega (arith, c .before .before .before .before .before .before .before .before .before .track-again-arg5 .given .2, rows, o .pre .0 .2)) (omega (arith, c .before .before .before .before .before .before .before .before .before .before .before .before .before .track-again-arg .given .2, rows, o .pre .1)))) in
+    let e = rw start at (c .before .before .before .before .before .before .before .before .track-again .ensures) in
     let x = c .before .before .before .before .before .before .before .kx .given .0 in
     let y = c .before .before .before .before .before .ky .given .0 in
     let z = c .before .before .before .kz .given .0 in

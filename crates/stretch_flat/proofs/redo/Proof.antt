@@ -79,7 +79,7 @@ returns c =
     let o = c .before .before .before .before .before .before .before .before .before .before .before .before .before in
     let a = o .args in
     redo-flat (a .shift) (a .inverse) (a .from) (a .list .now) (a .results .now) (a .track .now) (a .index) (c .before .before .shift-list .last .1 .1 .1 .1 .0) (c .before .before .before .before .before .before .before .retrack-list .last .1 .1 .1 .0)
-    (c .before .before .before .before .before .before .before .retrack-list .ensures) (c .before .before .shift-list .ensures) refl refl (o .pre .0) (o .pre .3) (o .pre .1)
+    (c .before .before .before .before .before .before .before .retrack-list .ensures) (c .before .before .shift-list .ensures) refl refl (o .pre .1)
 
 pub redo-spec : {M : Type 1} → statement M
 redo-spec =

@@ -2,7 +2,6 @@
 use borrow.Author.Needs.{needs}
 use mathlib.Core.Path.{refl}
 use Rattle.stretch.proofs.Made.{fresh-is}
-use Rattle.stretch.proofs.Fits.{as-long}
 use Rattle.stretch_flat.proofs.run.Statement.{statement}
 use Rattle.stretch_flat.proofs.run.Tie as tie
 
@@ -23,10 +22,8 @@ same-length-2 c = search needs
 
 returns : tie.Need-returns
 returns c =
-    let o = c .before .before .before .before .before .before .before .before .before .before .before .before in
     let start = c .before .before .before .before .before .before .before .before .start .ensures in
-    let tracked = rw (as-long _ _ (o .pre .0) (o .pre .2)) at (c .before .before .track-list .ensures) in
-    fresh-is _ _ _ (o .pre .0) refl (rw start at (c .before .before .before .before .before .before .shift-list .ensures)) (rw start at tracked)
+    fresh-is _ _ _ (c .before .before .before .before .before .before .before .before .before .before .before .before .pre .0) refl (rw start at (c .before .before .before .before .before .before .shift-list .ensures)) (rw start at (c .before .before .track-list .ensures))
 
 pub run-spec : {M : Type 1} → statement M
 run-spec =

@@ -5,7 +5,7 @@ use Prim.Native.Nat.{_-_}
 use borrow.Author.Needs.{needs}
 use lib.ListN.{length}
 use lib.Ieee.{nan}
-use Rattle.stretch.proofs.Copied.{Copied, copied-start, copied-again, copied-end}
+use Rattle.stretch_results.proofs.Copied.{Copied, copied-start, copied-again, copied-end}
 use Rattle.stretch_results.proofs.copy.Statement.{statement}
 use Rattle.stretch_results.proofs.copy.Tie as tie
 

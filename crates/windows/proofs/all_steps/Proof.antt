@@ -1,57 +1,104 @@
--- One case for each direction, from what the call ensures. Assumes nothing.
+-- Invariant (`Walked`): i steps have run over the window, the first of the sheet first, or inverse
+-- the last first. Forward the steps that are left, each from its standing before the window, make of
+-- the window as it stands what all make of it at the start, and of the standings too; inverse the
+-- window and the standings are what the steps that have run made of them. A turn runs one more
+-- (`walked-again`). The measure is n - i. Assumes nothing.
+use Prim.Native.Nat.{_+_, _-_, _≤_}
+use native.Mathlib.Omega.{arith}
+use mathlib.Core.Path.{_≡_, refl}
+use lib.ListN.{length}
+use Rattle.columns.specs.Columns.{Level, flatOf}
+use Rattle.windows.specs.Steps.{turnsIn}
+use Rattle.windows.proofs.Steps.{Walked, absentStanding, walked-start, walked-few, walked-again, walked-end}
 use borrow.Author.Needs.{needs}
 use Rattle.windows.proofs.all_steps.Statement.{statement}
 use Rattle.windows.proofs.all_steps.Tie as tie
 
-backward-requires : tie.Need-backward-requires
-backward-requires c κs = search needs
+abbrev Inv-loop : tie.InvT-loop
+Inv-loop inverse n first x₀ y₀ z₀ t₀ velocities marks plans standings₀ i₀ x y z t standings i =
+    Level x y z t × (length x ≡ length x₀) × Walked inverse (turnsIn velocities marks plans) n first standings₀ (flatOf x₀ y₀ z₀ t₀) i standings (flatOf x y z t)
 
-same-length : tie.Need-same-length
+abbrev μ-loop : tie.MeasureT-loop
+μ-loop inverse n first x₀ y₀ z₀ t₀ velocities marks plans standings₀ i₀ x y z t standings i = n - i
+
+loop-holds : tie.Need-loop-holds Inv-loop μ-loop
+loop-holds c = let p = c .before .before .before .before .before .before .pre in (p .1, refl, walked-start _ _ _ _ _ _ (search needs))
+
+step-index-requires : tie.Need-step-index-requires Inv-loop μ-loop
+step-index-requires c κs = search needs
+
+mul-plan : tie.Need-mul-plan Inv-loop μ-loop
+mul-plan c = search (needs, c .step-index .ensures .1 (c .before .loop-test .taken))
+
+array-copy-out-plan : tie.Need-array-copy-out-plan Inv-loop μ-loop
+array-copy-out-plan c = search (needs, c .step-index .ensures .1 (c .before .loop-test .taken))
+
+mul-standing : tie.Need-mul-standing Inv-loop μ-loop
+mul-standing c = search (needs, c .before .step-index .ensures .1 (c .before .before .loop-test .taken))
+
+array-copy-out-standing : tie.Need-array-copy-out-standing Inv-loop μ-loop
+array-copy-out-standing c = search (needs, c .before .step-index .ensures .1 (c .before .before .loop-test .taken))
+
+moved-on-requires : tie.Need-moved-on-requires Inv-loop μ-loop
+moved-on-requires c κs = 
+    let l = c .before .before .before .before .before .before .before .before .loop in
+    let p = c .before .before .before .before .before .before .before .before .before .before .before .before .before .before .before .pre in
+    (l .inv .0, omega (arith, l .inv .1, p .2), walked-few (p .0) _ absentStanding (c .before .before .before .before .before .before .step-index .ensures .0) (c .before .before .before .before .before .before .before .loop-test .taken) (p .3) (l .inv .2))
+
+mul-standings : tie.Need-mul-standings Inv-loop μ-loop
+mul-standings c = search (needs, c .before .before .before .before .before .before .before .before .before .before .before .before .before .before .before .step-index .ensures .1 (c .before .before .before .before .before .before .before .before .before .before .before .before .before .before .before .before .loop-test .taken))
+
+array-set-from-standings : tie.Need-array-set-from-standings Inv-loop μ-loop
+array-set-from-standings c = search (needs, c .before .before .before .before .before .before .before .before .before .before .before .before .before .before .before .step-index .ensures .1 (c .before .before .before .before .before .before .before .before .before .before .before .before .before .before .before .before .loop-test .taken))
+
+add-i : tie.Need-add-i Inv-loop μ-loop
+add-i c = search needs
+
+loop-less : tie.Need-loop-less Inv-loop μ-loop
+loop-less c = omega (arith, c .before .before .before .before .before .before .before .before .before .before .before .before .before .before .before .before .loop-test .taken)
+
+loop-again : tie.Need-loop-again Inv-loop μ-loop
+loop-again c = 
+    let l = c .before .before .before .before .before .before .before .before .before .before .before .before .before .before .before .before .before .loop in
+    let p = c .before .before .before .before .before .before .before .before .before .before .before .before .before .before .before .before .before .before .before .before .before .before .before .before .pre in
+    let e = c .before .before .before .before .before .before .before .before .moved-on .ensures in
+    ((search needs, search needs, search needs), search needs, walked-again (p .0) _ absentStanding (c .before .before .before .before .before .before .before .before .before .before .before .before .before .before .before .step-index .ensures .0) (c .before .before .before .before .before .before .before .before .before .before .before .before .before .before .before .before .loop-test .taken) refl (e .0) (e .1) (l .inv .2))
+
+same-length : tie.Need-same-length Inv-loop μ-loop
 same-length c = search needs
 
-same-length-2 : tie.Need-same-length-2
+same-length-2 : tie.Need-same-length-2 Inv-loop μ-loop
 same-length-2 c = search needs
 
-same-length-3 : tie.Need-same-length-3
+same-length-3 : tie.Need-same-length-3 Inv-loop μ-loop
 same-length-3 c = search needs
 
-same-length-4 : tie.Need-same-length-4
+same-length-4 : tie.Need-same-length-4 Inv-loop μ-loop
 same-length-4 c = search needs
 
-returns : tie.Need-returns
-returns c = rw (c .before .before .before .before .before .before .before .before .before .before .before .before .before .if1 .taken) (c .before .before .before .before .before .before .before .before .backward .ensures)
-
-forward-requires : tie.Need-forward-requires
-forward-requires c κs = search needs
-
-same-length-5 : tie.Need-same-length-5
-same-length-5 c = search needs
-
-same-length-6 : tie.Need-same-length-6
-same-length-6 c = search needs
-
-same-length-7 : tie.Need-same-length-7
-same-length-7 c = search needs
-
-same-length-8 : tie.Need-same-length-8
-same-length-8 c = search needs
-
-returns-2 : tie.Need-returns-2
-returns-2 c = rw (c .before .before .before .before .before .before .before .before .before .before .before .before .before .if1 .left) (c .before .before .before .before .before .before .before .before .forward .ensures)
+returns : tie.Need-returns Inv-loop μ-loop
+returns c = walked-end (c .before .before .before .before .before .before .before .before .pre .0) _ (search needs) (c .before .loop .inv .2)
 
 pub all-steps-spec : {M : Type 1} → statement M
 all-steps-spec =
     tie.close
     (tie.spec
-    backward-requires
+    Inv-loop
+    μ-loop
+    loop-holds
+    step-index-requires
+    mul-plan
+    array-copy-out-plan
+    mul-standing
+    array-copy-out-standing
+    moved-on-requires
+    mul-standings
+    array-set-from-standings
+    add-i
+    loop-less
+    loop-again
     same-length
     same-length-2
     same-length-3
     same-length-4
-    returns
-    forward-requires
-    same-length-5
-    same-length-6
-    same-length-7
-    same-length-8
-    returns-2)
+    returns)

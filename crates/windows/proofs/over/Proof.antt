@@ -93,7 +93,7 @@ slice-aggregate-window-4 : tie.Need-slice-aggregate-window-4 Inv-loop μ-loop
 slice-aggregate-window-4 c = let l = c .before .before .before .before .before .before .before .loop in sym (room-rows (l .t) (c .before .before .before .before .before .rows-of .result) (l .inv .4) (c .before .before .before .before .before .rows-of .ensures .1))
 
 window-requires : tie.Need-window-requires Inv-loop μ-loop
-window-requires c κs =
+window-requires c κs = 
     let l = c .before .before .before .before .before .before .before .loop in
     let r = c .before .before .before .before .before .rows-of .ensures in
     let m = c .before .before .before .before .before .rows-of .result in
@@ -112,7 +112,7 @@ loop-less : tie.Need-loop-less Inv-loop μ-loop
 loop-less c = let l = c .before .before .before .before .before .before .before .before .before .before .before .before .before .before .loop in let r = c .before .before .before .before .before .before .before .before .before .before .before .before .rows-of .ensures in let more = c .before .before .before .before .before .before .before .before .before .before .before .before .before .loop-test .taken in omega (arith, l .inv .0, r .0, r .2 (omega (arith, more)), more)
 
 loop-again : tie.Need-loop-again Inv-loop μ-loop
-loop-again c =
+loop-again c = 
     let l = c .before .before .before .before .before .before .before .before .before .before .before .before .before .before .loop in
     let r = c .before .before .before .before .before .before .before .before .before .before .before .before .rows-of .ensures in
     let m = c .before .before .before .before .before .before .before .before .before .before .before .before .rows-of .result in
@@ -120,7 +120,8 @@ loop-again c =
     let w = c .before .before .before .before .before .before .window .last in
     let more = c .before .before .before .before .before .before .before .before .before .before .before .before .before .loop-test .taken in
     let fits = fits-list (l .i) m (l .inv .0) (l .inv .6 .long) (r .0) more in
-    let k = part-taken (l .list) (l .i) m in (
+    let k = part-taken (l .list) (l .i) m in
+    (
       omega (arith, l .inv .0, r .0, more),
       room-back (l .x) (w .1 .1 .1 .1 .1 .1 .0) m (l .inv .1) (c .before .before .before .x2 .given),
       room-back (l .y) (w .1 .1 .1 .1 .1 .1 .1 .0) m (l .inv .2) (c .before .before .y2 .given),
@@ -139,7 +140,7 @@ same-length c = c .before .before .loop .inv .6 .long
 
 returns : tie.Need-returns Inv-loop μ-loop
 unfolding goneOver
-returns c =
+returns c = 
     let l = c .before .before .loop in
     let st = c .before .before .before .starts .ensures in
     let most = c .before .before .before .before .at-most-sixteen .ensures in

@@ -148,9 +148,7 @@ fn unequal(told: &mut Told, name: &str, job: &Job) {
     }
     for (which, mut list) in uneven(&columns::columns(&job.list)) {
         let before = bits(&list);
-        let mut counts = [u64::MAX; 16];
-        let lent = columns::write(&mut list);
-        let code = columns::shift(job.inverse, &bytes, lent, &job.velocities, &job.marks, &mut counts);
+        let (code, counts) = columns::shift(job.inverse, &bytes, &mut list, &job.velocities, &job.marks);
         told.expect(
             code == 9 && counts == [0; 16] && bits(&list) == before,
             &format!("{name}: column {which} of another length, {code}"),
@@ -172,9 +170,8 @@ fn kept_unequal(told: &mut Told, name: &str, job: &Job) {
             let before: Vec<_> = lists.iter().map(bits).collect();
             let expected = if of == 0 { 9 } else { 13 };
             let [list, results, track] = &mut lists;
-            let code = columns::keep(job.inverse, &bytes, columns::read(list), columns::write(results), columns::write(track));
-            let mut redone = u64::MAX;
-            let again = columns::correct(job.inverse, &bytes, lists.each_mut().map(columns::write), 0, &[0.0; 4], &mut redone);
+            let code = columns::keep(job.inverse, &bytes, list, results, track);
+            let (again, redone) = columns::correct(job.inverse, &bytes, [list, results, track], 0, [0.0; 4]);
             let after: Vec<_> = lists.iter().map(bits).collect();
             told.expect(
                 code == expected && again == expected && redone == 0 && before == after,
@@ -198,8 +195,7 @@ fn payloads(r: &mut Random, told: &mut Told, name: &str, mut job: Job) {
         }
     }
     let mut list = columns::columns(&job.list);
-    let lent = columns::write(&mut list);
-    columns::shift(job.inverse, &sheet(&job.steps), lent, &job.velocities, &job.marks, &mut [0; 16]);
+    columns::shift(job.inverse, &sheet(&job.steps), &mut list, &job.velocities, &job.marks);
     for (how, after) in [("flat", ours::shift(&job).list), ("columns", columns::flat(&list))] {
         let came =
             after.iter().zip(&job.list).enumerate().all(|(i, (a, b))| !carried.contains(&(i % 4)) || a.to_bits() == b.to_bits());
