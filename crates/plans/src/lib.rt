@@ -6,7 +6,7 @@
 // already read. specs/Plans.antt says what a plan makes of one tuple and the state that it starts a
 // list in; specs/Windows.antt says what plans make of a part of a list, each going on from where it
 // stands, and proofs/Windows.antt that a list in parts is the whole list. Exact: no rounding but the
-// records' own. Used by the chain, by what runs a record, and by the thin walk.
+// records' own. Used by the chain, by what runs a record, and by the windows.
 ghost use mathlib.Core.Path.{_≡_};
 ghost use mathlib.Core.Bool.{cond};
 ghost use lib.Dec.{eqb};
