@@ -1,21 +1,11 @@
--- How an answer over columns is handed to C: a refusal as one word, and what each call leaves.
-use Prim.Native.Nat.{ℕ, _+_, _*_, _%_}
-use mathlib.Core.Bool.{Bool, not}
+-- What each call over columns leaves its caller in C: the refusal as one word, and what it was lent.
+use Prim.Native.Nat.{ℕ}
 use mathlib.Core.List.{List}
-use lib.Dec.{eqb}
-use Rattle.sheet.specs.declared.Refusal.{Refusal}
+use Rattle.codes.specs.Codes.{codeOf}
 use Rattle.columns.specs.Columns.{Columns}
 use Rattle.chain.specs.Columns.{ColumnsOutcome}
 use Rattle.stretch.specs.KeptColumns.{KeptColumns}
 use Rattle.kept_columns.specs.Columns.{CorrectColumnsOutcome}
-
--- 0 is done; otherwise the refusal's number plus 65536 times the step
-abbrev pub codeOf : Refusal → ℕ
-codeOf r = r .number % 65536 + r .step % 65536 * 65536
-
--- 0 is forward, anything else inverse
-abbrev pub isInverse : ℕ → Bool
-isInverse n = not (eqb n 0)
 
 -- what a shift leaves its caller: the code, the counts and the columns
 pub record ShiftTold : Type 0 where

@@ -14,15 +14,8 @@ ghost use Rattle.chain.specs.Columns.{shiftColumnsOf};
 ghost use Rattle.stretch.specs.KeptColumns.{keptColumns};
 ghost use Rattle.arrays.specs.Arrays.{tupleOf};
 ghost use Rattle.kept_columns.specs.Columns.{keepColumnsRefusalOf, keepColumnsOf, correctColumnsOf};
-ghost use Rattle.columns_entries.specs.Codes.{codeOf, isInverse, shiftTold, shiftToldOf, correctTold, correctToldOf};
-use sheet::Refusal;
-
-// A refusal as one word.
-fn code(r: Refusal) -> u32
-    ensures { λ c. ⌜ c ≡ codeOf r ⌝ }
-{
-    r.number % 65536 + r.step % 65536 * 65536
-}
+ghost use Rattle.codes.specs.Codes.{codeOf, isInverse};
+ghost use Rattle.columns_entries.specs.Codes.{shiftTold, shiftToldOf, correctTold, correctToldOf};
 
 // A sheet over four columns, in place: forward where inverse is 0, else inverse.
 #[no_mangle]
@@ -44,7 +37,7 @@ pub extern "C" fn columns_shift(
     let refusal = answer.refusal;
     let c = answer.counts;
     *counts = c;
-    code(refusal)
+    codes::code(refusal)
 }
 
 // A fresh kept run over columns: reads the list's, writes those of the results and the track.
@@ -75,7 +68,7 @@ pub extern "C" fn columns_keep(
         (columns (now (rx .entry)) (now (ry .entry)) (now (rz .entry)) (now (rt .entry)))
         (columns (now (kx .entry)) (now (ky .entry)) (now (kz .entry)) (now (kt .entry))))) ⌝ }
 {
-    code(kept_columns::keep(inverse != 0, s, x, y, z, t, rx, ry, rz, rt, kx, ky, kz, kt))
+    codes::code(kept_columns::keep(inverse != 0, s, x, y, z, t, rx, ry, rz, rt, kx, ky, kz, kt))
 }
 
 // Corrects one fix of a kept run over columns; `redone` gets how many fixes were, 0 on refusal.
@@ -126,5 +119,5 @@ pub extern "C" fn columns_correct(
     );
     let refusal = answer.refusal;
     *redone = answer.redone;
-    code(refusal)
+    codes::code(refusal)
 }

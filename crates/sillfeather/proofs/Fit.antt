@@ -8,7 +8,7 @@ use lib.ListN.{getD}
 use lib.Ieee.{Float}
 use Rattle.chain.specs.Rules.{Outcome, shiftOf}
 use Rattle.chain.proofs.Counts.{shift-counts-few}
-use Rattle.sillfeather.specs.Codes.{Small}
+use Rattle.codes.specs.Codes.{Small}
 
 pub shift-counts-fit : (o : Outcome) (inverse : Bool) (s : List ℕ) (l velocities : List Float) (marks : List ℕ)
     → o ≡ shiftOf inverse s l velocities marks → Small (o .answer .counts)

@@ -1,29 +1,13 @@
--- How an answer is handed to C: a refusal as one word, and what each call leaves in what it was
--- lent.
-use Prim.Native.Nat.{ℕ, _+_, _*_, _%_, _<_}
-use mathlib.Core.Bool.{Bool, not}
+-- What each call leaves its caller in C: the refusal as one word, and what it was lent.
+use Prim.Native.Nat.{ℕ}
 use mathlib.Core.List.{List}
-use lib.Dec.{eqb}
-use lib.ListN.{getD}
 use lib.Ieee.{Float}
-use Rattle.sheet.specs.declared.Refusal.{Refusal}
+use Rattle.codes.specs.Codes.{codeOf}
 use Rattle.chain.specs.Rules.{Outcome}
 use Rattle.stretch.specs.Kept.{Kept}
 use Rattle.kept.specs.Entries.{CorrectOutcome}
 use Rattle.making.specs.Adding.{AddOutcome}
 use Rattle.rescue.specs.Rules.{RescueOutcome}
-
--- 0 is done; otherwise the refusal's number plus 65536 times the step
-abbrev pub codeOf : Refusal → ℕ
-codeOf r = r .number % 65536 + r .step % 65536 * 65536
-
--- 0 is forward, anything else inverse
-abbrev pub isInverse : ℕ → Bool
-isInverse n = not (eqb n 0)
-
--- counts that 32 bits hold
-abbrev pub Small : List ℕ → Type 0
-Small counts = (i : ℕ) → getD counts i 0 < 4294967296
 
 -- what a shift leaves its caller: the code, the counts and the list
 pub record Handed : Type 0 where

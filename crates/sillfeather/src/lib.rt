@@ -15,7 +15,8 @@ ghost use Rattle.stretch.specs.Kept.{keptOf};
 ghost use Rattle.kept.specs.Entries.{keepRefusalOf, keepOf, correctOf};
 ghost use Rattle.making.specs.Adding.{addedOf};
 ghost use Rattle.rescue.specs.Rules.{rescueOf};
-ghost use Rattle.sillfeather.specs.Codes.{codeOf, isInverse, handed, handedOf, Small, corrected, correctedOf, made, madeOf, mended, mendedOf};
+ghost use Rattle.codes.specs.Codes.{codeOf, isInverse};
+ghost use Rattle.sillfeather.specs.Codes.{handed, handedOf, corrected, correctedOf, made, madeOf, mended, mendedOf};
 ghost use Rattle.arrays.specs.Arrays.{tupleOf, helmertOf, molodenskyOf};
 ghost use Rattle.sillfeather.specs.Records.{cartWith, permtideWith, deformationWith};
 ghost use Rattle.root.specs.Sqrt.{sqrtOf};
@@ -72,33 +73,12 @@ pub extern "C" fn sillfeather_hypot(x: f64, y: f64) -> f64
     hypot::hypot(x, y)
 }
 
-// A refusal as one word.
-fn code(r: sheet::Refusal) -> u32
-    ensures { λ c. ⌜ c ≡ codeOf r ⌝ }
-{
-    r.number % 65536 + r.step % 65536 * 65536
-}
-
 // The first rule that the sheet breaks.
 #[no_mangle]
 pub extern "C" fn sillfeather_check(s: &[u8]) -> u32
     ensures { λ r. ⌜ r ≡ codeOf (refusalOf (now (s .entry))) ⌝ }
 {
-    code(sheet::check(s))
-}
-
-// The chain's counts as C gets them; none is over 2,048.
-fn narrow(counts: [usize; 16]) -> [u32; 16]
-    requires { ⌜ Small counts ⌝ }
-    ensures { λ r. ⌜ r ≡ counts ⌝ }
-{
-    let mut out = [0u32; 16];
-    let mut i = 0;
-    while i < 16 {
-        out[i] = counts[i] as u32;
-        i += 1;
-    }
-    out
+    codes::code(sheet::check(s))
 }
 
 // A sheet over a list, in place: forward where inverse is 0, else inverse. `counts` gets each
@@ -117,8 +97,8 @@ pub extern "C" fn sillfeather_shift(
     let answer = chain::shift(inverse != 0, s, list, velocities, marks);
     let refusal = answer.refusal;
     let c = answer.counts;
-    *counts = narrow(c);
-    code(refusal)
+    *counts = codes::narrow(c);
+    codes::code(refusal)
 }
 
 // A fresh kept run: reads the list, writes results and, after each fix, the track.
@@ -134,7 +114,7 @@ pub extern "C" fn sillfeather_keep(
         × (keptOf (now (list .entry)) (now (results .exit)) (now (track .exit))
         ≡ keepOf (isInverse inverse) (now (s .entry)) (keptOf (now (list .entry)) (now (results .entry)) (now (track .entry)))) ⌝ }
 {
-    code(kept::keep(inverse != 0, s, list, results, track))
+    codes::code(kept::keep(inverse != 0, s, list, results, track))
 }
 
 // Corrects one fix of a kept run: writes it into the list and redoes from there; `redone` gets how
@@ -164,7 +144,7 @@ pub extern "C" fn sillfeather_correct(
     );
     let refusal = answer.refusal;
     *redone = answer.redone;
-    code(refusal)
+    codes::code(refusal)
 }
 
 // ----- making a sheet -------------------------------------------------------------------------
@@ -176,7 +156,7 @@ fn add(room: &mut [u8], len: &mut u64, inverted: u32, step: Step) -> u32
     let added = making::add(room, *len as usize, inverted, step);
     let refusal = added.refusal;
     *len = added.length as u64;
-    code(refusal)
+    codes::code(refusal)
 }
 
 // The 30 numbers in the order of the body.
@@ -311,5 +291,5 @@ pub extern "C" fn sillfeather_rescue(
     let answer = rescue::rescue(damaged, room, changes);
     let refusal = answer.refusal;
     *changed = words::long(answer.changed);
-    code(refusal)
+    codes::code(refusal)
 }

@@ -1,6 +1,6 @@
 -- The answer's parts are handed over one by one. Assumes nothing.
 use mathlib.Core.Path.{ap, _∙_}
-use Rattle.columns_entries.specs.Codes.{codeOf}
+use Rattle.codes.specs.Codes.{codeOf}
 use borrow.Author.Needs.{needs}
 use Rattle.columns_entries.proofs.columns_keep.Statement.{statement}
 use Rattle.columns_entries.proofs.columns_keep.Tie as tie

@@ -1,6 +1,6 @@
 -- Calls are replaced by what they ensure; the definition is left. Assumes nothing.
 use mathlib.Core.Path.{ap, _∙_}
-use Rattle.sillfeather.specs.Codes.{codeOf}
+use Rattle.codes.specs.Codes.{codeOf}
 use borrow.Author.Needs.{needs}
 use Rattle.sillfeather.proofs.sillfeather_keep.Statement.{statement}
 use Rattle.sillfeather.proofs.sillfeather_keep.Tie as tie

@@ -1,5 +1,6 @@
 -- By `shift-counts-fit`, from what the calls ensure. Assumes nothing.
 use mathlib.Core.Path.{ap}
+use Rattle.codes.proofs.Counts.{narrow-small}
 use Rattle.sillfeather.specs.Codes.{handedOf}
 use Rattle.sillfeather.proofs.Fit.{shift-counts-fit}
 use borrow.Author.Needs.{needs}
@@ -10,7 +11,7 @@ shift-requires : tie.Need-shift-requires
 shift-requires c κs = search needs
 
 narrow-requires : tie.Need-narrow-requires
-narrow-requires c κs = shift-counts-fit _ _ _ _ _ _ (c .before .before .before .before .shift .ensures)
+narrow-requires c κs = search needs
 
 code-requires : tie.Need-code-requires
 code-requires c κs = search needs
@@ -19,7 +20,9 @@ same-length : tie.Need-same-length
 same-length c = search needs
 
 returns : tie.Need-returns
-returns c = rw (c .code .ensures, c .before .narrow .ensures) (ap handedOf (c .before .before .before .before .before .before .shift .ensures))
+returns c =
+    let e = c .before .before .before .before .before .before .shift .ensures in
+    rw (c .code .ensures, c .before .narrow .ensures, narrow-small _ (shift-counts-fit _ _ _ _ _ _ e)) (ap handedOf e)
 
 pub sillfeather-shift-spec : {M : Type 1} → statement M
 sillfeather-shift-spec = tie.close (tie.spec shift-requires narrow-requires code-requires same-length returns)

@@ -1,5 +1,5 @@
--- Invariant: `out` has sixteen elements, and its first i are the first i counts. A turn copies one
--- count, which 32 bits hold by `Small`, and so one element more is the count (`take-suc-set`,
+-- Invariant: `out` has sixteen elements, and its first i are the first i counts, narrowed. A turn
+-- copies one count's lower bits (`narrow-at`), and so one element more is right (`take-suc-set`,
 -- `take-suc`). At i = 16 the two arrays are equal (`take-all`). The measure is 16 - i.
 -- Assumes nothing.
 use borrow.Author.Needs.{needs}
@@ -9,11 +9,13 @@ use Prim.Native.Nat.{ℕ, _-_, _≤_, _<_}
 use native.Mathlib.Numerals.{add-one}
 use lib.ListN.{length, take, length-set}
 use lib.Seq.{take-all, take-suc, take-suc-set}
-use Rattle.sillfeather.proofs.narrow.Statement.{statement}
-use Rattle.sillfeather.proofs.narrow.Tie as tie
+use Rattle.codes.specs.Codes.{narrowOf}
+use Rattle.codes.proofs.Counts.{narrow-length, narrow-at}
+use Rattle.codes.proofs.narrow.Statement.{statement}
+use Rattle.codes.proofs.narrow.Tie as tie
 
 abbrev Inv-loop : tie.InvT-loop
-Inv-loop counts out₀ i₀ out i = (i ≤ 16) × ((length out ≡ 16) × (take i out ≡ take i counts))
+Inv-loop counts out₀ i₀ out i = (i ≤ 16) × ((length out ≡ 16) × (take i out ≡ take i (narrowOf counts)))
 
 abbrev μ-loop : tie.MeasureT-loop
 μ-loop counts out₀ i₀ out i = 16 - i
@@ -28,7 +30,7 @@ array-read-out : tie.Need-array-read-out Inv-loop μ-loop
 array-read-out c = search needs
 
 cast-out : tie.Need-cast-out Inv-loop μ-loop
-cast-out c = let h = c .before .before .pre (c .before .loop .i) in search needs
+cast-out c = search needs
 
 mul-out-2 : tie.Need-mul-out-2 Inv-loop μ-loop
 mul-out-2 c = search needs
@@ -46,16 +48,17 @@ loop-again : tie.Need-loop-again Inv-loop μ-loop
 loop-again c =
     let l = c .before .loop in
     let counts = c .before .before .args .t1 in
-    let here : l .i < length counts = omega arith in
+    let here : l .i < length (narrowOf counts) = rw (narrow-length counts) (omega arith) in
     let there : l .i < length (l .out) = omega arith in
-    (omega arith, (rw length-set (l .inv .1 .0), rw (add-one, take-suc-set (l .out) (l .i) _ there, l .inv .1 .1, take-suc counts (l .i) 0 here)))
+    (omega arith, (rw length-set (l .inv .1 .0), rw (add-one, take-suc-set (l .out) (l .i) _ there, l .inv .1 .1, take-suc (narrowOf counts) (l .i) 0 here, narrow-at counts (l .i) (omega arith)) refl))
 
 returns : tie.Need-returns Inv-loop μ-loop
 returns c =
     let l = c .before .loop in
     let counts = c .before .before .args .t1 in
     let end : l .i ≡ 16 = omega arith in
-    sym (take-all 16 (l .out) (omega arith)) ∙ ap (λ (i : ℕ). take i (l .out)) (sym end) ∙ l .inv .1 .1 ∙ ap (λ (i : ℕ). take i counts) end ∙ take-all 16 counts (omega arith)
+    let long : length (narrowOf counts) ≤ 16 = rw (narrow-length counts) (omega arith) in
+    sym (take-all 16 (l .out) (omega arith)) ∙ ap (λ (i : ℕ). take i (l .out)) (sym end) ∙ l .inv .1 .1 ∙ ap (λ (i : ℕ). take i (narrowOf counts)) end ∙ take-all 16 (narrowOf counts) long
 
 pub narrow-spec : {M : Type 1} → statement M
 narrow-spec =

@@ -1,0 +1,2 @@
+-- What the contracts of `codes` cite.
+pub mod Codes
