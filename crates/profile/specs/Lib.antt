@@ -1,0 +1,2 @@
+-- What the contracts of `profile` cite.
+pub mod Profile
