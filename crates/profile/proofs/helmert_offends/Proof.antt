@@ -1,3 +1,5 @@
+-- Each call is replaced by what it ensures; the definition is left. Assumes nothing.
+use Rattle.profile.specs.Profile.{helmertOffends}
 use borrow.Author.Needs.{needs}
 use Rattle.profile.proofs.helmert_offends.Statement.{statement}
 use Rattle.profile.proofs.helmert_offends.Tie as tie
@@ -15,7 +17,8 @@ own-epoch-requires : tie.Need-own-epoch-requires
 own-epoch-requires c κs = search needs
 
 returns : tie.Need-returns
-returns c = ?
+unfolding helmertOffends
+returns c = rw (c .own-epoch .ensures, c .before .dynamic .ensures, c .before .before .scaled .ensures, c .before .before .before .exact .ensures)
 
 pub helmert-offends-spec : {M : Type 1} → statement M
 helmert-offends-spec =

@@ -1,3 +1,6 @@
+-- One case for each variant. Calls are replaced by what they ensure; the definition is left.
+-- Assumes nothing.
+use Rattle.profile.specs.Profile.{refusal25}
 use borrow.Author.Needs.{needs}
 use Rattle.profile.proofs.offends.Statement.{statement}
 use Rattle.profile.proofs.offends.Tie as tie
@@ -21,19 +24,24 @@ enum-told-4 : tie.Need-enum-told-4
 enum-told-4 c = search needs
 
 returns : tie.Need-returns
-returns c = ?
+unfolding refusal25
+returns c = rw (c .helmert-offends .ensures, c .before .before .step .given .1)
 
 returns-2 : tie.Need-returns-2
-returns-2 c = ?
+unfolding refusal25
+returns-2 c = rw (c .enum-told .given .1)
 
 returns-3 : tie.Need-returns-3
-returns-3 c = ?
+unfolding refusal25
+returns-3 c = rw (c .enum-told2 .given .1)
 
 returns-4 : tie.Need-returns-4
-returns-4 c = ?
+unfolding refusal25
+returns-4 c = rw (c .enum-told3 .given .1)
 
 returns-5 : tie.Need-returns-5
-returns-5 c = ?
+unfolding refusal25
+returns-5 c = rw (c .enum-told4 .given .1)
 
 pub offends-spec : {M : Type 1} → statement M
 offends-spec =
