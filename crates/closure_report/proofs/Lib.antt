@@ -2,3 +2,4 @@
 pub mod Turns
 pub mod Telling
 pub mod Laws
+pub mod Examples

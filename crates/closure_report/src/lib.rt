@@ -195,7 +195,13 @@ pub fn add(report: Report, start: &[f64], end: &[f64]) -> Report
     let mut r = report;
     let mut i = 0;
     while i < n {
-        r = seen(r, list, i as u64, lists::read4(start, 4 * i), lists::read4(end, 4 * i));
+        r = seen(
+            r,
+            list,
+            i as u64,
+            lists::read4(start, 4 * i),
+            lists::read4(end, 4 * i),
+        );
         i += 1;
     }
     list_done(r)
@@ -229,8 +235,22 @@ pub fn numbers(r: Report) -> [u64; 16]
     ensures { λ l. ⌜ l ≡ numbersOf r ⌝ }
 {
     [
-        r.lists, r.tuples, r.nans, r.restored, r.x.bits, r.x.list, r.x.index, r.y.bits, r.y.list,
-        r.y.index, r.z.bits, r.z.list, r.z.index, r.t.bits, r.t.list, r.t.index,
+        r.lists,
+        r.tuples,
+        r.nans,
+        r.restored,
+        r.x.bits,
+        r.x.list,
+        r.x.index,
+        r.y.bits,
+        r.y.list,
+        r.y.index,
+        r.z.bits,
+        r.z.list,
+        r.z.index,
+        r.t.bits,
+        r.t.list,
+        r.t.index,
     ]
 }
 
