@@ -1,3 +1,8 @@
+-- By `parts`, from what the calls ensure. Assumes nothing.
+use mathlib.Core.Path.{ap, _∙_}
+use lib.ListN.{length}
+use Rattle.text.specs.Text.{text, appended}
+use Rattle.closure_answer.proofs.Parts.{parts}
 use borrow.Author.Needs.{needs}
 use Rattle.closure_answer.proofs.closed.Statement.{statement}
 use Rattle.closure_answer.proofs.closed.Tie as tie
@@ -69,7 +74,12 @@ same-length-4 : tie.Need-same-length-4
 same-length-4 c = search needs
 
 returns : tie.Need-returns
-returns c = ?
+returns c = let o = c .before .before .before .before .before .before .before .before .before .before .before .before .before .before .before .before .before .before .before .before .before .before .before .before .before .before .before .before .before in
+    c .before .before .before .before .told .ensures
+    ∙ ap (appended (text (o .args .room .now) 0))
+    (parts (o .args .profile) (o .args .job .now) (o .args .head) (c .before .before .before .before .before .before .before .before .before .before .before .before .before .before .before .before .before .before .before .before .before .before .before .tuples-at .result) (c .before .before .before .before .before .before .before .before .before .before .before .before .before .before .before .before .before .before .before .before .before .before .velocities-at .result) (c .before .before .before .before .before .before .before .before .before .before .before .before .before .before .before .before .before .before .before .before .before .marks-at .result)
+    (length (o .args .list .now)) (length (o .args .velocities .now)) (o .pre .0) (c .before .before .before .before .before .before .before .before .before .before .before .before .before .before .before .before .before .before .before .before .before .before .before .tuples-at .ensures .0) (c .before .before .before .before .before .before .before .before .before .before .before .before .before .before .before .before .before .before .before .before .before .before .velocities-at .ensures .0) (c .before .before .before .before .before .before .before .before .before .before .before .before .before .before .before .before .before .before .before .before .before .marks-at .ensures .0)
+    (o .pre .2) (o .pre .3) (o .pre .4) (c .before .before .before .before .before .before .before .before .before .before .before .before .before .before .before .before .before .before .numbers .ensures) (c .before .before .before .before .before .before .before .before .before .before .before .before .before .numbers2 .ensures))
 
 pub closed-spec : {M : Type 1} → statement M
 closed-spec =

@@ -1,3 +1,7 @@
+-- Refused or done, by what `closure` ensures from an empty report (`said-is`). Assumes nothing.
+use mathlib.Core.Path.{ap, _∙_}
+use Rattle.text.specs.Text.{appended}
+use Rattle.closure_answer.proofs.Parts.{said-is, told-refused, told-page}
 use borrow.Author.Needs.{needs}
 use Rattle.closure_answer.proofs.told.Statement.{statement}
 use Rattle.closure_answer.proofs.told.Tie as tie
@@ -18,7 +22,7 @@ same-length-2 : tie.Need-same-length-2
 same-length-2 c = search needs
 
 returns : tie.Need-returns
-returns c = ?
+returns c = c .before .before .put-refused .ensures ∙ ap (appended _) (told-refused _ _ _ (said-is _ _ _ _ _ _ _ _ _ (c .before .before .before .before .before .before .before .before .before .before .before .empty .ensures) (c .before .before .before .before .before .before .before .before .before .closure .ensures)) (c .before .before .before .before .if1 .taken))
 
 kind-at-requires : tie.Need-kind-at-requires
 kind-at-requires c κs = search needs
@@ -39,7 +43,7 @@ same-length-4 : tie.Need-same-length-4
 same-length-4 c = search needs
 
 returns-2 : tie.Need-returns-2
-returns-2 c = ?
+returns-2 c = c .before .before .put-page .ensures ∙ ap (appended _) (told-page _ _ _ (said-is _ _ _ _ _ _ _ _ _ (c .before .before .before .before .before .before .before .before .before .before .before .before .before .before .before .empty .ensures) (c .before .before .before .before .before .before .before .before .before .before .before .before .before .closure .ensures)) (c .before .before .before .before .before .before .before .before .if1 .left) _ (c .before .before .before .before .before .takes-angles .ensures ∙ rw (c .before .before .before .before .before .before .before .kind-at .ensures, c .before .before .before .before .before .before .inverted-at .ensures)))
 
 pub told-spec : {M : Type 1} → statement M
 told-spec =
