@@ -1,8 +1,8 @@
 // The work of the program closure, from the bytes of a job to the bytes of its page: `job` reads,
 // `closure_run` runs, `closure_page` tells.
 //
-// Document 02, A14. The job is the one that the program `shift` reads; its list is added to an empty
-// report, forward and then inverse, whichever direction the job asks for. A word asks for a
+// Document 02, A14. The job is the one that the program `shift` reads; its list is added to an
+// empty report, forward and then inverse, whichever direction the job asks for. A word asks for a
 // profile. The page is fixed for every job and word by specs/Answer.antt, in a room of any length
 // (proved). A bad job is 16, before all others. Used by the program closure.
 ghost use mathlib.Core.Path.{_≡_};
@@ -56,7 +56,15 @@ fn closed(
     let c = job::marks_at(head);
     job::numbers(&job[a..], list);
     job::numbers(&job[b..], velocities);
-    told(room, profile, &job[16..a], list, back, velocities, &job[c..])
+    told(
+        room,
+        profile,
+        &job[16..a],
+        list,
+        back,
+        velocities,
+        &job[c..],
+    )
 }
 
 // Room for the tuples of a job, for what comes back of them, and for its velocities.
@@ -79,5 +87,13 @@ pub fn answer(word: &[u8], job: &[u8], room: &mut [u8]) -> usize
     let mut velocities = zeros();
     let n = 4 * words::wide(head.tuples);
     let m = 3 * words::wide(head.velocities);
-    closed(room, profile, job, head, &mut list[..n], &mut back, &mut velocities[..m])
+    closed(
+        room,
+        profile,
+        job,
+        head,
+        &mut list[..n],
+        &mut back,
+        &mut velocities[..m],
+    )
 }

@@ -3,12 +3,12 @@
 // Document 02, A14: "Add a report that runs a chain forward, then inverse, over many lists." One
 // call takes one list; the report rolls from call to call. The list is only read: both runs go
 // through the start of a lent room, which holds the list as it came back when the call is done. The
-// sheet is judged by a profile where one is asked for (crate profile), the list and what is lent for
-// it by the chain's own rules 9 and 10, and 15 comes last. What is answered and what the room holds
-// is specs/Closure.antt's for every input (proved); nothing is written before the last test has
-// passed. proofs/Laws.antt has which refusal is given when, and that many calls give the report of
-// all their lists. No rounding but the steps' own and the report's differences. Used by the exported
-// library and the program closure.
+// sheet is judged by a profile where one is asked for (crate profile), the list and what is lent
+// for it by the chain's own rules 9 and 10, and 15 comes last. What is answered and what the room
+// holds is specs/Closure.antt's for every input (proved); nothing is written before the last test
+// has passed. proofs/Laws.antt has which refusal is given when, and that many calls give the report
+// of all their lists. No rounding but the steps' own and the report's differences. Used by the
+// exported library and the program closure.
 ghost use mathlib.Core.Path.{_≡_};
 ghost use mathlib.Core.Bool.{false};
 ghost use Prim.Native.Nat.{_≤_};
