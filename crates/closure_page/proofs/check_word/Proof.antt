@@ -1,6 +1,6 @@
--- Invariant: the word of all numbers is the word of those from i on, begun at c (`checkFrom`). A turn
--- takes in one number, in two halves (`check-on`); past the last the word is there (`check-end`).
--- The measure is the length less i. Assumes nothing.
+-- Invariant: the word of all numbers is the word of those from i on, begun at c (`checkFrom`). A
+-- turn takes in one number, in two halves (`check-on`); past the last the word is there
+-- (`check-end`). The measure is the length less i. Assumes nothing.
 use native.Mathlib.Omega.{arith}
 use mathlib.Core.Path.{_≡_, refl, sym, _∙_}
 use Prim.Native.Nat.{_-_, _<_, _≤_}
