@@ -22,8 +22,8 @@
  * rule before it in the function's order is.
  *
  * WHAT IS PROVED. For each function, and for every input, that the result and the memory afterwards
- * are what its definition says (crates/sillfeather/src/lib.rt has the contract, docs/CONFORMANCE.md
- * the way from document 01 to it); that it ends; and that it touches nothing but what it is lent.
+ * are what its definition says (crates/sillfeather/src/lib.rt and crates/closure_entries/src/lib.rt
+ * have the contracts, docs/CONFORMANCE.md the way from document 01 to them); that it ends; and that it touches nothing but what it is lent.
  * What is said below of what a call reads, writes, refuses and leaves alone follows from that. The
  * compiler and the machine's binary64 arithmetic are assumed.
  *
@@ -41,8 +41,8 @@
  *             compiler contract the two into one operation.
  *   Stack     sillfeather_check needs up to 4 kB of stack, sillfeather_shift up to 20 kB,
  *             sillfeather_keep up to 12 kB, sillfeather_correct up to 10 kB, sillfeather_rescue up
- *             to 6 kB, each sillfeather_add_ function up to 32 kB. examples/c/stack.c holds these
- *             limits.
+ *             to 6 kB, sillfeather_check_profile up to 4 kB, sillfeather_closure up to 20 kB, each
+ *             sillfeather_add_ function up to 32 kB. examples/c/stack.c holds these limits.
  */
 #ifndef SILLFEATHER_H
 #define SILLFEATHER_H
@@ -89,8 +89,10 @@ enum {
     SILLFEATHER_REFUSED_INDEX = 14,       /* the corrected fix's index is not below the number of
                                              tuples */
     SILLFEATHER_REFUSED_ROOM = 15,        /* the room is too short for the sheet, or a rescue's list
-                                             for its changes */
-    SILLFEATHER_REFUSED_RESCUE = 19       /* the damaged sheet cannot be rebuilt */
+                                             for its changes, or a closure's room for its list */
+    SILLFEATHER_REFUSED_RESCUE = 19,      /* the damaged sheet cannot be rebuilt */
+    SILLFEATHER_REFUSED_PROFILE = 25      /* the step is outside the profile that was asked for, or
+                                             nobody knows that profile */
 };
 
 /* ----- a sheet over a list ------------------------------------------------------------------- */
@@ -290,6 +292,45 @@ uint32_t sillfeather_add_deformation(uint8_t *room, size_t room_len, uint64_t *s
 
 uint32_t sillfeather_rescue(const uint8_t *damaged, size_t damaged_len, uint8_t *room, size_t room_len, uint32_t *changes, size_t changes_len,
                             uint64_t *changed);
+
+/* ----- before sailing ------------------------------------------------------------------------ */
+
+/* The profiles that a sheet can be judged by. The chart profile lets Helmert and cart steps through,
+ * no other kinds; no Helmert step with the exact flag; and no dynamic Helmert step without the
+ * own-epoch flag, also where t_obs fixes it. */
+enum { SILLFEATHER_PROFILE_NONE = 0, SILLFEATHER_PROFILE_CHART = 1 };
+
+/* Whether a sheet breaks no rule, and none of a profile's.
+ *   Reads     the sheet.
+ *   Writes    nothing.
+ *   Refuses   1, 2, 3, 4; then step by step 5, 6, 7, 8; then 25, where a profile is asked for, with
+ *             the first offending step, or with step 0 where `profile` is neither 0 nor 1: no sheet
+ *             passes a profile that nobody knows. Then 11. With SILLFEATHER_PROFILE_NONE it answers
+ *             as sillfeather_check. */
+uint32_t sillfeather_check_profile(const uint8_t *sheet, size_t sheet_len, uint32_t profile);
+
+/* Runs a sheet forward and then inverse over a list, and adds to a report what became of its fixes.
+ * A report is sixteen numbers, zeros to begin with; one list after another is added to it by a call
+ * each, and any numbers in it are taken as they stand. Where two boxes hold the same sixteen numbers
+ * after the same lists, every tuple counted alike and every worst fix is the same fix.
+ *   [0]  lists added          [1]  tuples seen
+ *   [2]  tuples with a NaN in one of their four numbers, at the start or at the end
+ *   [3]  tuples without one that came back bit for bit in all four
+ *   [4]  the largest difference of the first coordinate among the other tuples: the bits, as a
+ *        double has them, of |end - start|, rounded once; 0 where the two have equal bits
+ *   [5]  the list that it stands in, and [6] its index there, both counted from 0; the earliest
+ *        where several differ by as much; 0 and 0 where no other tuple was seen
+ *   [7] [8] [9], [10] [11] [12], [13] [14] [15]   the same of the other three coordinates
+ * Each of the first four stays at 2^64 - 1 once it is there.
+ *   Reads     the sheet, the list, the report, and, for a deformation step, velocities and marks,
+ *             as sillfeather_shift does; the same serve both ways.
+ *   Writes    the report; and at the room's start the list as it came back.
+ *   Refuses   as sillfeather_check_profile; then 9, 10; then 15, the room shorter than the list.
+ *   Leaves    the list, and what lies behind it in the room; on refusal report and room as they
+ *             were. */
+uint32_t sillfeather_closure(uint64_t report[16], uint32_t profile, const uint8_t *sheet, size_t sheet_len, const double *list, size_t list_len,
+                             double *room, size_t room_len, const double *velocities, size_t velocities_len, const uint8_t *marks,
+                             size_t marks_len);
 
 /* ----- the kernels --------------------------------------------------------------------------- */
 

@@ -788,6 +788,113 @@ static void rescues(void) {
     result_is("no bytes at all", sillfeather_rescue(NULL, 0, r.room.at, sizeof r.room.at, r.list, LISTED, &r.changed), 19, 0);
 }
 
+/* ----- closures and profiles ------------------------------------------------------------------------------------------------------------------------------------ */
+
+enum { CLOSED = 12 };
+
+struct closure {
+    uint64_t report[16];
+    double room[CLOSED];
+};
+
+static void lend_closure(struct closure *c) {
+    for (int i = 0; i < 16; i++) c->report[i] = 0;
+    for (int i = 0; i < CLOSED; i++) c->room[i] = 7.5;
+}
+
+static int closure_left_alone(const struct closure *c) {
+    struct closure was;
+    lend_closure(&was);
+    return memcmp(c->report, was.report, sizeof was.report) == 0 && memcmp(c->room, was.room, sizeof was.room) == 0;
+}
+
+static int report_is(const struct closure *c, const uint64_t *expected) {
+    int so = memcmp(c->report, expected, sizeof c->report) == 0;
+    if (!so)
+        for (int i = 0; i < 16; i++) printf("     [%d] %016llx\n", i, (unsigned long long)c->report[i]);
+    return so;
+}
+
+/* a translation of 0.1 in x; two deformation steps, which 11 refuses */
+static void closures(void) {
+    static struct room sheet, twice;
+    static struct closure c;
+    struct sillfeather_helmert h = SILLFEATHER_HELMERT_BLANK;
+    const double list[8] = {1, 2, 3, 4, 0.3, 2, 3, 4}, off = 0.3 + 0.1 - 0.1 - 0.3;
+    uint64_t report[16] = {1, 2, 0, 1, 0, 0, 1, 0, 0, 1, 0, 0, 1, 0, 0, 1};
+    report[4] = bits_of(off < 0 ? -off : off);
+    h.translation[0] = 0.1;
+    fresh(&sheet);
+    sillfeather_add_helmert(sheet.at, sizeof sheet.at, &sheet.len, 0, SILLFEATHER_HELMERT_BLANK_FLAGS, 0, SILLFEATHER_NUMBERS(&h));
+
+    lend_closure(&c);
+    result_is("a closure over two tuples", sillfeather_closure(c.report, 0, sheet.at, sheet.len, list, 8, c.room, CLOSED, NULL, 0, NULL, 0), 0, 0);
+    holds("one restored, one off in x; y, z and t differ by 0 at tuple 1", report_is(&c, report));
+    holds("the room has the list as it came back, and what it held behind it", c.room[0] == 1 && c.room[4] == 0.3 + 0.1 - 0.1 && c.room[8] == 7.5);
+
+    result_is("the same list again", sillfeather_closure(c.report, 1, sheet.at, sheet.len, list, 8, c.room, CLOSED, NULL, 0, NULL, 0), 0, 0);
+    report[0] = 2, report[1] = 4, report[3] = 2;
+    holds("the earliest on ties", report_is(&c, report));
+
+    double start_nan[4] = {1, SILLFEATHER_NOT_GIVEN, 3, 4}, zero[4] = {-0.0, 2, 3, 4};
+    lend_closure(&c);
+    sillfeather_closure(c.report, 0, sheet.at, sheet.len, start_nan, 4, c.room, CLOSED, NULL, 0, NULL, 0);
+    const uint64_t nans[16] = {1, 1, 1};
+    holds("a NaN is counted there alone, and nothing is left: 0 at list 0, index 0", report_is(&c, nans));
+    sillfeather_closure(c.report, 0, sheet.at, sheet.len, zero, 4, c.room, CLOSED, NULL, 0, NULL, 0);
+    const uint64_t zeros[16] = {2, 2, 1, 0, 0, 1, 0, 0, 1, 0, 0, 1, 0, 0, 1, 0};
+    holds("-0 to +0 differs by 0, and is not restored", report_is(&c, zeros));
+
+    lend_closure(&c);
+    for (int i = 0; i < 16; i++) c.report[i] = UINT64_MAX;
+    sillfeather_closure(c.report, 0, sheet.at, sheet.len, list, 4, c.room, CLOSED, NULL, 0, NULL, 0);
+    holds("sums stay at 2^64 - 1", c.report[0] == UINT64_MAX && c.report[1] == UINT64_MAX && c.report[3] == UINT64_MAX);
+
+    lend_closure(&c);
+    result_is("no list is a list", sillfeather_closure(c.report, 0, sheet.at, sheet.len, NULL, 0, NULL, 0, NULL, 0, NULL, 0), 0, 0);
+    const uint64_t empty[16] = {1};
+    holds("and adds nothing but itself", report_is(&c, empty));
+
+    fresh(&twice);
+    twice.len = 0;
+    struct bytes b;
+    header(&b, 96, 2);
+    place(&b, 5, 0, 48, 24);
+    place(&b, 5, 0, 72, 24);
+    for (int i = 0; i < 2; i++) {
+        word(&b, 0);
+        word(&b, 1);
+        number(&b, 1.0);
+        number(&b, SILLFEATHER_NOT_GIVEN);
+    }
+    lend_closure(&c);
+    result_is("11 where no profile is asked for", sillfeather_closure(c.report, 0, b.at, b.len, list, 7, c.room, 0, NULL, 0, NULL, 0), 11, 2);
+    result_is("25 before 11", sillfeather_closure(c.report, 1, b.at, b.len, list, 7, c.room, 0, NULL, 0, NULL, 0), 25, 1);
+    result_is("9 before 10 and 15", sillfeather_closure(c.report, 0, sheet.at, sheet.len, list, 7, c.room, 0, list, 1, NULL, 0), 9, 0);
+    result_is("10 before 15", sillfeather_closure(c.report, 0, sheet.at, sheet.len, list, 8, c.room, 0, list, 1, NULL, 0), 10, 0);
+    result_is("15, a room one short", sillfeather_closure(c.report, 0, sheet.at, sheet.len, list, 8, c.room, 7, NULL, 0, NULL, 0), 15, 0);
+    holds("refused calls leave report and room", closure_left_alone(&c));
+
+    result_is("no profile is the reader", sillfeather_check_profile(b.at, b.len, SILLFEATHER_PROFILE_NONE), 11, 2);
+    result_is("the chart profile names the first step", sillfeather_check_profile(b.at, b.len, SILLFEATHER_PROFILE_CHART), 25, 1);
+    result_is("a profile that nobody knows", sillfeather_check_profile(sheet.at, sheet.len, 2), 25, 0);
+    result_is("1 before 25", sillfeather_check_profile(sheet.at, sheet.len - 1, 2), 1, 0);
+
+    /* every flag, static, dynamic, and dynamic fixed by t_obs */
+    for (uint32_t flags = 0; flags < 16; flags++)
+        for (int mode = 0; mode < 3; mode++) {
+            struct sillfeather_helmert g = SILLFEATHER_HELMERT_BLANK;
+            g.dxyz[1] = mode == 0 ? 0.0 : 0.25;
+            g.t_epoch = 2000;
+            if (mode == 2) g.t_obs = 2010;
+            fresh(&twice);
+            sillfeather_add_cart(twice.at, sizeof twice.at, &twice.len, 0, SILLFEATHER_GRS80);
+            sillfeather_add_helmert(twice.at, sizeof twice.at, &twice.len, 0, flags, 0, SILLFEATHER_NUMBERS(&g));
+            int passes = (flags & 1) == 0 && (mode == 0 || (flags & 8) != 0);
+            result_is("the chart profile by flags", sillfeather_check_profile(twice.at, twice.len, 1), passes ? 0 : 25, passes ? 0 : 2);
+        }
+}
+
 int main(void) {
     holds("30 numbers in a Helmert record", sizeof(struct sillfeather_helmert) == 30 * sizeof(double));
     each_kind_by_hand();
@@ -803,6 +910,7 @@ int main(void) {
     missing_times();
     refused_kept_runs();
     rescues();
+    closures();
     kernels();
     printf("%d passed, %d failed\n", passed, failed);
     return failed != 0;

@@ -17,9 +17,9 @@ uint32_t columns_shift(uint32_t, const uint8_t *, size_t, COLUMNS(list), const d
 uint32_t columns_keep(uint32_t, const uint8_t *, size_t, COLUMNS(list), COLUMNS(results), COLUMNS(track));
 uint32_t columns_correct(uint32_t, const uint8_t *, size_t, COLUMNS(list), COLUMNS(results), COLUMNS(track), size_t, const double[4], uint64_t *);
 
-/* every kind; one exact Helmert step, running and in own-epoch mode */
-static uint8_t all_kinds[SILLFEATHER_SHEET_MAX], helmerts[2][SILLFEATHER_SHEET_MAX], marks[ROWS];
-static uint64_t all_kinds_len, helmerts_len[2];
+/* every kind; one exact Helmert step, running and in own-epoch mode; one that the chart profile lets through */
+static uint8_t all_kinds[SILLFEATHER_SHEET_MAX], helmerts[2][SILLFEATHER_SHEET_MAX], chart[SILLFEATHER_SHEET_MAX], marks[ROWS];
+static uint64_t all_kinds_len, helmerts_len[2], chart_len;
 static double list[NUMBERS], results[NUMBERS], track[NUMBERS], velocities[3 * ROWS];
 static double columns[3][4][ROWS];
 static struct sillfeather_helmert helmert = SILLFEATHER_HELMERT_BLANK;
@@ -32,6 +32,7 @@ static void make(void) {
     for (uint32_t own = 0; own < 2; own++)
         sillfeather_add_helmert(helmerts[own], room, &helmerts_len[own], 0, SILLFEATHER_HELMERT_EXACT + own * SILLFEATHER_HELMERT_OWN_EPOCH,
                                 SILLFEATHER_POSITION_VECTOR, SILLFEATHER_NUMBERS(&helmert));
+    sillfeather_add_helmert(chart, room, &chart_len, 0, SILLFEATHER_HELMERT_OWN_EPOCH, SILLFEATHER_POSITION_VECTOR, SILLFEATHER_NUMBERS(&helmert));
     sillfeather_add_helmert(all_kinds, room, &all_kinds_len, 0, SILLFEATHER_HELMERT_EXACT, SILLFEATHER_POSITION_VECTOR, SILLFEATHER_NUMBERS(&helmert));
     sillfeather_add_cart(all_kinds, room, &all_kinds_len, 1, SILLFEATHER_GRS80);
     sillfeather_add_molodensky(all_kinds, room, &all_kinds_len, 0, 0, SILLFEATHER_GRS80, 0, molodensky);
@@ -116,6 +117,20 @@ static uint32_t rescue(void) {
     return sillfeather_rescue(all_kinds, (size_t)all_kinds_len, room, sizeof room, changes, SILLFEATHER_CHANGES_MAX, &changed);
 }
 
+static uint32_t check_profile(void) { return sillfeather_check_profile(chart, (size_t)chart_len, SILLFEATHER_PROFILE_CHART); }
+
+/* through both of the chain's ways, over a short list and over a long one */
+static uint32_t closure(void) {
+    static uint64_t report[16];
+    uint32_t told = 0;
+    for (size_t rows = 16; rows <= ROWS; rows += ROWS - 16) {
+        told |= sillfeather_closure(report, 0, all_kinds, (size_t)all_kinds_len, list, 4 * rows, results, NUMBERS, velocities, 3 * rows, marks, rows);
+        for (int own = 0; own < 2; own++)
+            told |= sillfeather_closure(report, 0, helmerts[own], (size_t)helmerts_len[own], list, 4 * rows, results, NUMBERS, NULL, 0, NULL, 0);
+    }
+    return told;
+}
+
 static uint32_t (*call)(void);
 static uint32_t told;
 
@@ -151,6 +166,8 @@ int main(void) {
                  {"keep over columns", keep_columns, 6144},
                  {"correct over columns", correct_columns, 6144},
                  {"rescue", rescue, 6144},
+                 {"check with a profile", check_profile, 4096},
+                 {"closure", closure, 20480},
                  {"add", add, 32768}};
     int passed = 0, failed = 0;
     void *stack;

@@ -1,7 +1,7 @@
 //! The archive's entries as they are, over lent slices, with nothing allocated: a sheet is its bytes, a list is flat, four numbers a fix.
 //!
 //! [`Sheet`](crate::Sheet) and [`KeptRun`](crate::KeptRun) stand on these. Each answers `Ok`, or the refusal, and then what was lent holds what it held.
-use crate::{Direction, Refusal, ffi};
+use crate::{Direction, Profile, Refusal, ffi};
 
 /// Whether the bytes are a sheet: the first rule that they break, of 1 to 8 and 11.
 pub fn check(sheet: &[u8]) -> Result<(), Refusal> {
@@ -59,4 +59,25 @@ pub fn rescue(damaged: &[u8], room: &mut [u8], changes: &mut [u32]) -> Result<u6
     let (told, changed) = ffi::rescue(damaged, room, changes);
     Refusal::told(told)?;
     Ok(changed)
+}
+
+/// Whether the bytes are a sheet that a profile lets through: the first rule that they break, of 1 to 8, then 25, then 11.
+pub fn check_profile(sheet: &[u8], profile: Profile) -> Result<(), Refusal> {
+    Refusal::told(ffi::check_profile(sheet, profile.word()))
+}
+
+/// Runs a sheet forward and then inverse over a list in lent room, and adds the list to a report's sixteen numbers, which [`Report`](crate::Report) names. The
+/// room's start then holds the list as it came back.
+///
+/// Refused: as [`check_profile`]; 9 of the list, 10 of velocities and marks, which serve both ways; 15 where the room is shorter than the list.
+pub fn closure(
+    report: &mut [u64; 16],
+    profile: Profile,
+    sheet: &[u8],
+    list: &[f64],
+    room: &mut [f64],
+    velocities: &[f64],
+    marks: &[u8],
+) -> Result<(), Refusal> {
+    Refusal::told(ffi::closure(report, profile.word(), sheet, list, room, velocities, marks))
 }

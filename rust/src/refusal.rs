@@ -3,8 +3,8 @@ use core::fmt;
 
 /// Why nothing was done. Each refusal has its number, given exactly when its rule is broken; those of a step carry the step, counted from 1.
 ///
-/// Where several rules are broken the first of this order is given: 1, 2, 3, 4; then step by step 5 to 8; then 11, 12, 9, 13, 10, 14, 15. A rescue gives 19,
-/// then 15, before the sheet's own. What was lent holds what it held.
+/// Where several rules are broken the first of this order is given: 1, 2, 3, 4; then step by step 5 to 8; then 25 where a profile is
+/// asked for; then 11, 12, 9, 13, 10, 14, 15. A rescue gives 19, then 15, before the sheet's own. What was lent holds what it held.
 ///
 /// ```
 /// use sillfeather::{Helmert, Refusal, Sheet};
@@ -60,18 +60,23 @@ pub enum Refusal {
     KeptLength,
     /// 14: the corrected fix's index not below the count.
     Index,
-    /// 15: writing a sheet, room too short; of a rescue also the list.
+    /// 15: writing a sheet, room too short; of a rescue also the list; of a closure a room shorter than the list.
     Room,
     /// 16: the program's, a bad job.
     Job,
     /// 19: a damaged sheet that cannot be rebuilt.
     Rescue,
+    /// 25: a step outside the profile that was asked for.
+    Profile {
+        /// The first such step, from 1; 0 where nobody knows the profile.
+        step: u16,
+    },
     /// A code that this crate has no name for, as it was given.
     Other(u32),
 }
 
 impl Refusal {
-    /// The rule's number, 1 to 16 or 19.
+    /// The rule's number, 1 to 16, 19 or 25.
     pub fn number(self) -> u32 {
         self.code() % 65536
     }
@@ -105,6 +110,7 @@ impl Refusal {
             Refusal::Room => 15,
             Refusal::Job => 16,
             Refusal::Rescue => 19,
+            Refusal::Profile { step } => of_step(25, step),
             Refusal::Other(code) => code,
         }
     }
@@ -133,6 +139,7 @@ impl Refusal {
             Refusal::Room => "the room is too short for the sheet",
             Refusal::Job => "a bad job",
             Refusal::Rescue => "the damaged sheet cannot be rebuilt from its step count, kinds, inverted words and length",
+            Refusal::Profile { .. } => "outside the profile that was asked for",
             Refusal::Other(_) => "a refusal without a name",
         }
     }
@@ -160,6 +167,7 @@ impl From<u32> for Refusal {
             (15, 0) => Refusal::Room,
             (16, 0) => Refusal::Job,
             (19, 0) => Refusal::Rescue,
+            (25, _) => Refusal::Profile { step },
             _ => Refusal::Other(code),
         }
     }
@@ -197,7 +205,7 @@ mod tests {
 
     #[test]
     fn each_number_has_its_name() {
-        for number in (1..=16).chain([19]) {
+        for number in (1..=16).chain([19, 25]) {
             assert!(!matches!(Refusal::from(number), Refusal::Other(_)), "{number}");
         }
         assert_eq!(Refusal::from(6 + 65536 * 3), Refusal::Convention { step: 3 });

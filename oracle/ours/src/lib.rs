@@ -60,6 +60,21 @@ unsafe extern "C" {
         changes_len: usize,
         changed: *mut u64,
     ) -> u32;
+    fn sillfeather_check_profile(sheet: *const u8, sheet_len: usize, profile: u32) -> u32;
+    fn sillfeather_closure(
+        report: *mut u64,
+        profile: u32,
+        sheet: *const u8,
+        sheet_len: usize,
+        list: *const f64,
+        list_len: usize,
+        room: *mut f64,
+        room_len: usize,
+        velocities: *const f64,
+        velocities_len: usize,
+        marks: *const u8,
+        marks_len: usize,
+    ) -> u32;
 }
 
 pub fn sqrt(x: f64) -> f64 {
@@ -185,6 +200,39 @@ pub fn rescue(damaged: &[u8], room: &mut [u8], changes: &mut [u32]) -> ((u32, u3
         )
     };
     (apart(told), changed)
+}
+
+/// A sheet judged by a profile; the refusal's number and step.
+pub fn check_profile(sheet: &[u8], profile: u32) -> (u32, u32) {
+    apart(unsafe { sillfeather_check_profile(sheet.as_ptr(), sheet.len(), profile) })
+}
+
+/// A list added to a closure report; the refusal's number and step.
+pub fn closure(
+    report: &mut [u64; 16],
+    profile: u32,
+    sheet: &[u8],
+    list: &[f64],
+    room: &mut [f64],
+    velocities: &[f64],
+    marks: &[u8],
+) -> (u32, u32) {
+    apart(unsafe {
+        sillfeather_closure(
+            report.as_mut_ptr(),
+            profile,
+            sheet.as_ptr(),
+            sheet.len(),
+            list.as_ptr(),
+            list.len(),
+            room.as_mut_ptr(),
+            room.len(),
+            velocities.as_ptr(),
+            velocities.len(),
+            marks.as_ptr(),
+            marks.len(),
+        )
+    })
 }
 
 /// A result is the number plus 65536 times the step.

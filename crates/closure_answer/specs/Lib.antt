@@ -1,0 +1,2 @@
+-- What the contracts of `closure_answer` cite.
+pub mod Answer

@@ -1,0 +1,2 @@
+-- What the contracts of `closure_entries` cite.
+pub mod Told

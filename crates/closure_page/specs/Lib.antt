@@ -1,0 +1,2 @@
+-- What the contracts of `closure_page` cite.
+pub mod Page

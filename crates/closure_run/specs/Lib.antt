@@ -1,0 +1,2 @@
+-- What the contracts of `closure_run` cite.
+pub mod Closure

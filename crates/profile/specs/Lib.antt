@@ -1,0 +1,3 @@
+-- What the contracts of `profile` cite, and the profile in words.
+pub mod Profile
+pub mod Chart
