@@ -40,21 +40,33 @@ meetingOf met f k state v = record { state = f k state v .state; tuple = f k sta
 abbrev pub placeOut : Float → Float → Bool
 placeOut lam phi = outOfReach lam || outOfReach phi
 
--- ---- cart, permtide, Molodensky
+-- longitude and latitude, and in the abridged form twice the latitude
+abbrev pub offsetsOut : Bool → Float → Float → Bool
+offsetsOut abridged lam phi = placeOut lam phi || (abridged && outOfReach (two ⊗ phi))
+
+-- ---- cart, permtide, Molodensky: by the tuple alone
+
+abbrev pub placeMet : Tuple → Bool
+placeMet v = placeOut (v .x) (v .y)
+
+abbrev pub latitudeMet : Tuple → Bool
+latitudeMet v = outOfReach (v .y)
+
+abbrev pub offsetsMet : Bool → Tuple → Bool
+offsetsMet abridged v = offsetsOut abridged (v .x) (v .y)
 
 -- `cartesian` takes longitude and latitude; the inverse takes no sine
 abbrev pub cartMet : Bool → Met State
-cartMet inverse k state v = cond inverse false (placeOut (v .x) (v .y))
+cartMet inverse k state v = cond inverse false (placeMet v)
 
 -- the latitude; the geocentric latitude, the angle of a sine and a cosine, is out of reach only
 -- where the latitude is (proofs: `geocentric-adds-nothing`)
 abbrev pub permtideMet : Met State
-permtideMet k state v = outOfReach (v .y)
+permtideMet k state v = latitudeMet v
 
--- longitude and latitude, and in the abridged form twice the latitude; also where a divisor is zero
--- and the outcome none
+-- also where a divisor is zero and the outcome none
 abbrev pub molodenskyMet : Moped → Met State
-molodenskyMet op k state v = placeOut (v .x) (v .y) || (op .abridged && outOfReach (two ⊗ v .y))
+molodenskyMet op k state v = offsetsMet (op .abridged) v
 
 -- ---- deformation
 
@@ -87,5 +99,12 @@ usesMatrix shift v = shift .rotated && not (isOwnEpochOf shift && isNan (v .t))
 
 -- an exact matrix that is used, one of whose three angles is out of reach; a small-angle matrix takes
 -- no sine
-unfoldable pub helmertMet : Shift → Met State
-helmertMet shift k state v = shift .exact && usesMatrix shift v && rotationOut (rotationUsed shift state v)
+unfoldable pub matrixOut : Shift → State → Tuple → Bool
+matrixOut shift state v = shift .exact && usesMatrix shift v && rotationOut (rotationUsed shift state v)
+
+-- the same of a fix in own-epoch mode, by its time
+unfoldable pub ownOut : Shift → Float → Bool
+ownOut shift time = not (isNan time) && rotationOut (rotationAtOf (shift .parameters) (time ⊖ shift .epoch))
+
+abbrev pub helmertMet : Shift → Met State
+helmertMet shift k state v = matrixOut shift state v
