@@ -19,7 +19,7 @@ use Rattle.helmert.specs.declared.Shift.{Shift}
 use Rattle.helmert.specs.declared.State.{State}
 use Rattle.helmert.specs.Modes.{rotationAtOf, nextOf, isRunningOf, isOwnEpochOf}
 use Rattle.lists.specs.Run.{Turns}
-use Rattle.turns.specs.Turns.{markAt}
+use Rattle.turns.specs.Turns.{markAt, movedTurns}
 
 -- An angle is out of reach exactly where it is not finite or beyond ±1024: its magnitude is then not
 -- at most 1024.
@@ -79,6 +79,10 @@ movedMet op mark v =
 -- by the mark at the fix's index
 abbrev pub deformationMet : Motion → List ℕ → Met State
 deformationMet op marks k state v = movedMet op (markAt marks k) v
+
+-- its turns that count such fixes
+abbrev pub movedMetTurns : Motion → Bool → List Float → List ℕ → Turns State
+movedMetTurns op inverse velocities marks = meetingOf (deformationMet op marks) (movedTurns op inverse velocities marks)
 
 -- ---- Helmert
 
