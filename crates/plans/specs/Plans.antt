@@ -23,6 +23,7 @@ use Rattle.lists.specs.Run.{Turns}
 use Rattle.helmert.specs.Turns.{noState, allTurns, helmertTurns}
 use Rattle.turns.specs.Turns.{plainTurns, movedTurns}
 use Rattle.reach.specs.Met.{Met, meetingOf, cartMet, permtideMet, molodenskyMet, deformationMet, helmertMet}
+use Rattle.plans.specs.Passes.{Pass}
 use Rattle.plans.specs.declared.Plan.{Plan}
 use Rattle.plans.specs.declared.Plan.the-variants.{CartForward, CartInverse, PermtideEither, DeformationEither, MolodenskyEither, HelmertEither}
 
@@ -75,6 +76,10 @@ planMetOf marks (HelmertEither shift inverse) = helmertMet shift
 -- the plan's turns that count such tuples
 abbrev pub planReachOf : List Float → List ℕ → Plan → Turns State
 planReachOf velocities marks plan = meetingOf (planMetOf marks plan) (planTurnsOf velocities marks plan)
+
+-- both together
+abbrev pub planPassOf : List Float → List ℕ → Plan → Pass
+planPassOf velocities marks plan = record { turns = planTurnsOf velocities marks plan; met = planMetOf marks plan }
 
 -- the state that a plan starts each list in
 abbrev pub planStartOf : Plan → State

@@ -18,10 +18,7 @@ pub struct Tally {
 pub fn none() -> Tally
     ensures { λ r. ⌜ r ≡ noTally ⌝ }
 {
-    Tally {
-        count: 0,
-        met: 0,
-    }
+    Tally { count: 0, met: 0 }
 }
 
 // The counts of sixteen steps.
