@@ -96,8 +96,8 @@ pub extern "C" fn sillfeather_shift(
 {
     let answer = chain::shift(inverse != 0, s, list, velocities, marks);
     let refusal = answer.refusal;
-    let c = answer.counts;
-    *counts = codes::narrow(c);
+    let tallies = answer.tallies;
+    *counts = codes::narrow(tally::counts(tallies));
     codes::code(refusal)
 }
 

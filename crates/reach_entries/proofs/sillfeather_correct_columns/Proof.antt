@@ -1,9 +1,9 @@
 -- The answer's parts are handed over one by one. Assumes nothing.
 use mathlib.Core.Path.{ap, _∙_}
-use Rattle.columns_entries.specs.Codes.{correctToldOf}
+use Rattle.reach_entries.specs.Codes.{correctColumnsToldOf}
 use borrow.Author.Needs.{needs}
-use Rattle.columns_entries.proofs.columns_correct.Statement.{statement}
-use Rattle.columns_entries.proofs.columns_correct.Tie as tie
+use Rattle.reach_entries.proofs.sillfeather_correct_columns.Statement.{statement}
+use Rattle.reach_entries.proofs.sillfeather_correct_columns.Tie as tie
 
 tuple-of-requires : tie.Need-tuple-of-requires
 tuple-of-requires c κs = search needs
@@ -53,10 +53,10 @@ same-length-12 c = c .before .before .before .kt .given
 returns : tie.Need-returns
 returns c =
     let e = c .before .before .before .before .before .before .before .before .before .before .before .before .before .before .before .before .before .before .before .before .before .before .before .before .before .before .correct .ensures in
-    rw (c .code .ensures) (ap correctToldOf e ∙ rw (c .before .before .before .before .before .before .before .before .before .before .before .before .before .before .before .before .before .before .before .before .before .before .before .before .before .before .before .tuple-of .ensures))
+    rw (c .code .ensures) (ap correctColumnsToldOf e ∙ rw (c .before .before .before .before .before .before .before .before .before .before .before .before .before .before .before .before .before .before .before .before .before .before .before .before .before .before .before .tuple-of .ensures))
 
-pub columns-correct-spec : {M : Type 1} → statement M
-columns-correct-spec =
+pub sillfeather-correct-columns-spec : {M : Type 1} → statement M
+sillfeather-correct-columns-spec =
     tie.close
     (tie.spec
     tuple-of-requires

@@ -2,8 +2,8 @@
 use mathlib.Core.Path.{ap, _∙_}
 use Rattle.codes.specs.Codes.{codeOf}
 use borrow.Author.Needs.{needs}
-use Rattle.columns_entries.proofs.columns_keep.Statement.{statement}
-use Rattle.columns_entries.proofs.columns_keep.Tie as tie
+use Rattle.reach_entries.proofs.sillfeather_keep_columns.Statement.{statement}
+use Rattle.reach_entries.proofs.sillfeather_keep_columns.Tie as tie
 
 keep-requires : tie.Need-keep-requires
 keep-requires c κs = search needs
@@ -40,8 +40,8 @@ returns c =
     let e = c .before .before .before .before .before .before .before .before .before .before .before .before .before .before .before .before .before .keep .ensures in
     (c .code .ensures ∙ ap codeOf (e .0), e .1)
 
-pub columns-keep-spec : {M : Type 1} → statement M
-columns-keep-spec =
+pub sillfeather-keep-columns-spec : {M : Type 1} → statement M
+sillfeather-keep-columns-spec =
     tie.close
     (tie.spec
     keep-requires
