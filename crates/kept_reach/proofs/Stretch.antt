@@ -28,7 +28,7 @@ use Rattle.kept_reach.proofs.Along.{by-times-met}
 
 -- ---- the state before an index goes by the track before it
 
-tuple-in-front : (l : List Float) (n at : ℕ) → at + 4 ≤ n → n ≤ length l → tupleAt (take n l) at ≡ tupleAt l at
+pub tuple-in-front : (l : List Float) (n at : ℕ) → at + 4 ≤ n → n ≤ length l → tupleAt (take n l) at ≡ tupleAt l at
 unfolding tupleAt
 tuple-in-front l n at h k =
     let long : length (take n l) ≡ n = length-take-le n l k in
