@@ -252,11 +252,11 @@ fn deformation_row(
     let k = first + i;
     let mark = turns::mark_at(marks, k);
     let v = columns::read_row(x, y, z, t, i);
-    let r = deformation::common(op, inverse, turns::velocity_at(velocities, k), mark, v);
+    let r = reach::moved(op, inverse, turns::velocity_at(velocities, k), mark, v);
     columns::write_row(x, y, z, t, i, r.tuple);
     Moved {
         count: one_if(r.counted),
-        met: one_if(reach::moved_met(op, mark, v)),
+        met: one_if(r.met),
     }
 }
 

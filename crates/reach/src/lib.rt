@@ -10,7 +10,9 @@
 ghost use mathlib.Core.Path.{_≡_};
 ghost use Rattle.reach.specs.Met.{outOfReach, placeOut, offsetsOut, movedMet, rotationOut, ownOut, matrixOut};
 ghost use Rattle.helmert.specs.Modes.{rotationAtOf};
+ghost use Rattle.deformation.specs.Step.{commonOf};
 use deformation::Motion;
+use deformation::Velocity;
 use helmert::Shift;
 use helmert::State;
 use rotation::Vec3;
@@ -46,6 +48,39 @@ pub fn moved_met(op: Motion, mark: u8, v: Tuple) -> bool
         return place_out(place.lam, place.phi);
     }
     false
+}
+
+// What deformation makes of a fix, as its own `common`, and whether the fix met it.
+pub struct Moving {
+    pub tuple: Tuple,
+    pub counted: bool,
+    pub met: bool,
+}
+
+// The same with the step: the place is worked out once for both.
+pub fn moved(op: Motion, inverse: bool, v: Velocity, mark: u8, cart: Tuple) -> Moving
+    ensures { λ r. ⌜ (r .tuple ≡ commonOf op inverse v mark cart .tuple) × (r .counted ≡ commonOf op inverse v mark cart .counted) × (r .met ≡ movedMet op mark cart) ⌝ }
+{
+    if mark == 1 {
+        let place = geocart::place(op.ellps, cart);
+        // the height is not read
+        let geo = Tuple {
+            x: place.lam,
+            y: place.phi,
+            z: 0.0,
+            t: cart.t,
+        };
+        return Moving {
+            tuple: deformation::deformed(op, inverse, v, geo, cart),
+            counted: true,
+            met: place_out(place.lam, place.phi),
+        };
+    }
+    Moving {
+        tuple: Tuple::nan(),
+        counted: false,
+        met: false,
+    }
 }
 
 // Whether one of three angles is.

@@ -4,7 +4,7 @@
 use Prim.Native.Nat.{ℕ, suc, _+_, _*_, _/_, _≤_, _<_}
 use native.Mathlib.Omega.{arith}
 use native.Mathlib.Nat.{add-assoc, add-zero, zero-add}
-use mathlib.Core.Path.{_≡_, refl, sym, ap, _∙_}
+use mathlib.Core.Path.{_≡_, refl, sym, ap, _∙_, subst}
 use mathlib.Core.Bool.{Bool, true, false, cond}
 use mathlib.Core.List.{List, [], _∷_}
 use lib.ListN.{length, drop, drop-of-length-le}
@@ -40,6 +40,13 @@ along-again {S} {f} {from} {state} {l} i {n} {c} {v} h ec ev now =
       total = rw (next, one, ev, ec, add-assoc n) (rw (from-place l (4 * i) h) at (now .total));
       few = rw ev (omega (arith, at-most-one c, now .few));
     }
+
+-- the same at an index, a state and a count that are equal
+pub along-as : {S : Type 0} {f : Turns S} {from s u : S} {l : List Float} {i j m n : ℕ} → i ≡ j → s ≡ u → m ≡ n → Along f from l i s m → Along f from l j u n
+along-as {S} {f} {from} {s} {u} {l} {i} {j} {m} {n} ei es em now =
+    subst (λ (k : ℕ). Along f from l j u k) em
+    (subst (λ (q : S). Along f from l j q m) es
+    (subst (λ (k : ℕ). Along f from l k s m) ei now))
 
 pub along-end : {S : Type 0} {f : Turns S} {from state : S} {l : List Float} (i : ℕ) {n : ℕ} → length l ≤ 4 * i → Along f from l i state n → n ≡ countOf f 0 from l
 along-end {l = l} i {n} h now = rw (drop-of-length-le l {i = 4 * i} h, add-zero n) at (now .total)

@@ -9,6 +9,10 @@
 // over columns.
 ghost use mathlib.Core.Path.{_≡_};
 ghost use mathlib.Core.Bool.{true, false};
+ghost use Prim.Native.Nat.{ℕ, _<_};
+ghost use lib.ListN.{length};
+ghost use lib.Ieee.{ne};
+ghost use Rattle.blocks.specs.Each.{at};
 ghost use Rattle.lists.specs.Run.{countOf};
 ghost use Rattle.helmert.specs.Modes.{isRunningOf, isOwnEpochOf};
 ghost use Rattle.helmert.specs.Turns.{numberOf, helmertTurns};
@@ -92,8 +96,9 @@ pub fn offsets(x: &[f64], y: &[f64], z: &[f64], t: &[f64], abridged: bool) -> us
 // ----- Helmert ----------------------------------------------------------------------------------
 
 // Running mode: R is the sheet's at the last time, and what it says holds until the time changes. T
-// is carried along for the definition's sake; nothing reads it, and the compiler leaves it out.
-fn running_rows(
+// is carried along for the definition's sake; nothing reads it, and the compiler leaves it out. Any
+// times, one after another.
+fn running_any(
     x: &[f64],
     y: &[f64],
     z: &[f64],
@@ -119,6 +124,88 @@ fn running_rows(
         i += 1;
     }
     n
+}
+
+// How many times are equal to the one before, and, where none is, how many rows met it.
+pub struct Apart {
+    pub equal: usize,
+    pub met: usize,
+}
+
+// Where every time differs from the one before, each row goes by its own time: no row waits for
+// another, and the loop becomes vector instructions.
+fn running_apart(
+    x: &[f64],
+    y: &[f64],
+    z: &[f64],
+    t: &[f64],
+    inverse: bool,
+    shift: Shift,
+    from: State,
+) -> Apart
+    requires { ⌜ Level (now x) (now y) (now z) (now t) × (isRunningOf shift ≡ true) × (shift .rotated ≡ true) × (shift .exact ≡ true) ⌝ }
+    ensures { λ r. ⌜ ((r .equal ≡ 0) → (r .met ≡ countOf (meetingOf (helmertMet shift) (helmertTurns inverse shift)) 0 from (flatOf (now (x .entry)) (now (y .entry)) (now (z .entry)) (now (t .entry))))) ⌝ }
+{
+    let mut state = from;
+    let mut before = state.last;
+    let mut equal = 0;
+    let mut n = 0;
+    let mut i = 0;
+    while i < t.len() {
+        let time = t[i];
+        equal += one_if(!(time != before));
+        n += one_if(reach::rotation_at_out(shift, time - shift.epoch));
+        state = helmert::next(shift, state, time);
+        before = time;
+        i += 1;
+    }
+    Apart {
+        equal: equal,
+        met: n,
+    }
+}
+
+// Whether every time is equal to one.
+fn one_time(t: &[f64], last: f64) -> bool
+    ensures { λ r. ⌜ ((r ≡ true) → (j : ℕ) → (j < length (now (t .entry))) → (ne (at (now (t .entry)) j) last ≡ false)) ⌝ }
+{
+    let mut all = true;
+    let mut i = 0;
+    while i < t.len() {
+        all = all & !(t[i] != last);
+        i += 1;
+    }
+    all
+}
+
+// All rows at one time, or each at another than the one before, or any: the first two are quick.
+fn running_rows(
+    x: &[f64],
+    y: &[f64],
+    z: &[f64],
+    t: &[f64],
+    inverse: bool,
+    shift: Shift,
+    from: State,
+) -> usize
+    requires { ⌜ Level (now x) (now y) (now z) (now t) × (isRunningOf shift ≡ true) × (shift .rotated ≡ true) × (shift .exact ≡ true) ⌝ }
+    ensures { λ r. ⌜ r ≡ countOf (meetingOf (helmertMet shift) (helmertTurns inverse shift)) 0 from (flatOf (now (x .entry)) (now (y .entry)) (now (z .entry)) (now (t .entry))) ⌝ }
+{
+    if t.len() == 0 {
+        return 0;
+    }
+    let first = helmert::next(shift, from, t[0]);
+    if one_time(t, first.last) {
+        if reach::rotation_at_out(shift, first.last - shift.epoch) {
+            return t.len();
+        }
+        return 0;
+    }
+    let quick = running_apart(x, y, z, t, inverse, shift, from);
+    if quick.equal == 0 {
+        return quick.met;
+    }
+    running_any(x, y, z, t, inverse, shift, from)
 }
 
 // Own-epoch mode: R is the sheet's at each fix's own time.
@@ -163,7 +250,7 @@ fn fixed_rows(
     0
 }
 
-// By the mode. Only an exact shift that is rotated takes a sine that is used.
+// By the mode, of an exact shift that is rotated.
 fn helmert_rows(
     x: &[f64],
     y: &[f64],
@@ -173,24 +260,20 @@ fn helmert_rows(
     shift: Shift,
     from: State,
 ) -> usize
-    requires { ⌜ Level (now x) (now y) (now z) (now t) ⌝ }
+    requires { ⌜ Level (now x) (now y) (now z) (now t) × (shift .rotated ≡ true) × (shift .exact ≡ true) ⌝ }
     ensures { λ r. ⌜ r ≡ countOf (meetingOf (helmertMet shift) (helmertTurns inverse shift)) 0 from (flatOf (now (x .entry)) (now (y .entry)) (now (z .entry)) (now (t .entry))) ⌝ }
 {
-    if shift.exact {
-        if shift.rotated {
-            if helmert::is_running(shift) {
-                return running_rows(x, y, z, t, inverse, shift, from);
-            }
-            if helmert::is_own_epoch(shift) {
-                return own_epoch_rows(x, y, z, t, inverse, shift, from);
-            }
-            return fixed_rows(x, y, z, t, inverse, shift, from);
-        }
+    if helmert::is_running(shift) {
+        return running_rows(x, y, z, t, inverse, shift, from);
     }
-    0
+    if helmert::is_own_epoch(shift) {
+        return own_epoch_rows(x, y, z, t, inverse, shift, from);
+    }
+    fixed_rows(x, y, z, t, inverse, shift, from)
 }
 
-// Helmert, from the state that the columns' first fix is met in.
+// Helmert, from the state that the columns' first fix is met in. Only an exact shift that is rotated
+// takes a sine that is used.
 pub fn helmert(
     x: &[f64],
     y: &[f64],
@@ -202,8 +285,10 @@ pub fn helmert(
 ) -> usize
     ensures { λ r. ⌜ r ≡ countOf (meetingOf (helmertMet shift) (helmertTurns inverse shift)) 0 from (flatOf (now (x .entry)) (now (y .entry)) (now (z .entry)) (now (t .entry))) ⌝ }
 {
-    if columns::level(x, y, z, t) {
-        return helmert_rows(x, y, z, t, inverse, shift, from);
+    if shift.exact & shift.rotated {
+        if columns::level(x, y, z, t) {
+            return helmert_rows(x, y, z, t, inverse, shift, from);
+        }
     }
     0
 }
