@@ -2,3 +2,4 @@
 pub mod Laws
 pub mod Modes
 pub mod Examples
+pub mod Geocentric
