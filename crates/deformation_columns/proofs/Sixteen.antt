@@ -1,7 +1,7 @@
 -- Sixteen rows moved by the velocities and marks at their indices are what the turns make of them:
 -- the block form's blocks hold what the step gives for each row (`moved-there`), so the flat list
--- is turned and the count taken (`moved-passed`); the same of those that meet an angle out of reach,
--- by the longitudes and latitudes at hand (`met-there`). Assumes nothing.
+-- is turned and the count taken (`moved-passed`); the same of those that meet an angle out of
+-- reach, by the longitudes and latitudes at hand (`met-there`). Assumes nothing.
 use Prim.Native.Nat.{ℕ, _+_, _*_, _/_, _≤_, _<_}
 use native.Mathlib.Omega.{arith}
 use mathlib.Core.Path.{_≡_, refl, ap, _∙_}

@@ -7,9 +7,9 @@
 // before sixteen velocities are read, so that these may come by place from elsewhere, and no block
 // is laid out before it is needed. What depends on the record alone is worked out by the caller,
 // once a list. Beside the count stands how many fixes met an angle out of reach of sine and cosine
-// (document 02, A5); it is counted here, where the longitudes and latitudes stand. Proved equal, list
-// and both numbers, to the step's own definition from tuple to tuple, over the flat list that the
-// columns stand for. Exact: no rounding but the step's own. Used by whatever runs a step over
+// (document 02, A5); it is counted here, where the longitudes and latitudes stand. Proved equal,
+// list and both numbers, to the step's own definition from tuple to tuple, over the flat list that
+// the columns stand for. Exact: no rounding but the step's own. Used by whatever runs a step over
 // columns.
 ghost use mathlib.Core.Path.{_≡_};
 ghost use mathlib.Core.Bool.{cond, _&&_};

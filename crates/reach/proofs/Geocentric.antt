@@ -1,6 +1,6 @@
 -- The geocentric latitude adds nothing to "met": of the five ellipsoids it is out of reach exactly
--- where the latitude is. Its angle is atan2 of a finite factor times the sine, and of the cosine; in
--- reach these are numbers, so it lies within ±π, and out of reach they are NaN. Assumes nothing.
+-- where the latitude is. Its angle is atan2 of a finite factor times the sine, and of the cosine;
+-- in reach these are numbers, so it lies within ±π, and out of reach they are NaN. Assumes nothing.
 use mathlib.Core.Path.{_≡_, refl, sym, ap, _∙_}
 use Prim.Native.Nat.{ℕ, zero, suc, _*_, _-_, _/_, _%_, _^_, compare}
 use native.Mathlib.Nat.{zero-lt-suc}

@@ -21,8 +21,8 @@ use Rattle.helmert.specs.Modes.{rotationAtOf, nextOf, isRunningOf, isOwnEpochOf
 use Rattle.lists.specs.Run.{Turns}
 use Rattle.turns.specs.Turns.{markAt, movedTurns}
 
--- An angle is out of reach exactly where it is not finite or beyond ±1024: its magnitude is then not
--- at most 1024.
+-- An angle is out of reach exactly where it is not finite or beyond ±1024: its magnitude is then
+-- not at most 1024.
 unfoldable pub outOfReach : Float → Bool
 outOfReach x = not (le (absOf x) reach)
 
@@ -101,8 +101,8 @@ rotationUsed shift state v =
 abbrev pub usesMatrix : Shift → Tuple → Bool
 usesMatrix shift v = shift .rotated && not (isOwnEpochOf shift && isNan (v .t))
 
--- an exact matrix that is used, one of whose three angles is out of reach; a small-angle matrix takes
--- no sine
+-- an exact matrix that is used, one of whose three angles is out of reach; a small-angle matrix
+-- takes no sine
 unfoldable pub matrixOut : Shift → State → Tuple → Bool
 matrixOut shift state v = shift .exact && usesMatrix shift v && rotationOut (rotationUsed shift state v)
 

@@ -1,12 +1,12 @@
 // Which tuples meet an angle out of reach of sine and cosine.
 //
-// Document 02, A5. An angle is out of reach exactly where it is not finite or beyond ±1024, and that
-// is where the kernel answers so. specs/Met.antt says for each step by which angles a tuple meets
-// it, and each tuple counts once; the number is `countOf` of the step's own turns with "met" in place
-// of "counted". proofs/Laws.antt: the turns so told make the same list and the same states;
-// proofs/Modes.antt: the angles named for Helmert are those whose matrix the step uses. Exact: it
-// compares, and takes no sine. Used by the passes over columns, by deformation's loops, by the thin
-// entry and by the kept run.
+// Document 02, A5. An angle is out of reach exactly where it is not finite or beyond ±1024, and
+// that is where the kernel answers so. specs/Met.antt says for each step by which angles a tuple
+// meets it, and each tuple counts once; the number is `countOf` of the step's own turns with "met"
+// in place of "counted". proofs/Laws.antt: the turns so told make the same list and the same
+// states; proofs/Modes.antt: the angles named for Helmert are those whose matrix the step uses.
+// Exact: it compares, and takes no sine. Used by the passes over columns, by deformation's loops,
+// by the thin entry and by the kept run.
 ghost use mathlib.Core.Path.{_≡_};
 ghost use Rattle.reach.specs.Met.{outOfReach, placeOut, offsetsOut, movedMet, rotationOut, ownOut, matrixOut};
 ghost use Rattle.helmert.specs.Modes.{rotationAtOf};

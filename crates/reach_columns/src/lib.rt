@@ -4,9 +4,9 @@
 // Document 02, A5. A pass compares and takes no sine, so the steps' own loops stay as they are.
 // Proved equal, over the flat list that the columns stand for, to the number by the step's own
 // angles (reach, specs/Met.antt). Columns of unequal length stand for no tuple. Exact: nothing is
-// rounded but Helmert's angles at a time, as the step itself does, and twice the latitude. Deformation
-// finds its angles from the coordinates and counts in its own loops. Used by whatever runs a step
-// over columns.
+// rounded but Helmert's angles at a time, as the step itself does, and twice the latitude.
+// Deformation finds its angles from the coordinates and counts in its own loops. Used by whatever
+// runs a step over columns.
 ghost use mathlib.Core.Path.{_≡_};
 ghost use mathlib.Core.Bool.{true, false};
 ghost use Prim.Native.Nat.{ℕ, _<_};
@@ -272,8 +272,8 @@ fn helmert_rows(
     fixed_rows(x, y, z, t, inverse, shift, from)
 }
 
-// Helmert, from the state that the columns' first fix is met in. Only an exact shift that is rotated
-// takes a sine that is used.
+// Helmert, from the state that the columns' first fix is met in. Only an exact shift that is
+// rotated takes a sine that is used.
 pub fn helmert(
     x: &[f64],
     y: &[f64],

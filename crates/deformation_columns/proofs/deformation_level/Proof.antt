@@ -1,10 +1,10 @@
 -- Invariant of the first loop, sixteen rows a turn: the rows before i have passed, n of them count
--- and met of them met an angle out of reach (`Passed`, of either's turns); row i is fix first + i (`laterTurns`). Invariant of the second, one row a turn:
--- where the rows before its start had passed, so have the rows before i. Each turn's own rows join
--- by `passed-on`. When no row is left, the list is the run of the whole and n its count
--- (`passed-list`, `passed-count`), from fix `first` on (`later-ran`, `later-counted`). n and met are
--- at most i and i at most the length, so none overflows; each measure is how many rows are left.
--- Assumes nothing.
+-- and met of them met an angle out of reach (`Passed`, of either's turns); row i is fix first + i
+-- (`laterTurns`). Invariant of the second, one row a turn: where the rows before its start had
+-- passed, so have the rows before i. Each turn's own rows join by `passed-on`. When no row is left,
+-- the list is the run of the whole and n its count (`passed-list`, `passed-count`), from fix
+-- `first` on (`later-ran`, `later-counted`). n and met are at most i and i at most the length, so
+-- none overflows; each measure is how many rows are left. Assumes nothing.
 use borrow.Author.Needs.{needs}
 use Prim.Native.Nat.{ℕ, _+_, _*_, _-_, _≤_, _<_, _^_}
 use native.Mathlib.Omega.{arith}

@@ -1,6 +1,6 @@
 -- The row read is the flat list's tuple, moved by the velocity and the mark at its index; a tuple
--- put where it was read is one row passed (`passed-row`), of the step's turns and of those that count
--- who met an angle out of reach. Assumes nothing.
+-- put where it was read is one row passed (`passed-row`), of the step's turns and of those that
+-- count who met an angle out of reach. Assumes nothing.
 use borrow.Author.Needs.{needs}
 use Rattle.columns.proofs.Laws.{room}
 use Rattle.columns.proofs.Passed.{passed-row}

@@ -1,4 +1,5 @@
--- One case each: a fix that is present is asked by its place, an absent one is not. Assumes nothing.
+-- One case each: a fix that is present is asked by its place, an absent one is not. Assumes
+-- nothing.
 use borrow.Author.Needs.{needs}
 use borrow.Author.Tests.{eq-eqb, ne-eqb}
 use Rattle.reach.proofs.moved_met.Statement.{statement}

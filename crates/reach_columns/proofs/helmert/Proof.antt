@@ -1,5 +1,5 @@
--- Where the shift is not exact or not rotated no row meets it (`unused-met`). Columns of one length go
--- through `helmert_rows`; others stand for no tuple (`flat-uneven`). Assumes nothing.
+-- Where the shift is not exact or not rotated no row meets it (`unused-met`). Columns of one length
+-- go through `helmert_rows`; others stand for no tuple (`flat-uneven`). Assumes nothing.
 use borrow.Author.Needs.{needs}
 use mathlib.Core.Path.{sym, _∙_}
 use Rattle.helmert.specs.Turns.{helmertTurns}

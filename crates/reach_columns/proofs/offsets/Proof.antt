@@ -1,5 +1,5 @@
--- Columns of one length go through `offset_rows`; others stand for no tuple (`flat-uneven`). Assumes
--- nothing.
+-- Columns of one length go through `offset_rows`; others stand for no tuple (`flat-uneven`).
+-- Assumes nothing.
 use borrow.Author.Needs.{needs}
 use mathlib.Core.Path.{sym, _∙_}
 use Rattle.columns.proofs.Laws.{level-told, flat-uneven}

@@ -1,7 +1,7 @@
 -- Invariant: n of the rows before i meet it, and the run reaches row i in the state that is carried
 -- (`Along`); met is what R at the last time says; i is at most the length. A turn keeps met at an
--- equal time (`seen-again`) and asks anew otherwise (`seen-anew`), which is what the definition says
--- of the row (`running-met`). Assumes nothing.
+-- equal time (`seen-again`) and asks anew otherwise (`seen-anew`), which is what the definition
+-- says of the row (`running-met`). Assumes nothing.
 use borrow.Author.Needs.{needs}
 use Prim.Native.Nat.{_*_, _-_, _≤_, _<_}
 use native.Mathlib.Omega.{arith}
