@@ -14,7 +14,7 @@ use lib.Ieee.Positive.{positive, le-trans-positive}
 use Rattle.floats.specs.Binary64.{_⊖_, _⊗_, bits}
 use Rattle.floats.specs.Number.{signOf, absOf}
 use Rattle.floats.proofs.Laws.{neg-neg, abs-of-neg, abs-is-not-negative}
-use Rattle.trig.specs.Trig.{reach, sinOf, cosOf}
+use Rattle.trig.specs.Trig.{reach, sinOf, cosOf, outOfReach}
 use Rattle.trig.specs.WithinOne.{WithinOne}
 use Rattle.trig.proofs.Laws.{sine-within-one, sine-out-of-reach, sine-is-nan-exactly-out-of-reach, cosine-is-nan-exactly-out-of-reach}
 use Rattle.arctan.specs.Arctan.{atan2Of}
@@ -24,7 +24,6 @@ use Rattle.arctan.proofs.Parts.{nan-of-abs, zero-is-below}
 use Rattle.arctan.proofs.Laws.{odd-in-y, from-zero-to-half-pi-if-x-is-not-negative, from-half-pi-to-pi-if-x-is-negative, nan-exactly-if-a-part-is}
 use Rattle.ellipsoid.specs.declared.Ellipsoid.{Ellipsoid}
 use Rattle.ellipsoid.specs.Figure.{one, namedOf, ellipsoidOf, geocentricOf}
-use Rattle.reach.specs.Met.{outOfReach}
 
 -- the factor 1 - es of each of the five is finite
 pub finite-factors :
