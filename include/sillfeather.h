@@ -354,6 +354,10 @@ double sillfeather_cos(double x);
 /* Both at once: writes the same numbers as the two functions above to *s and *c. */
 void sillfeather_sin_cos(double x, double *s, double *c);
 
+/* The same with a name for an angle out of reach, which is one not finite or beyond 1024 either way:
+ * 0 and the pair, or 1 and nothing written. */
+uint32_t sillfeather_sin_cos_reach(double x, double *s, double *c);
+
 /* The angle of (x, y), with IEEE 754's answers for zeros, infinities and quadrants. */
 double sillfeather_atan2(double y, double x);
 

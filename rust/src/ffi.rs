@@ -14,6 +14,7 @@ unsafe extern "C" {
     pub safe fn sillfeather_hypot(x: f64, y: f64) -> f64;
 
     fn sillfeather_sin_cos(x: f64, s: *mut f64, c: *mut f64);
+    fn sillfeather_sin_cos_reach(x: f64, s: *mut f64, c: *mut f64) -> u32;
     fn sillfeather_check(sheet: *const u8, sheet_len: usize) -> u32;
     fn sillfeather_shift(
         inverse: u32,
@@ -168,6 +169,15 @@ pub fn sin_cos(x: f64) -> (f64, f64) {
     // SAFETY: two numbers of our own, each written once.
     unsafe { sillfeather_sin_cos(x, &mut s, &mut c) };
     (s, c)
+}
+
+pub fn sin_cos_reach(x: f64) -> Option<(f64, f64)> {
+    let (mut s, mut c) = (0.0, 0.0);
+    // SAFETY: two numbers of our own, each written once or not at all.
+    match unsafe { sillfeather_sin_cos_reach(x, &mut s, &mut c) } {
+        0 => Some((s, c)),
+        _ => None,
+    }
 }
 
 pub fn check(sheet: &[u8]) -> u32 {

@@ -7,6 +7,7 @@ double sillfeather_cos(double);
 double sillfeather_atan2(double, double);
 double sillfeather_hypot(double, double);
 void sillfeather_sin_cos(double, double *, double *);
+uint32_t sillfeather_sin_cos_reach(double, double *, double *);
 uint32_t sillfeather_check(const uint8_t *, size_t);
 uint32_t sillfeather_shift(uint32_t, const uint8_t *, size_t, double *, size_t, const double *, size_t, const uint8_t *, size_t, uint32_t[16]);
 uint32_t sillfeather_shift_reach(uint32_t, const uint8_t *, size_t, double *, size_t, const double *, size_t, const uint8_t *, size_t, uint32_t[16], uint32_t[16]);

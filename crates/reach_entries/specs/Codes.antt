@@ -2,6 +2,8 @@
 use Prim.Native.Nat.{ℕ}
 use mathlib.Core.List.{List}
 use lib.Ieee.{Float}
+use Rattle.trig.specs.declared.Angle.{Angle}
+use Rattle.trig.specs.declared.Angle.the-variants.{Pair, OutOfReach}
 use Rattle.codes.specs.Codes.{codeOf}
 use Rattle.tally.specs.Tallies.{countsOf, metsOf}
 use Rattle.columns.specs.Columns.{Columns}
@@ -11,6 +13,19 @@ use Rattle.stretch.specs.Kept.{Kept}
 use Rattle.stretch.specs.KeptColumns.{KeptColumns}
 use Rattle.kept.specs.Entries.{CorrectOutcome}
 use Rattle.kept_columns.specs.Columns.{CorrectColumnsOutcome}
+
+-- sine and cosine: 0 and the pair; or 1, out of reach, and the two numbers as they were
+pub record SineTold : Type 0 where
+  pub code : ℕ
+  pub sine : Float
+  pub cosine : Float
+
+abbrev pub sineTold : ℕ → Float → Float → SineTold
+sineTold code sine cosine = record { code = code; sine = sine; cosine = cosine }
+
+abbrev pub sineToldOf : Angle → Float → Float → SineTold
+sineToldOf (Pair p) sine cosine = sineTold 0 (p .s) (p .c)
+sineToldOf OutOfReach sine cosine = sineTold 1 sine cosine
 
 -- a shift: the code, each step's count, how many tuples met an angle out of reach in it, the list
 pub record ShiftTold : Type 0 where

@@ -18,7 +18,29 @@ ghost use Rattle.kept.specs.Entries.{keepRefusalOf, keepOf, correctOf};
 ghost use Rattle.kept_columns.specs.Columns.{keepColumnsRefusalOf, keepColumnsOf, correctColumnsOf};
 ghost use Rattle.kept_reach.specs.Reach.{keepTallyOf, stretchMetOf};
 ghost use Rattle.codes.specs.Codes.{codeOf, isInverse};
-ghost use Rattle.reach_entries.specs.Codes.{shiftTold, shiftToldOf, columnsTold, columnsToldOf, correctTold, correctToldOf, correctColumnsTold, correctColumnsToldOf};
+ghost use Rattle.trig.specs.Trig.{angleOf};
+ghost use Rattle.reach_entries.specs.Codes.{sineTold, sineToldOf, shiftTold, shiftToldOf, columnsTold, columnsToldOf, correctTold, correctToldOf, correctColumnsTold, correctColumnsToldOf};
+
+use trig::Angle;
+
+// ----- sine and cosine -------------------------------------------------------------------------
+
+// The pair of numbers and 0, or 1 for an angle out of reach, and nothing is written.
+#[no_mangle]
+pub extern "C" fn sillfeather_sin_cos_reach(x: f64, s: &mut f64, c: &mut f64) -> u32
+    ensures { λ r. ⌜ sineTold r (now (s .exit)) (now (c .exit)) ≡ sineToldOf (angleOf x) (now (s .entry)) (now (c .entry)) ⌝ }
+{
+    match trig::sin_cos(x) {
+        Angle::Pair(p) => {
+            *s = p.s;
+            *c = p.c;
+            return 0;
+        }
+        Angle::OutOfReach => {
+            return 1;
+        }
+    }
+}
 
 // ----- a sheet over a list ---------------------------------------------------------------------
 
