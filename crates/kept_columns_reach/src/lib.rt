@@ -60,14 +60,7 @@ fn pass_rows(
 }
 
 // The state before an index: in running mode what the track holds there.
-fn before_rows(
-    shift: Shift,
-    kx: &[f64],
-    ky: &[f64],
-    kz: &[f64],
-    kt: &[f64],
-    index: usize,
-) -> State
+fn before_rows(shift: Shift, kx: &[f64], ky: &[f64], kz: &[f64], kt: &[f64], index: usize) -> State
     ensures { λ r. ⌜ r ≡ beforeOf shift (flatOf (now (kx .entry)) (now (ky .entry)) (now (kz .entry)) (now (kt .entry))) index ⌝ }
 {
     if index == 0 {

@@ -20,7 +20,6 @@ ghost use Rattle.kept_reach.specs.Reach.{keepTallyOf, stretchMetOf};
 ghost use Rattle.codes.specs.Codes.{codeOf, isInverse};
 ghost use Rattle.trig.specs.Trig.{angleOf};
 ghost use Rattle.reach_entries.specs.Codes.{sineTold, sineToldOf, shiftTold, shiftToldOf, columnsTold, columnsToldOf, correctTold, correctToldOf, correctColumnsTold, correctColumnsToldOf};
-
 use trig::Angle;
 
 // ----- sine and cosine -------------------------------------------------------------------------
