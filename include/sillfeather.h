@@ -17,13 +17,14 @@
  *
  * A RESULT of type uint32_t is 0 where the call is done. Otherwise the call is refused: the result
  * is the refusal's number plus 65536 times the step, which is counted from 1 and is 0 where no step
- * is to blame. A refused call leaves all the memory lent to it as it was, but that `counts` gets
- * zeros, and `*redone` and `*changed` 0. A refusal is given exactly when its rule is broken and no
+ * is to blame. A refused call leaves all the memory lent to it as it was, but that `counts` and
+ * `out_of_reach` get zeros, and `*redone`, `*counted` and `*changed` 0. A refusal is given exactly when its rule is broken and no
  * rule before it in the function's order is.
  *
  * WHAT IS PROVED. For each function, and for every input, that the result and the memory afterwards
- * are what its definition says (crates/sillfeather/src/lib.rt and crates/closure_entries/src/lib.rt
- * have the contracts, docs/CONFORMANCE.md the way from document 01 to them); that it ends; and that it touches nothing but what it is lent.
+ * are what its definition says (crates/sillfeather, crates/reach_entries and crates/closure_entries
+ * have the contracts in src/lib.rt, docs/CONFORMANCE.md the way from the documents to them); that it
+ * ends; and that it touches nothing but what it is lent.
  * What is said below of what a call reads, writes, refuses and leaves alone follows from that. The
  * compiler and the machine's binary64 arithmetic are assumed.
  *
@@ -40,8 +41,10 @@
  *             multiplication and each addition apart; whoever compiles it again must not let the
  *             compiler contract the two into one operation.
  *   Stack     sillfeather_check needs up to 4 kB of stack, sillfeather_shift up to 20 kB,
- *             sillfeather_keep up to 12 kB, sillfeather_correct up to 10 kB, sillfeather_rescue up
- *             to 6 kB, sillfeather_check_profile up to 4 kB, sillfeather_closure up to 20 kB, each
+ *             sillfeather_keep up to 12 kB, sillfeather_correct up to 10 kB, and so does each of
+ *             these by the name that ends in _reach; over columns sillfeather_shift_columns up to
+ *             10 kB, the other two up to 6 kB; sillfeather_rescue up to 6 kB,
+ *             sillfeather_check_profile up to 4 kB, sillfeather_closure up to 20 kB, each
  *             sillfeather_add_ function up to 32 kB. examples/c/stack.c holds these limits.
  */
 #ifndef SILLFEATHER_H
@@ -116,6 +119,25 @@ uint32_t sillfeather_check(const uint8_t *sheet, size_t sheet_len);
 uint32_t sillfeather_shift(uint32_t inverse, const uint8_t *sheet, size_t sheet_len, double *list, size_t list_len, const double *velocities,
                            size_t velocities_len, const uint8_t *marks, size_t marks_len, uint32_t counts[16]);
 
+/* The same, telling of each step too how many tuples met an angle out of reach: an angle that the
+ * step takes the sine or the cosine of, and that is not finite or beyond ±1024. Each tuple is told
+ * once, however many of its angles are. Such a tuple's results are NaN where they rest on that angle.
+ *   cart forward, and Molodensky both ways: longitude or latitude; abridged also twice the latitude.
+ *   permtide: latitude. deformation: longitude or latitude of the place of a fix that is present.
+ *   Helmert with exact angles, where it is rotated: the angles of the matrix that the fix uses, in
+ *   running mode at the last time, in own-epoch mode at its own; a fix without a time uses none.
+ *   Writes    as sillfeather_shift; and all 16 of out_of_reach, in the sheet's order.
+ *   Leaves    on refusal the list as it was, and zeros in counts and out_of_reach. */
+uint32_t sillfeather_shift_reach(uint32_t inverse, const uint8_t *sheet, size_t sheet_len, double *list, size_t list_len, const double *velocities,
+                                 size_t velocities_len, const uint8_t *marks, size_t marks_len, uint32_t counts[16], uint32_t out_of_reach[16]);
+
+/* The same over four columns: the first coordinates of all tuples, the second, the third, the times.
+ *   Refuses   as sillfeather_shift; 9 also for columns of unequal length.
+ *   Leaves    on refusal the columns as they were, and zeros in counts and out_of_reach. */
+uint32_t sillfeather_shift_columns(uint32_t inverse, const uint8_t *sheet, size_t sheet_len, double *x, size_t x_len, double *y, size_t y_len,
+                                   double *z, size_t z_len, double *t, size_t t_len, const double *velocities, size_t velocities_len,
+                                   const uint8_t *marks, size_t marks_len, uint32_t counts[16], uint32_t out_of_reach[16]);
+
 /* ----- the kept run -------------------------------------------------------------------------- */
 
 /* A run that is kept, to be corrected later: the list stays, and the results and the track go where
@@ -139,6 +161,32 @@ uint32_t sillfeather_keep(uint32_t inverse, const uint8_t *sheet, size_t sheet_l
  *   Leaves    on refusal list, results and track as they were, and 0 in *redone. */
 uint32_t sillfeather_correct(uint32_t inverse, const uint8_t *sheet, size_t sheet_len, double *list, size_t list_len, double *results,
                              size_t results_len, double *track, size_t track_len, size_t index, const double fix[4], uint64_t *redone);
+
+/* As sillfeather_keep and sillfeather_correct, telling too how many fixes met an angle out of reach
+ * (see sillfeather_shift_reach).
+ *   Writes    as those; *counted, how many fixes the step counted (all, save in own-epoch mode those
+ *             without a time), and *out_of_reach, of the whole list; after a correction of the fixes
+ *             redone alone. The number of a fresh run over the corrected list is the sum of what
+ *             stands before them, of *out_of_reach, and of what stands after them.
+ *   Leaves    on refusal 0 in *counted, *redone and *out_of_reach, and all else as it was. */
+uint32_t sillfeather_keep_reach(uint32_t inverse, const uint8_t *sheet, size_t sheet_len, const double *list, size_t list_len, double *results,
+                                size_t results_len, double *track, size_t track_len, uint64_t *counted, uint64_t *out_of_reach);
+uint32_t sillfeather_correct_reach(uint32_t inverse, const uint8_t *sheet, size_t sheet_len, double *list, size_t list_len, double *results,
+                                   size_t results_len, double *track, size_t track_len, size_t index, const double fix[4], uint64_t *redone,
+                                   uint64_t *out_of_reach);
+
+/* As sillfeather_keep and sillfeather_correct over columns: the list's four (x, y, z, t), those of the
+ * results (rx to rt) and those of the track (kx to kt: the last time, and the translation).
+ *   Refuses   as those; 9 also for columns of the list that are of unequal length, 13 for a column of
+ *             the results or of the track that is not as long as the list's. */
+uint32_t sillfeather_keep_columns(uint32_t inverse, const uint8_t *sheet, size_t sheet_len, const double *x, size_t x_len, const double *y, size_t y_len,
+                                  const double *z, size_t z_len, const double *t, size_t t_len, double *rx, size_t rx_len, double *ry, size_t ry_len,
+                                  double *rz, size_t rz_len, double *rt, size_t rt_len, double *kx, size_t kx_len, double *ky, size_t ky_len,
+                                  double *kz, size_t kz_len, double *kt, size_t kt_len);
+uint32_t sillfeather_correct_columns(uint32_t inverse, const uint8_t *sheet, size_t sheet_len, double *x, size_t x_len, double *y, size_t y_len,
+                                     double *z, size_t z_len, double *t, size_t t_len, double *rx, size_t rx_len, double *ry, size_t ry_len,
+                                     double *rz, size_t rz_len, double *rt, size_t rt_len, double *kx, size_t kx_len, double *ky, size_t ky_len,
+                                     double *kz, size_t kz_len, double *kt, size_t kt_len, size_t index, const double fix[4], uint64_t *redone);
 
 /* ----- making a sheet ------------------------------------------------------------------------ */
 
@@ -348,6 +396,10 @@ double sillfeather_cos(double x);
 
 /* Both at once: writes the same numbers as the two functions above to *s and *c. */
 void sillfeather_sin_cos(double x, double *s, double *c);
+
+/* The same with a name for an angle out of reach, which is one not finite or beyond 1024 either way:
+ * 0 and the pair, or 1 and nothing written. */
+uint32_t sillfeather_sin_cos_reach(double x, double *s, double *c);
 
 /* The angle of (x, y), with IEEE 754's answers for zeros, infinities and quadrants. */
 double sillfeather_atan2(double y, double x);

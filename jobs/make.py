@@ -54,9 +54,11 @@ def bits(x):
     return "7ff8000000000000" if x != x else "%016x" % struct.unpack("<Q", struct.pack("<d", x))
 
 
-def ran(counts, tuples):
+def ran(counts, tuples, out_of_reach=()):
+    """A step of which it is told that tuples met an angle out of reach ends with how many."""
+    met = list(out_of_reach) + [0] * (len(counts) - len(out_of_reach))
     lines = ["steps %d tuples %d" % (len(counts), len(tuples))]
-    lines += ["step %d counted %d" % (i, c) for i, c in enumerate(counts, 1)]
+    lines += ["step %d counted %d" % (i, c) + (" out of reach %d" % m if m else "") for i, (c, m) in enumerate(zip(counts, met), 1)]
     lines += [" ".join(map(bits, t)) for t in tuples]
     return "\n".join(lines) + "\n"
 
@@ -103,6 +105,15 @@ JOBS = {
     "absent": (
         job(sheet([deformation()]), [(6378137.0, 0.0, 0.0, 2010.0)], [(0.0, 0.0, 1000.0)], b"\0"),
         ran([0], [(NOT_GIVEN,) * 4]),
+    ),
+    # document 02, A5: a latitude out of reach, beside one in reach; the inverse takes no angle
+    "out_of_reach": (
+        job(GRS80, [ORIGIN, (0.0, 1025.0, 0.0, 0.0)]),
+        ran([1], [(6378137.0, 0.0, 0.0, 0.0), (NOT_GIVEN,) * 3 + (0.0,)], [1]),
+    ),
+    "out_of_reach_twice": (
+        job(sheet([cart(), cart(), cart()]), [(0.0, 1025.0, 0.0, 0.0)]),
+        ran([0, 0, 0], [(NOT_GIVEN,) * 3 + (0.0,)], [1, 0, 1]),
     ),
     # document 02, A3: in own-epoch mode a fix without a time is lost and not counted, and the fixes
     # beside it stay; a fixed sheet ignores the flag and the time

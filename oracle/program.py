@@ -4,7 +4,7 @@
 
 First the jobs of crates/vectors/data/answers.bin, which the published code answered over our kernels; then RANDOM jobs drawn anew: good ones, and ones with a word, a byte
 or the length changed. Of these the refusal is known from document 01 (16 here, 1 to 8 and 11 by sheet_reader.py, 10 here); of a job that runs, the lines'
-form, the steps, the tuples and that a count is at most the tuples.
+form, the steps, the tuples and that no number of a step is over the tuples.
 """
 import os
 import random
@@ -53,6 +53,11 @@ def printed(job, answer):
     for i in range(tuples):
         lines.append(" ".join("%016x" % p for p in struct.unpack_from("<4Q", answer, 72 + 32 * i)))
     return "\n".join(lines) + "\n"
+
+
+def older(text):
+    """A text without the numbers of document 02, A5, which the fixed answers do not have."""
+    return re.sub(" out of reach [1-9][0-9]*\n", "\n", text)
 
 
 # ---- jobs drawn anew --------------------------------------------------------------------------
@@ -113,10 +118,10 @@ def well_told(job, text):
     tuples = struct.unpack_from("<I", job, 8)[0]
     steps = struct.unpack_from("<I", job, 24)[0]
     form = "steps %d tuples %d\n" % (steps, tuples)
-    form += "".join("step %d counted ([0-9]+)\n" % i for i in range(1, steps + 1))
+    form += "".join("step %d counted ([0-9]+)(?: out of reach ([1-9][0-9]*))?\n" % i for i in range(1, steps + 1))
     form += ("%s %s %s %s\n" % ((WORD,) * 4)) * tuples
     found = re.fullmatch(form, text)
-    return found is not None and all(int(count) <= tuples for count in found.groups())
+    return found is not None and all(int(number or 0) <= tuples for number in found.groups())
 
 
 # ---- both -------------------------------------------------------------------------------------
@@ -138,7 +143,7 @@ def main():
     with open(ANSWERS, "rb") as file:
         for job, answer in records(file.read()):
             text = told(job)
-            count(text == printed(job, answer), job, printed(job, answer), text)
+            count(older(text) == printed(job, answer), job, printed(job, answer), text)
     draw = random.Random(seed)
     for _ in range(random_jobs):
         job = changed(draw, a_job(draw))

@@ -686,6 +686,15 @@ static void kernels(void) {
         reach &= (s != s) == !(x >= -1024.0 && x <= 1024.0) && !(s < -1.0 || s > 1.0 || c < -1.0 || c > 1.0);
     }
     holds("sin_cos writes what sin and cos give", both);
+    const double edges[] = {0.0, 1024.0, -1024.0, 1024.0000000000002, -1024.0000000000002, INFINITY, -INFINITY, NAN};
+    int named = 1;
+    for (size_t i = 0; i < sizeof edges / sizeof *edges; i++) {
+        double s = 7, c = 7, reach_s = 7, reach_c = 7;
+        sillfeather_sin_cos(edges[i], &s, &c);
+        uint32_t out = sillfeather_sin_cos_reach(edges[i], &reach_s, &reach_c);
+        named &= out == (i < 3 ? 0u : 1u) && reach_s == (out ? 7 : s) && reach_c == (out ? 7 : c);
+    }
+    holds("sin_cos_reach writes the same pair, or answers 1 and writes nothing", named);
     holds("sqrt is the machine's", rooted);
     holds("NaN beyond 1024, within 1 before it", reach);
     holds("atan2 of -0 and -1 is -pi", sillfeather_atan2(-0.0, -1.0) == -3.14159265358979323846);

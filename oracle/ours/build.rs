@@ -1,5 +1,4 @@
-//! Links the library's archive for the machine at hand, SILLFEATHER_ARCHIVE, else what `tools/archive sillfeather` writes; and beside it the columns entries,
-//! which C does not have yet (`tools/archive columns_entries`).
+//! Links the library's archive for the machine at hand, SILLFEATHER_ARCHIVE, else what `tools/archive sillfeather` writes.
 use std::{env, path::Path, path::PathBuf};
 
 fn link(archive: &Path) {
@@ -14,5 +13,4 @@ fn main() {
     let given = env::var("SILLFEATHER_ARCHIVE").map(PathBuf::from);
     let native = PathBuf::from(env::var("CARGO_MANIFEST_DIR").unwrap()).join("../../target/native");
     link(&given.unwrap_or_else(|_| native.join("libsillfeather.a")));
-    link(&native.join("libcolumns_entries.a"));
 }

@@ -1,6 +1,6 @@
 use alloc::vec::Vec;
 
-use crate::{Counts, Direction, Refusal, Sheet};
+use crate::{Counts, Direction, Refusal, Sheet, lent};
 
 /// A list as a display holds it: four columns of one length, the first, second, third and fourth numbers of its fixes.
 ///
@@ -61,8 +61,7 @@ impl Columns<'_> {
 impl Sheet {
     /// [`Sheet::shift_with`] over columns, in place. Refused: 9 also where a column is not as long as the others; what was lent then holds what it held.
     ///
-    /// The answer, and every number, is that of the fixes as a list. The archive's own entry over columns is not exported to C yet: this copies the columns
-    /// into a list and back, which takes memory for the list and some time.
+    /// The answer, and every number, is that of the fixes as a list. Nothing is copied: the columns are shifted where they stand.
     pub fn shift_columns(
         &self,
         direction: Direction,
@@ -70,9 +69,8 @@ impl Sheet {
         velocities: &[[f64; 3]],
         marks: &[u8],
     ) -> Result<Counts, Refusal> {
-        let mut fixes = columns.fixes()?;
-        let counts = self.shift_with(direction, &mut fixes, velocities, marks)?;
-        columns.set(&fixes)?;
-        Ok(counts)
+        let lent = [&mut *columns.x, &mut *columns.y, &mut *columns.z, &mut *columns.t];
+        let [counts, out_of_reach] = lent::shift_columns(direction, self.as_bytes(), lent, velocities.as_flattened(), marks)?;
+        Ok(Counts { counts, out_of_reach, steps: self.step_count() })
     }
 }

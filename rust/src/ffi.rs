@@ -14,6 +14,7 @@ unsafe extern "C" {
     pub safe fn sillfeather_hypot(x: f64, y: f64) -> f64;
 
     fn sillfeather_sin_cos(x: f64, s: *mut f64, c: *mut f64);
+    fn sillfeather_sin_cos_reach(x: f64, s: *mut f64, c: *mut f64) -> u32;
     fn sillfeather_check(sheet: *const u8, sheet_len: usize) -> u32;
     fn sillfeather_shift(
         inverse: u32,
@@ -26,6 +27,66 @@ unsafe extern "C" {
         marks: *const u8,
         marks_len: usize,
         counts: *mut u32,
+    ) -> u32;
+    fn sillfeather_shift_reach(
+        inverse: u32,
+        sheet: *const u8,
+        sheet_len: usize,
+        list: *mut f64,
+        list_len: usize,
+        velocities: *const f64,
+        velocities_len: usize,
+        marks: *const u8,
+        marks_len: usize,
+        counts: *mut u32,
+        out_of_reach: *mut u32,
+    ) -> u32;
+    fn sillfeather_shift_columns(
+        inverse: u32,
+        sheet: *const u8,
+        sheet_len: usize,
+        x: *mut f64,
+        x_len: usize,
+        y: *mut f64,
+        y_len: usize,
+        z: *mut f64,
+        z_len: usize,
+        t: *mut f64,
+        t_len: usize,
+        velocities: *const f64,
+        velocities_len: usize,
+        marks: *const u8,
+        marks_len: usize,
+        counts: *mut u32,
+        out_of_reach: *mut u32,
+    ) -> u32;
+    fn sillfeather_keep_reach(
+        inverse: u32,
+        sheet: *const u8,
+        sheet_len: usize,
+        list: *const f64,
+        list_len: usize,
+        results: *mut f64,
+        results_len: usize,
+        track: *mut f64,
+        track_len: usize,
+        counted: *mut u64,
+        out_of_reach: *mut u64,
+    ) -> u32;
+    fn sillfeather_correct_reach(
+        inverse: u32,
+        sheet: *const u8,
+        sheet_len: usize,
+        list: *mut f64,
+        list_len: usize,
+        results: *mut f64,
+        results_len: usize,
+        track: *mut f64,
+        track_len: usize,
+        index: usize,
+        fix: *const f64,
+        redone: *mut u64,
+        out_of_reach: *mut u64,
     ) -> u32;
     fn sillfeather_keep(
         inverse: u32,
@@ -125,6 +186,15 @@ pub fn sin_cos(x: f64) -> (f64, f64) {
     (s, c)
 }
 
+pub fn sin_cos_reach(x: f64) -> Option<(f64, f64)> {
+    let (mut s, mut c) = (0.0, 0.0);
+    // SAFETY: two numbers of our own, each written once or not at all.
+    match unsafe { sillfeather_sin_cos_reach(x, &mut s, &mut c) } {
+        0 => Some((s, c)),
+        _ => None,
+    }
+}
+
 pub fn check(sheet: &[u8]) -> u32 {
     // SAFETY: a slice with its length, only read.
     unsafe { sillfeather_check(sheet.as_ptr(), sheet.len()) }
@@ -146,6 +216,116 @@ pub fn shift(inverse: u32, sheet: &[u8], list: &mut [f64], velocities: &[f64], m
             counts.as_mut_ptr(),
         )
     }
+}
+
+/// The answer; the counts, and the tuples out of reach.
+pub fn shift_reach(inverse: u32, sheet: &[u8], list: &mut [f64], velocities: &[f64], marks: &[u8]) -> (u32, [[u32; 16]; 2]) {
+    let [mut counts, mut out_of_reach] = [[0; 16]; 2];
+    // SAFETY: slices with their lengths; the list, borrowed mutably, and twice sixteen numbers of our own are written.
+    let told = unsafe {
+        sillfeather_shift_reach(
+            inverse,
+            sheet.as_ptr(),
+            sheet.len(),
+            list.as_mut_ptr(),
+            list.len(),
+            velocities.as_ptr(),
+            velocities.len(),
+            marks.as_ptr(),
+            marks.len(),
+            counts.as_mut_ptr(),
+            out_of_reach.as_mut_ptr(),
+        )
+    };
+    (told, [counts, out_of_reach])
+}
+
+/// The same over columns.
+pub fn shift_columns(
+    inverse: u32,
+    sheet: &[u8],
+    [x, y, z, t]: [&mut [f64]; 4],
+    velocities: &[f64],
+    marks: &[u8],
+) -> (u32, [[u32; 16]; 2]) {
+    let [mut counts, mut out_of_reach] = [[0; 16]; 2];
+    // SAFETY: slices with their lengths; the columns, each borrowed mutably, and twice sixteen numbers of our own are written.
+    let told = unsafe {
+        sillfeather_shift_columns(
+            inverse,
+            sheet.as_ptr(),
+            sheet.len(),
+            x.as_mut_ptr(),
+            x.len(),
+            y.as_mut_ptr(),
+            y.len(),
+            z.as_mut_ptr(),
+            z.len(),
+            t.as_mut_ptr(),
+            t.len(),
+            velocities.as_ptr(),
+            velocities.len(),
+            marks.as_ptr(),
+            marks.len(),
+            counts.as_mut_ptr(),
+            out_of_reach.as_mut_ptr(),
+        )
+    };
+    (told, [counts, out_of_reach])
+}
+
+/// The answer; how many fixes were counted, and how many were out of reach.
+pub fn keep_reach(inverse: u32, sheet: &[u8], list: &[f64], results: &mut [f64], track: &mut [f64]) -> (u32, [u64; 2]) {
+    let [mut counted, mut out_of_reach] = [0; 2];
+    // SAFETY: slices with their lengths; results and track, each borrowed mutably, and two numbers of our own are written.
+    let told = unsafe {
+        sillfeather_keep_reach(
+            inverse,
+            sheet.as_ptr(),
+            sheet.len(),
+            list.as_ptr(),
+            list.len(),
+            results.as_mut_ptr(),
+            results.len(),
+            track.as_mut_ptr(),
+            track.len(),
+            &mut counted,
+            &mut out_of_reach,
+        )
+    };
+    (told, [counted, out_of_reach])
+}
+
+/// The answer; how many fixes were redone, and how many of them were out of reach.
+pub fn correct_reach(
+    inverse: u32,
+    sheet: &[u8],
+    list: &mut [f64],
+    results: &mut [f64],
+    track: &mut [f64],
+    index: usize,
+    fix: &[f64; 4],
+) -> (u32, [u64; 2]) {
+    let [mut redone, mut out_of_reach] = [0; 2];
+    // SAFETY: slices with their lengths and four numbers; list, results and track, each borrowed mutably, and two numbers of our own are written.
+    let told = unsafe {
+        sillfeather_correct_reach(
+            inverse,
+            sheet.as_ptr(),
+            sheet.len(),
+            list.as_mut_ptr(),
+            list.len(),
+            results.as_mut_ptr(),
+            results.len(),
+            track.as_mut_ptr(),
+            track.len(),
+            index,
+            fix.as_ptr(),
+            &mut redone,
+            &mut out_of_reach,
+        )
+    };
+    (told, [redone, out_of_reach])
 }
 
 pub fn keep(inverse: u32, sheet: &[u8], list: &[f64], results: &mut [f64], track: &mut [f64]) -> u32 {

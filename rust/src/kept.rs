@@ -54,6 +54,36 @@ impl KeptRun {
         lent::correct(self.direction, self.sheet.as_bytes(), list, results, track, index, fix)
     }
 
+    /// The same, telling how many fixes were redone and how many of those met an angle out of reach. The number of a fresh run over the corrected list is the
+    /// sum of what stands before the fixes redone, of this number, and of what stands after them.
+    pub fn correct_reach(&mut self, index: usize, fix: [f64; 4]) -> Result<[u64; 2], Refusal> {
+        let (list, results, track) =
+            (self.list.as_flattened_mut(), self.results.as_flattened_mut(), self.track.as_flattened_mut());
+        lent::correct_reach(self.direction, self.sheet.as_bytes(), list, results, track, index, fix)
+    }
+
+    /// How many fixes of the list as it stands the step counts, and how many meet an angle out of reach, by a fresh run beside the kept one.
+    ///
+    /// ```
+    /// use sillfeather::{Convention, Direction, Helmert, KeptRun, Sheet};
+    ///
+    /// // a turn of a radian a year, with exact angles
+    /// let turning = Helmert { exact: true, own_epoch: false, drxyz: [206264.80624709636, 0.0, 0.0], t_epoch: Some(2000.0), ..Helmert::BLANK };
+    /// let sheet = Sheet::builder().step(Helmert { convention: Some(Convention::PositionVector), ..turning }).build()?;
+    /// let at = |time| [0.0, 0.0, 0.0, time];
+    /// let mut run = KeptRun::keep(&sheet, Direction::Forward, &[at(2001.0), at(f64::NAN), at(2001.0), at(4000.0)])?;
+    /// assert_eq!(run.numbers()?, [4, 2]);
+    /// // the last fix was in time
+    /// assert_eq!(run.correct_reach(3, at(2002.0))?, [1, 0]);
+    /// assert_eq!(run.numbers()?, [4, 1]);
+    /// # Ok::<(), sillfeather::Refusal>(())
+    /// ```
+    pub fn numbers(&self) -> Result<[u64; 2], Refusal> {
+        let (mut results, mut track) = (self.results.clone(), self.track.clone());
+        let (list, results, track) = (self.list.as_flattened(), results.as_flattened_mut(), track.as_flattened_mut());
+        lent::keep_reach(self.direction, self.sheet.as_bytes(), list, results, track)
+    }
+
     /// The sheet.
     pub fn sheet(&self) -> &Sheet {
         &self.sheet

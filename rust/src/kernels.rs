@@ -25,6 +25,20 @@ pub fn sin_cos(x: f64) -> (f64, f64) {
     ffi::sin_cos(x)
 }
 
+/// The sine and the cosine of an angle in radians, or `None` where it is out of reach: not finite, or
+/// beyond 1024 either way.
+///
+/// ```
+/// use sillfeather::kernels::{sin_cos, sin_cos_reach};
+/// assert_eq!(sin_cos_reach(0.5), Some(sin_cos(0.5)));
+/// assert_eq!(sin_cos_reach(-1024.0), Some(sin_cos(-1024.0)));
+/// assert_eq!(sin_cos_reach(1024.0_f64.next_up()), None);
+/// assert_eq!(sin_cos_reach(f64::NAN), None);
+/// ```
+pub fn sin_cos_reach(x: f64) -> Option<(f64, f64)> {
+    ffi::sin_cos_reach(x)
+}
+
 /// The angle of the point (x, y), from -π to π, with IEEE's cases for zeros, infinities and quadrants. Measured: within 2^-50.
 pub fn atan2(y: f64, x: f64) -> f64 {
     ffi::sillfeather_atan2(y, x)

@@ -25,11 +25,60 @@ pub fn shift(
     Ok(counts)
 }
 
+/// [`shift`], telling of each step too how many fixes met an angle out of reach of sine and cosine, each fix once: the counts, then these.
+///
+/// ```
+/// use sillfeather::{Cart, Direction, Sheet, lent};
+///
+/// let sheet = Sheet::builder().step(Cart::BLANK).build()?;
+/// let mut list = [1024.0, -1024.0, 0.0, 0.0, 0.0, 1025.0, 0.0, 0.0];
+/// let [counts, out_of_reach] = lent::shift_reach(Direction::Forward, sheet.as_bytes(), &mut list, &[], &[])?;
+/// assert_eq!((counts[0], out_of_reach[0]), (1, 1));
+/// # Ok::<(), sillfeather::Refusal>(())
+/// ```
+pub fn shift_reach(
+    direction: Direction,
+    sheet: &[u8],
+    list: &mut [f64],
+    velocities: &[f64],
+    marks: &[u8],
+) -> Result<[[u32; 16]; 2], Refusal> {
+    let (told, numbers) = ffi::shift_reach(direction.word(), sheet, list, velocities, marks);
+    Refusal::told(told)?;
+    Ok(numbers)
+}
+
+/// [`shift_reach`] over four columns. Refused: 9 also where they are not of one length.
+pub fn shift_columns(
+    direction: Direction,
+    sheet: &[u8],
+    columns: [&mut [f64]; 4],
+    velocities: &[f64],
+    marks: &[u8],
+) -> Result<[[u32; 16]; 2], Refusal> {
+    let (told, numbers) = ffi::shift_columns(direction.word(), sheet, columns, velocities, marks);
+    Refusal::told(told)?;
+    Ok(numbers)
+}
+
 /// A kept run: reads the list, writes its results and, after each fix, the track: the last time and T, four numbers a fix.
 ///
 /// Refused: 1 to 8 and 11 of the sheet, 12 where it is not one Helmert step, 9 of the list, 13 where results or track are not as long as the list.
 pub fn keep(direction: Direction, sheet: &[u8], list: &[f64], results: &mut [f64], track: &mut [f64]) -> Result<(), Refusal> {
     Refusal::told(ffi::keep(direction.word(), sheet, list, results, track))
+}
+
+/// [`keep`], telling how many fixes the step counted, and how many met an angle out of reach.
+pub fn keep_reach(
+    direction: Direction,
+    sheet: &[u8],
+    list: &[f64],
+    results: &mut [f64],
+    track: &mut [f64],
+) -> Result<[u64; 2], Refusal> {
+    let (told, numbers) = ffi::keep_reach(direction.word(), sheet, list, results, track);
+    Refusal::told(told)?;
+    Ok(numbers)
 }
 
 /// The correction of one fix of a kept run, by its index from 0: writes it into the list, and redoes as many fixes as it changes. Answers their number.
@@ -48,6 +97,21 @@ pub fn correct(
     let (told, redone) = ffi::correct(direction.word(), sheet, list, results, track, index, &fix);
     Refusal::told(told)?;
     Ok(redone)
+}
+
+/// [`correct`], telling how many fixes were redone, and how many of those met an angle out of reach.
+pub fn correct_reach(
+    direction: Direction,
+    sheet: &[u8],
+    list: &mut [f64],
+    results: &mut [f64],
+    track: &mut [f64],
+    index: usize,
+    fix: [f64; 4],
+) -> Result<[u64; 2], Refusal> {
+    let (told, numbers) = ffi::correct_reach(direction.word(), sheet, list, results, track, index, &fix);
+    Refusal::told(told)?;
+    Ok(numbers)
 }
 
 /// Rebuilds a damaged sheet of form 1 at the room's start, and lists each word of header or directory that it changed at the start of `changes`, three numbers

@@ -107,8 +107,8 @@ impl Sheet {
         velocities: &[f64],
         marks: &[u8],
     ) -> Result<Counts, Refusal> {
-        let counts = lent::shift(direction, &self.bytes, list, velocities, marks)?;
-        Ok(Counts { counts, steps: self.step_count() })
+        let [counts, out_of_reach] = lent::shift_reach(direction, &self.bytes, list, velocities, marks)?;
+        Ok(Counts { counts, out_of_reach, steps: self.step_count() })
     }
 }
 
@@ -159,8 +159,9 @@ impl fmt::Display for Change {
 /// Helmert, Molodensky and permtide count every fix; cart those with no NaN in the result, and inverse none on the axis; deformation those whose mark is 1.
 #[derive(Clone, Copy, Debug, PartialEq, Eq, Hash)]
 pub struct Counts {
-    counts: [u32; 16],
-    steps: usize,
+    pub(crate) counts: [u32; 16],
+    pub(crate) out_of_reach: [u32; 16],
+    pub(crate) steps: usize,
 }
 
 impl Counts {
@@ -172,6 +173,22 @@ impl Counts {
     /// All sixteen places; those past the sheet's steps are 0.
     pub fn all(&self) -> &[u32; 16] {
         &self.counts
+    }
+
+    /// How many fixes met an angle out of reach of sine and cosine, one number a step of the sheet: an angle not finite or beyond ±1024 that the step takes.
+    /// A fix is told once, however many of its angles are; its results are NaN where they rest on that angle.
+    ///
+    /// ```
+    /// use sillfeather::{Cart, Direction, Sheet};
+    ///
+    /// let sheet = Sheet::builder().step(Cart::BLANK).build()?;
+    /// let mut fixes = [[0.1, 0.9, 0.0, 0.0], [f64::NAN, f64::INFINITY, 0.0, 0.0]];
+    /// let counts = sheet.shift(Direction::Forward, &mut fixes)?;
+    /// assert_eq!((counts.steps(), counts.out_of_reach()), (&[1][..], &[1][..]));
+    /// # Ok::<(), sillfeather::Refusal>(())
+    /// ```
+    pub fn out_of_reach(&self) -> &[u32] {
+        &self.out_of_reach[..self.steps]
     }
 }
 

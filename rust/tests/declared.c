@@ -7,8 +7,15 @@ double sillfeather_cos(double);
 double sillfeather_atan2(double, double);
 double sillfeather_hypot(double, double);
 void sillfeather_sin_cos(double, double *, double *);
+uint32_t sillfeather_sin_cos_reach(double, double *, double *);
 uint32_t sillfeather_check(const uint8_t *, size_t);
 uint32_t sillfeather_shift(uint32_t, const uint8_t *, size_t, double *, size_t, const double *, size_t, const uint8_t *, size_t, uint32_t[16]);
+uint32_t sillfeather_shift_reach(uint32_t, const uint8_t *, size_t, double *, size_t, const double *, size_t, const uint8_t *, size_t, uint32_t[16], uint32_t[16]);
+uint32_t sillfeather_shift_columns(uint32_t, const uint8_t *, size_t, double *, size_t, double *, size_t, double *, size_t, double *, size_t, const double *, size_t,
+                                   const uint8_t *, size_t, uint32_t[16], uint32_t[16]);
+uint32_t sillfeather_keep_reach(uint32_t, const uint8_t *, size_t, const double *, size_t, double *, size_t, double *, size_t, uint64_t *, uint64_t *);
+uint32_t sillfeather_correct_reach(uint32_t, const uint8_t *, size_t, double *, size_t, double *, size_t, double *, size_t, size_t, const double[4], uint64_t *,
+                                   uint64_t *);
 uint32_t sillfeather_keep(uint32_t, const uint8_t *, size_t, const double *, size_t, double *, size_t, double *, size_t);
 uint32_t sillfeather_correct(uint32_t, const uint8_t *, size_t, double *, size_t, double *, size_t, double *, size_t, size_t, const double[4], uint64_t *);
 uint32_t sillfeather_add_helmert(uint8_t *, size_t, uint64_t *, uint32_t, uint32_t, uint32_t, const double[30]);

@@ -19,6 +19,7 @@ use Rattle.chain.specs.Chain.{chainForwardOf, chainInverseOf, chainOf, entriesO
 use Rattle.chain.specs.Rules.{Outcome, shiftOf, outcomeOf, shiftRefusalOf}
 use Rattle.chain.proofs.Laws.{step-length}
 use Rattle.chain.proofs.Outcome.{refused-own}
+use Rattle.tally.specs.Tallies.{countsOf, metsOf}
 use Rattle.text.specs.Text.{text, appended}
 use Rattle.text.proofs.Laws.{fits}
 use Rattle.job.specs.Job.{headOf, tuplesAt, velocitiesAt, marksAt, endAt, refusal16, numbersOf, sheetOf, tuplesOf, velocitiesOf, marksOf}
@@ -119,19 +120,19 @@ few-steps inverse s l velocities marks h = by (eqb (refusalOf s .number) 0) refl
         let own = refused-own (refusalOf s) (hasDeformation (kindAt s) (stepCountOf s)) inverse (entriesOf (entryAt s) (stepCountOf s) 0) l velocities marks broken in
         absurd (broken (ap (λ (o : Outcome). o .answer .refusal .number) (sym own) ∙ h))
 
-told-is-short : (steps : ℕ) (o : Outcome) → (o .answer .refusal .number ≡ 0 → steps ≤ 16) → length (o .list) ≤ 2048 → length (toldOf steps o) ≤ 35751
+told-is-short : (steps : ℕ) (o : Outcome) → (o .answer .refusal .number ≡ 0 → steps ≤ 16) → length (o .list) ≤ 2048 → length (toldOf steps o) ≤ 36295
 unfolding toldOf
 told-is-short steps o few l = by (eqb (o .answer .refusal .number) 0) refl
   where
     by : (b : Bool) → eqb (o .answer .refusal .number) 0 ≡ b
-        → length (cond b (ranText steps (o .answer .counts) (o .list)) (refusedText (o .answer .refusal .number) (o .answer .refusal .step))) ≤ 35751
+        → length (cond b (ranText steps (countsOf (o .answer .tallies)) (metsOf (o .answer .tallies)) (o .list)) (refusedText (o .answer .refusal .number) (o .answer .refusal .step))) ≤ 36295
     by true e =
         let s = few (eqb-true (o .answer .refusal .number) 0 e) in
-        let r = ran-is-short steps (o .answer .counts) (o .list) in
+        let r = ran-is-short steps (countsOf (o .answer .tallies)) (metsOf (o .answer .tallies)) (o .list) in
         omega arith
     by false e = let r = refused-is-short (o .answer .refusal .number) (o .answer .refusal .step) in omega arith
 
-job-is-short : (j : List ℕ) → Good (headOf j) (length j) → length (jobText j) ≤ 35751
+job-is-short : (j : List ℕ) → Good (headOf j) (length j) → length (jobText j) ≤ 36295
 unfolding jobText
 job-is-short j g =
     let n : length (tuplesOf j) ≡ 4 * headOf j .tuples = length-tuples j in
@@ -140,12 +141,12 @@ job-is-short j g =
     (few-steps (asksInverse j) (sheetOf j) (tuplesOf j) (velocitiesOf j) (marksOf j))
     (rw (shift-length (asksInverse j) (sheetOf j) (tuplesOf j) (velocitiesOf j) (marksOf j)) (omega arith))
 
--- No text is longer than 35,751 bytes, so that the program's room of 65,536 holds every one.
-pub text-is-short : (j : List ℕ) → length (answerOf j) ≤ 35751
+-- No text is longer than 36,295 bytes, so that the program's room of 65,536 holds every one.
+pub text-is-short : (j : List ℕ) → length (answerOf j) ≤ 36295
 unfolding answerOf
 text-is-short j = by (refusal16 (headOf j) (length j)) refl
   where
-    by : (b : Bool) → refusal16 (headOf j) (length j) ≡ b → length (cond b (refusedText 16 0) (jobText j)) ≤ 35751
+    by : (b : Bool) → refusal16 (headOf j) (length j) ≡ b → length (cond b (refusedText 16 0) (jobText j)) ≤ 36295
     by true e = let r = refused-is-short 16 0 in omega arith
     by false e = job-is-short j (good-job (headOf j) (length j) e)
 

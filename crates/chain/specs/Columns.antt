@@ -38,7 +38,7 @@ columnsOutcome answer c = record { answer = answer; columns = c }
 
 -- the columns of what the chain makes of the flat list that the columns stand for
 abbrev pub ranColumns : Run → ColumnsOutcome
-ranColumns run = columnsOutcome (ranAnswer (placesOf (run .counts))) (columnsOf (run .list))
+ranColumns run = columnsOutcome (ranAnswer (placesOf (run .tallies))) (columnsOf (run .list))
 
 -- refused: every column as it was
 unfoldable pub columnsOutcomeOf : Refusal → Bool → Bool → List Entry → Columns → List Float → List ℕ → ColumnsOutcome

@@ -5,7 +5,7 @@
 // around them. `shift_columns` checks the sheet where it lies and makes one step ready at a time,
 // steps outermost and rows innermost. `shift` puts a short list into columns of its own, and a long
 // one window by window (`windows`). chain_record does the same over a record that is already read,
-// and the two agree (proved there). The answer, the counts and the list are fixed for every input by
+// and the two agree (proved there). The answer, the tallies and the list are fixed for every input by
 // specs/Rules.antt and specs/Columns.antt over specs/Chain.antt, which is made of the steps' own
 // definitions; nothing is written before the last test has passed. No rounding but the steps' own.
 // Used by the program and by callers that keep lists.
@@ -16,17 +16,18 @@ ghost use lib.ListN.{length};
 ghost use Rattle.columns.specs.Columns.{columns, Level, flatOf};
 ghost use Rattle.sheet.specs.Layout.{stepCountOf, kindAt, entryAt};
 ghost use Rattle.sheet.specs.Rules.{hasDeformation};
-ghost use Rattle.chain.specs.Chain.{reversedOf, stepListOf, tuplesCountedOf, chainForwardOf, chainInverseOf, chainOf, placesOf, entriesOf};
+ghost use Rattle.chain.specs.Chain.{reversedOf, stepListOf, stepTallyOf, chainForwardOf, chainInverseOf, chainOf, placesOf, entriesOf};
 ghost use Rattle.chain.specs.Rules.{refusal9, overOne, lentFor, refusal10, refusedAnswer, ranAnswer, outcome, shiftOf};
 ghost use Rattle.chain.specs.Columns.{refusal9Columns, columnsOutcome, shiftColumnsOf};
 use sheet::Entry;
 use sheet::Refusal;
+use tally::Tally;
 
-// What a call answers: no refusal and each step's count in the sheet's order, 0 in the other
-// places; or a refusal and zeros.
+// What a call answers: no refusal and each step's tally in the sheet's order, how many tuples it
+// counted and how many met an angle out of reach, zeros in the other places; or a refusal and zeros.
 pub struct Answer {
     pub refusal: Refusal,
-    pub counts: [usize; 16],
+    pub tallies: [Tally; 16],
 }
 
 // ----- one step over the columns ---------------------------------------------------------------
@@ -49,16 +50,19 @@ fn step_at(
     t: &mut [f64],
     velocities: &[f64],
     marks: &[u8],
-) -> usize
+) -> Tally
     requires { ⌜ (i < stepCountOf (now s)) × Level (now x) (now y) (now z) (now t) × (length (now x) ≤ 2048) ⌝ }
     ensures { λ r. ⌜ (flatOf (now (x .exit)) (now (y .exit)) (now (z .exit)) (now (t .exit))
         ≡ stepListOf inverse (now (velocities .entry)) (now (marks .entry)) (entryAt (now (s .entry)) i) (flatOf (now (x .entry)) (now (y .entry)) (now (z .entry)) (now (t .entry))))
-        × (r ≡ tuplesCountedOf inverse (now (velocities .entry)) (now (marks .entry)) (entryAt (now (s .entry)) i) (flatOf (now (x .entry)) (now (y .entry)) (now (z .entry)) (now (t .entry)))) ⌝ }
+        × (r ≡ stepTallyOf inverse (now (velocities .entry)) (now (marks .entry)) (entryAt (now (s .entry)) i) (flatOf (now (x .entry)) (now (y .entry)) (now (z .entry)) (now (t .entry)))) ⌝ }
 {
     let plan = sheet_plans::plan_at(inverse, s, i);
     let from = plans::start(plan);
-    let went = plan_columns::run(plan, 0, from, x, y, z, t, velocities, marks);
-    went.count
+    let part = plan_columns::run(plan, 0, from, x, y, z, t, velocities, marks);
+    Tally {
+        count: part.count,
+        met: part.met,
+    }
 }
 
 // ----- a sheet's steps, one after another ------------------------------------------------------
@@ -72,20 +76,20 @@ fn forward(
     t: &mut [f64],
     velocities: &[f64],
     marks: &[u8],
-) -> [usize; 16]
+) -> [Tally; 16]
     requires { ⌜ (n ≤ 16) × (n ≡ stepCountOf (now s)) × Level (now x) (now y) (now z) (now t) × (length (now x) ≤ 2048) ⌝ }
     ensures { λ r. ⌜ (flatOf (now (x .exit)) (now (y .exit)) (now (z .exit)) (now (t .exit))
         ≡ chainForwardOf (now (velocities .entry)) (now (marks .entry)) (entriesOf (entryAt (now (s .entry))) n 0) (flatOf (now (x .entry)) (now (y .entry)) (now (z .entry)) (now (t .entry))) .list)
-        × (r ≡ placesOf (chainForwardOf (now (velocities .entry)) (now (marks .entry)) (entriesOf (entryAt (now (s .entry))) n 0) (flatOf (now (x .entry)) (now (y .entry)) (now (z .entry)) (now (t .entry))) .counts)) ⌝ }
+        × (r ≡ placesOf (chainForwardOf (now (velocities .entry)) (now (marks .entry)) (entriesOf (entryAt (now (s .entry))) n 0) (flatOf (now (x .entry)) (now (y .entry)) (now (z .entry)) (now (t .entry))) .tallies)) ⌝ }
 {
-    let mut counts = [0usize; 16];
+    let mut tallies = [tally::none(); 16];
     let mut i = 0;
     while i < n {
-        let count = step_at(false, s, i, x, y, z, t, velocities, marks); // the first step first
-        counts[i] = count; // in the sheet's order
+        let tally = step_at(false, s, i, x, y, z, t, velocities, marks); // the first step first
+        tallies[i] = tally; // in the sheet's order
         i += 1;
     }
-    counts
+    tallies
 }
 
 fn backward(
@@ -97,20 +101,20 @@ fn backward(
     t: &mut [f64],
     velocities: &[f64],
     marks: &[u8],
-) -> [usize; 16]
+) -> [Tally; 16]
     requires { ⌜ (n ≤ 16) × (n ≡ stepCountOf (now s)) × Level (now x) (now y) (now z) (now t) × (length (now x) ≤ 2048) ⌝ }
     ensures { λ r. ⌜ (flatOf (now (x .exit)) (now (y .exit)) (now (z .exit)) (now (t .exit))
         ≡ chainInverseOf (now (velocities .entry)) (now (marks .entry)) (entriesOf (entryAt (now (s .entry))) n 0) (flatOf (now (x .entry)) (now (y .entry)) (now (z .entry)) (now (t .entry))) .list)
-        × (r ≡ placesOf (chainInverseOf (now (velocities .entry)) (now (marks .entry)) (entriesOf (entryAt (now (s .entry))) n 0) (flatOf (now (x .entry)) (now (y .entry)) (now (z .entry)) (now (t .entry))) .counts)) ⌝ }
+        × (r ≡ placesOf (chainInverseOf (now (velocities .entry)) (now (marks .entry)) (entriesOf (entryAt (now (s .entry))) n 0) (flatOf (now (x .entry)) (now (y .entry)) (now (z .entry)) (now (t .entry))) .tallies)) ⌝ }
 {
-    let mut counts = [0usize; 16];
+    let mut tallies = [tally::none(); 16];
     let mut i = n;
     while 0 < i {
         i -= 1;
-        let count = step_at(true, s, i, x, y, z, t, velocities, marks); // the last step first
-        counts[i] = count;
+        let tally = step_at(true, s, i, x, y, z, t, velocities, marks); // the last step first
+        tallies[i] = tally;
     }
-    counts
+    tallies
 }
 
 // The whole columns in either direction.
@@ -124,11 +128,11 @@ fn over_columns(
     t: &mut [f64],
     velocities: &[f64],
     marks: &[u8],
-) -> [usize; 16]
+) -> [Tally; 16]
     requires { ⌜ (n ≤ 16) × (n ≡ stepCountOf (now s)) × Level (now x) (now y) (now z) (now t) × (length (now x) ≤ 2048) ⌝ }
     ensures { λ r. ⌜ (flatOf (now (x .exit)) (now (y .exit)) (now (z .exit)) (now (t .exit))
         ≡ chainOf inverse (now (velocities .entry)) (now (marks .entry)) (entriesOf (entryAt (now (s .entry))) n 0) (flatOf (now (x .entry)) (now (y .entry)) (now (z .entry)) (now (t .entry))) .list)
-        × (r ≡ placesOf (chainOf inverse (now (velocities .entry)) (now (marks .entry)) (entriesOf (entryAt (now (s .entry))) n 0) (flatOf (now (x .entry)) (now (y .entry)) (now (z .entry)) (now (t .entry))) .counts)) ⌝ }
+        × (r ≡ placesOf (chainOf inverse (now (velocities .entry)) (now (marks .entry)) (entriesOf (entryAt (now (s .entry))) n 0) (flatOf (now (x .entry)) (now (y .entry)) (now (z .entry)) (now (t .entry))) .tallies)) ⌝ }
 {
     if inverse {
         return backward(s, n, x, y, z, t, velocities, marks);
@@ -150,15 +154,15 @@ fn through(
     t: &mut [f64],
     velocities: &[f64],
     marks: &[u8],
-) -> [usize; 16]
+) -> [Tally; 16]
     requires { ⌜ (n ≤ 16) × (n ≡ stepCountOf (now s)) × Level (now x) (now y) (now z) (now t) × (length (now list) ≡ 4 * length (now x)) × (length (now x) ≤ 16) ⌝ }
     ensures { λ r. ⌜ (now (list .exit) ≡ chainOf inverse (now (velocities .entry)) (now (marks .entry)) (entriesOf (entryAt (now (s .entry))) n 0) (now (list .entry)) .list)
-        × (r ≡ placesOf (chainOf inverse (now (velocities .entry)) (now (marks .entry)) (entriesOf (entryAt (now (s .entry))) n 0) (now (list .entry)) .counts)) ⌝ }
+        × (r ≡ placesOf (chainOf inverse (now (velocities .entry)) (now (marks .entry)) (entriesOf (entryAt (now (s .entry))) n 0) (now (list .entry)) .tallies)) ⌝ }
 {
     columns::to_columns(list, x, y, z, t);
-    let counts = over_columns(inverse, s, n, x, y, z, t, velocities, marks);
+    let tallies = over_columns(inverse, s, n, x, y, z, t, velocities, marks);
     columns::to_flat(x, y, z, t, list);
-    counts
+    tallies
 }
 
 // A column's room.
@@ -176,10 +180,10 @@ fn short(
     list: &mut [f64],
     velocities: &[f64],
     marks: &[u8],
-) -> [usize; 16]
+) -> [Tally; 16]
     requires { ⌜ (n ≤ 16) × (n ≡ stepCountOf (now s)) × (length (now list) % 4 ≡ 0) × (length (now list) ≤ 64) ⌝ }
     ensures { λ r. ⌜ (now (list .exit) ≡ chainOf inverse (now (velocities .entry)) (now (marks .entry)) (entriesOf (entryAt (now (s .entry))) n 0) (now (list .entry)) .list)
-        × (r ≡ placesOf (chainOf inverse (now (velocities .entry)) (now (marks .entry)) (entriesOf (entryAt (now (s .entry))) n 0) (now (list .entry)) .counts)) ⌝ }
+        × (r ≡ placesOf (chainOf inverse (now (velocities .entry)) (now (marks .entry)) (entriesOf (entryAt (now (s .entry))) n 0) (now (list .entry)) .tallies)) ⌝ }
 {
     let mut x = zeros();
     let mut y = zeros();
@@ -201,16 +205,16 @@ fn short(
 }
 
 // A sheet of one step over a long list: its plan alone is made.
-fn alone(inverse: bool, s: &[u8], list: &mut [f64], velocities: &[f64], marks: &[u8]) -> [usize; 16]
+fn alone(inverse: bool, s: &[u8], list: &mut [f64], velocities: &[f64], marks: &[u8]) -> [Tally; 16]
     requires { ⌜ 0 < stepCountOf (now s) ⌝ }
     ensures { λ r. ⌜ (now (list .exit) ≡ chainOf inverse (now (velocities .entry)) (now (marks .entry)) (entriesOf (entryAt (now (s .entry))) 1 0) (now (list .entry)) .list)
-        × (r ≡ placesOf (chainOf inverse (now (velocities .entry)) (now (marks .entry)) (entriesOf (entryAt (now (s .entry))) 1 0) (now (list .entry)) .counts)) ⌝ }
+        × (r ≡ placesOf (chainOf inverse (now (velocities .entry)) (now (marks .entry)) (entriesOf (entryAt (now (s .entry))) 1 0) (now (list .entry)) .tallies)) ⌝ }
 {
     let plan = sheet_plans::plan_at(inverse, s, 0);
-    let count = step_windows::over(plan, list, velocities, marks);
-    let mut counts = [0usize; 16];
-    counts[0] = count;
-    counts
+    let tally = step_windows::over(plan, list, velocities, marks);
+    let mut tallies = [tally::none(); 16];
+    tallies[0] = tally;
+    tallies
 }
 
 // A list of whole tuples of any length in rule.
@@ -221,10 +225,10 @@ fn over_list(
     list: &mut [f64],
     velocities: &[f64],
     marks: &[u8],
-) -> [usize; 16]
+) -> [Tally; 16]
     requires { ⌜ (n ≤ 16) × (n ≡ stepCountOf (now s)) × (length (now list) % 4 ≡ 0) × (length (now list) ≤ 8192) ⌝ }
     ensures { λ r. ⌜ (now (list .exit) ≡ chainOf inverse (now (velocities .entry)) (now (marks .entry)) (entriesOf (entryAt (now (s .entry))) n 0) (now (list .entry)) .list)
-        × (r ≡ placesOf (chainOf inverse (now (velocities .entry)) (now (marks .entry)) (entriesOf (entryAt (now (s .entry))) n 0) (now (list .entry)) .counts)) ⌝ }
+        × (r ≡ placesOf (chainOf inverse (now (velocities .entry)) (now (marks .entry)) (entriesOf (entryAt (now (s .entry))) n 0) (now (list .entry)) .tallies)) ⌝ }
 {
     if list.len() <= 64 {
         return short(inverse, s, n, list, velocities, marks);
@@ -315,18 +319,19 @@ pub fn has_deformation(s: &[u8]) -> bool
 pub fn refused(refusal: Refusal) -> Answer
     ensures { λ r. ⌜ r ≡ refusedAnswer refusal ⌝ }
 {
+    let tallies = [tally::none(); 16];
     Answer {
         refusal: refusal,
-        counts: [0usize; 16],
+        tallies: tallies,
     }
 }
 
-pub fn ran(counts: [usize; 16]) -> Answer
-    ensures { λ r. ⌜ r ≡ ranAnswer counts ⌝ }
+pub fn ran(tallies: [Tally; 16]) -> Answer
+    ensures { λ r. ⌜ r ≡ ranAnswer tallies ⌝ }
 {
     Answer {
         refusal: Refusal::none(),
-        counts: counts,
+        tallies: tallies,
     }
 }
 
@@ -355,8 +360,8 @@ pub fn shift_columns(
     if lent_broken(deforms(s, n), 4 * x.len(), velocities, marks) {
         return refused(Refusal::of_call(10));
     }
-    let counts = over_columns(inverse, s, n, x, y, z, t, velocities, marks);
-    ran(counts)
+    let tallies = over_columns(inverse, s, n, x, y, z, t, velocities, marks);
+    ran(tallies)
 }
 
 // A sheet's bytes over a flat list.
@@ -374,6 +379,6 @@ pub fn shift(inverse: bool, s: &[u8], list: &mut [f64], velocities: &[f64], mark
     if lent_broken(deforms(s, n), list.len(), velocities, marks) {
         return refused(Refusal::of_call(10));
     }
-    let counts = over_list(inverse, s, n, list, velocities, marks);
-    ran(counts)
+    let tallies = over_list(inverse, s, n, list, velocities, marks);
+    ran(tallies)
 }

@@ -11,7 +11,7 @@ use Rattle.tuple.specs.declared.Tuple.{Tuple}
 use Rattle.tuple.specs.declared.Shifted.{Shifted}
 use Rattle.helmert.specs.declared.State.{State}
 use Rattle.helmert.specs.declared.Shift.{Shift}
-use Rattle.helmert.specs.Turns.{noState, allTurns, helmertTurns}
+use Rattle.helmert.specs.Turns.{noState, allTurns, helmertTurns, numberOf}
 use Rattle.deformation.specs.declared.Motion.{Motion}
 use Rattle.lists.specs.Flat.{fourOf, numbersOf}
 use Rattle.lists.specs.Run.{Turns, ranOf, countOf, stateAfterOf}
@@ -22,9 +22,11 @@ use Rattle.cart.specs.Step.{cartFwdOf, cartInvOf}
 use Rattle.permtide.specs.Step.{fwdOf, invOf}
 use Rattle.molodensky.specs.Step.{commonOf}
 use Rattle.turns.specs.Turns.{plainTurns, movedTurns}
+use Rattle.reach.specs.Met.{meetingOf, placeMet, latitudeMet, offsetsMet, movedMetTurns, helmertMet}
+use Rattle.reach.proofs.Laws.{met-by-tuple, none-of}
 use Rattle.plans.specs.declared.Plan.{Plan}
 use Rattle.plans.specs.declared.Plan.the-variants.{CartForward, CartInverse, PermtideEither, DeformationEither, MolodenskyEither, HelmertEither}
-use Rattle.plans.specs.Plans.{planTurnsOf}
+use Rattle.plans.specs.Plans.{planTurnsOf, planReachOf}
 
 -- ---- two runs of a step over a list, from indices and states that it does not tell apart
 
@@ -138,6 +140,41 @@ module _ (k : ℕ) (from : State) (l : List Float) {l′ : List Float} {n : ℕ}
   either true f g e = every f e
   either false f g e = every g e
 
+-- ---- those that meet an angle out of reach
+
+moved-met-alike : (op : Motion) (inverse : Bool) (velocities : List Float) (marks : List ℕ) (k : ℕ) (a : State) (j : ℕ) (b : State) (v : Tuple) → SameIndex k a j b
+    → Alike (movedMetTurns op inverse velocities marks) SameIndex k a j b v
+moved-met-alike op inverse velocities marks k a j b v h =
+    let f = movedMetTurns op inverse velocities marks in
+    record { tuple = ap (λ (i : ℕ). f i a v .tuple) h; counted = ap (λ (i : ℕ). f i a v .counted) h; onward = ap suc h }
+
+carried-met-alike : (inverse : Bool) (shift : Shift) (k : ℕ) (a : State) (j : ℕ) (b : State) (v : Tuple) → SameState k a j b
+    → Alike (meetingOf (helmertMet shift) (helmertTurns inverse shift)) SameState k a j b v
+carried-met-alike inverse shift k a j b v h =
+    let f = meetingOf (helmertMet shift) (helmertTurns inverse shift) in
+    record { tuple = ap (λ (u : State). f k u v .tuple) h; counted = ap (λ (u : State). f k u v .counted) h; onward = ap (λ (u : State). f k u v .state) h }
+
+-- what the pass of a plan's kind says
+abbrev pub Passing : List Float → List ℕ → ℕ → State → List Float → ℕ → Plan → Type 0
+Passing velocities marks k from l m (CartForward ellps) = m ≡ numberOf placeMet l
+Passing velocities marks k from l m (CartInverse c) = m ≡ 0
+Passing velocities marks k from l m (PermtideEither op inverse) = m ≡ numberOf latitudeMet l
+Passing velocities marks k from l m (DeformationEither op inverse) = m ≡ countOf (movedMetTurns op inverse velocities marks) k noState l
+Passing velocities marks k from l m (MolodenskyEither op inverse) = m ≡ numberOf (offsetsMet (op .abridged)) l
+Passing velocities marks k from l m (HelmertEither shift inverse) = m ≡ countOf (meetingOf (helmertMet shift) (helmertTurns inverse shift)) 0 from l
+
+-- and what follows
+met-told : (velocities : List Float) (marks : List ℕ) (k : ℕ) (from : State) (l : List Float) {m : ℕ} (plan : Plan) → Passing velocities marks k from l m plan
+    → m ≡ countOf (planReachOf velocities marks plan) k from l
+met-told velocities marks k from l (CartForward ellps) e = e ∙ sym (met-by-tuple placeMet (plainTurns (cartFwdOf ellps)) k from l)
+met-told velocities marks k from l (CartInverse c) e = e ∙ sym (met-by-tuple (λ (v : Tuple). false) (plainTurns (cartInvOf c)) k from l ∙ none-of l)
+met-told velocities marks k from l (PermtideEither op inverse) e = e ∙ sym (met-by-tuple latitudeMet (cond inverse (allTurns (invOf op)) (allTurns (fwdOf op))) k from l)
+met-told velocities marks k from l (DeformationEither op inverse) e =
+    e ∙ alike-count (movedMetTurns op inverse velocities marks) SameIndex (moved-met-alike op inverse velocities marks) k noState k from l refl
+met-told velocities marks k from l (MolodenskyEither op inverse) e = e ∙ sym (met-by-tuple (offsetsMet (op .abridged)) (allTurns (commonOf op inverse)) k from l)
+met-told velocities marks k from l (HelmertEither shift inverse) e =
+    e ∙ alike-count (meetingOf (helmertMet shift) (helmertTurns inverse shift)) SameState (carried-met-alike inverse shift) 0 from k from l refl
+
 -- four numbers a row
 pub rows : (x y z t : List Float) {n : ℕ} → Level x y z t → n ≡ length x → n ≡ length (flatOf x y z t) / 4
 rows x y z t level e = rw (flat-length x y z t level) (omega (arith, e))
@@ -163,7 +200,7 @@ Carried from l l′ n state (HelmertEither shift inverse) = Ran (helmertTurns in
 
 module _ (velocities : List Float) (marks : List ℕ) (k : ℕ) (from : State) (l : List Float) {l′ : List Float} {n : ℕ} where
   -- a kind that leaves the state alone
-  pub looped : (plan : Plan) → Looped velocities marks k from l l′ n plan → Ran (planTurnsOf velocities marks plan) k from l l′ from n
+  looped : (plan : Plan) → Looped velocities marks k from l l′ n plan → Ran (planTurnsOf velocities marks plan) k from l l′ from n
   looped (CartForward ellps) e = plain k from l (cartFwdOf ellps) e
   looped (CartInverse c) e = plain k from l (cartInvOf c) e
   looped (PermtideEither op inverse) e = either k from l inverse (invOf op) (fwdOf op) e
@@ -172,10 +209,26 @@ module _ (velocities : List Float) (marks : List ℕ) (k : ℕ) (from : State) (
   looped (HelmertEither shift inverse) e = absurd e
 
   -- Helmert, which hands its state on
-  pub handed-on : {state : State} (plan : Plan) → Carried from l l′ n state plan → Ran (planTurnsOf velocities marks plan) k from l l′ state n
+  handed-on : {state : State} (plan : Plan) → Carried from l l′ n state plan → Ran (planTurnsOf velocities marks plan) k from l l′ state n
   handed-on (CartForward ellps) e = absurd e
   handed-on (CartInverse c) e = absurd e
   handed-on (PermtideEither op inverse) e = absurd e
   handed-on (DeformationEither op inverse) e = absurd e
   handed-on (MolodenskyEither op inverse) e = absurd e
   handed-on (HelmertEither shift inverse) e = carried k from l inverse shift e
+
+-- ---- both: what a step leaves, and how many met an angle out of reach
+
+abbrev RanMet : Turns State → Turns State → ℕ → State → List Float → List Float → State → ℕ → ℕ → Type 0
+RanMet f g k from l l′ state n m = (l′ ≡ ranOf f k from l) × (state ≡ stateAfterOf f k from l) × (n ≡ countOf f k from l) × (m ≡ countOf g k from l)
+
+module _ (velocities : List Float) (marks : List ℕ) (k : ℕ) (from : State) (l : List Float) {l′ : List Float} {n m : ℕ} where
+  pub looped-met : (plan : Plan) → Looped velocities marks k from l l′ n plan → Passing velocities marks k from l m plan
+      → RanMet (planTurnsOf velocities marks plan) (planReachOf velocities marks plan) k from l l′ from n m
+  looped-met plan e p =
+      let r = looped velocities marks k from l plan e in (r .0, r .1, r .2, met-told velocities marks k from l plan p)
+
+  pub handed-on-met : {state : State} (plan : Plan) → Carried from l l′ n state plan → Passing velocities marks k from l m plan
+      → RanMet (planTurnsOf velocities marks plan) (planReachOf velocities marks plan) k from l l′ state n m
+  handed-on-met plan e p =
+      let r = handed-on velocities marks k from l plan e in (r .0, r .1, r .2, met-told velocities marks k from l plan p)

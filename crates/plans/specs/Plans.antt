@@ -2,7 +2,7 @@
 -- is in the plan.
 use Prim.Native.Nat.{ℕ, _<_}
 use mathlib.Core.Path.{_≡_}
-use mathlib.Core.Bool.{Bool, cond}
+use mathlib.Core.Bool.{Bool, true, false, cond}
 use mathlib.Core.List.{List}
 use lib.Dec.{eqb, ltb}
 use lib.ListN.{getD}
@@ -22,6 +22,8 @@ use Rattle.bodies.specs.Kinds.{lengthOf}
 use Rattle.lists.specs.Run.{Turns}
 use Rattle.helmert.specs.Turns.{noState, allTurns, helmertTurns}
 use Rattle.turns.specs.Turns.{plainTurns, movedTurns}
+use Rattle.reach.specs.Met.{Met, meetingOf, cartMet, permtideMet, molodenskyMet, deformationMet, helmertMet}
+use Rattle.plans.specs.Passes.{Pass}
 use Rattle.plans.specs.declared.Plan.{Plan}
 use Rattle.plans.specs.declared.Plan.the-variants.{CartForward, CartInverse, PermtideEither, DeformationEither, MolodenskyEither, HelmertEither}
 
@@ -61,6 +63,23 @@ planTurnsOf velocities marks (PermtideEither op inverse) = cond inverse (allTurn
 planTurnsOf velocities marks (DeformationEither op inverse) = movedTurns op inverse velocities marks
 planTurnsOf velocities marks (MolodenskyEither op inverse) = allTurns (commonOf op inverse)
 planTurnsOf velocities marks (HelmertEither shift inverse) = helmertTurns inverse shift
+
+-- whether a tuple meets an angle out of reach of sine and cosine in it
+abbrev pub planMetOf : List ℕ → Plan → Met State
+planMetOf marks (CartForward ellps) = cartMet false
+planMetOf marks (CartInverse k) = cartMet true
+planMetOf marks (PermtideEither op inverse) = permtideMet
+planMetOf marks (DeformationEither op inverse) = deformationMet op marks
+planMetOf marks (MolodenskyEither op inverse) = molodenskyMet op
+planMetOf marks (HelmertEither shift inverse) = helmertMet shift
+
+-- the plan's turns that count such tuples
+abbrev pub planReachOf : List Float → List ℕ → Plan → Turns State
+planReachOf velocities marks plan = meetingOf (planMetOf marks plan) (planTurnsOf velocities marks plan)
+
+-- both together
+abbrev pub planPassOf : List Float → List ℕ → Plan → Pass
+planPassOf velocities marks plan = record { turns = planTurnsOf velocities marks plan; met = planMetOf marks plan }
 
 -- the state that a plan starts each list in
 abbrev pub planStartOf : Plan → State

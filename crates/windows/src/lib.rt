@@ -2,10 +2,10 @@
 //
 // Each window is put into columns, passes through all steps, and is put back, so that a number is
 // moved twice however many steps there are. Between two windows each step keeps its standing: the
-// state that it goes on from, and its count so far. Plans are made by the caller and the columns'
+// state that it goes on from, and its tally so far. Plans are made by the caller and the columns'
 // room here, once a call. Proved for every list and plans, in both directions: the list and the
-// counts are those of all steps over the whole list (plans, specs/Windows.antt); a rest shorter than
-// a tuple stays as it is. No rounding but the steps' own. Used by the chain's flat entry and by what
+// tallies are those of all steps over the whole list (plans, specs/Windows.antt); a rest shorter
+// than a tuple stays as it is. No rounding but the steps' own. Used by the chain's flat entry and by what
 // runs a record.
 ghost use mathlib.Core.Path.{_≡_};
 ghost use mathlib.Core.Bool.{true, false};
@@ -13,12 +13,13 @@ ghost use Prim.Native.Nat.{_+_, _*_, _≤_, _<_};
 ghost use lib.ListN.{length};
 ghost use Rattle.lists.specs.Run.{ranOf};
 ghost use Rattle.columns.specs.Columns.{Level, flatOf};
-ghost use Rattle.plans.specs.Plans.{planIn, planTurnsOf};
+ghost use Rattle.plans.specs.Plans.{planIn, planTurnsOf, planPassOf};
 ghost use Rattle.plans.specs.Windows.{movedOn, goneOf};
-ghost use Rattle.windows.specs.Steps.{turnsIn, turnsFrom, atStart, noStanding, startsOf, countsOf, Few, goneOver};
+ghost use Rattle.windows.specs.Steps.{passIn, passesFrom, atStart, noStanding, startsOf, talliesOf, FewIn, Few, goneOver};
 use plans::Plan;
 use plans::Standing;
 use step_windows::ROWS;
+use tally::Tally;
 
 // ----- standings ------------------------------------------------------------------------------
 
@@ -26,9 +27,10 @@ fn no_standing() -> Standing
     ensures { λ r. ⌜ r ≡ noStanding ⌝ }
 {
     let state = plans::no_state();
+    let tally = tally::none();
     Standing {
         state: state,
-        count: 0,
+        tally: tally,
     }
 }
 
@@ -37,9 +39,10 @@ fn at_start(plan: Plan) -> Standing
     ensures { λ r. ⌜ r ≡ atStart plan ⌝ }
 {
     let state = plans::start(plan);
+    let tally = tally::none();
     Standing {
         state: state,
-        count: 0,
+        tally: tally,
     }
 }
 
@@ -57,17 +60,19 @@ fn starts(plans: [Plan; 16], n: usize) -> [Standing; 16]
     standings
 }
 
-// Each step's count.
-fn counts_of(standings: [Standing; 16]) -> [usize; 16]
-    ensures { λ r. ⌜ r ≡ countsOf standings ⌝ }
+// Each step's tally.
+fn tallies_of(standings: [Standing; 16]) -> [Tally; 16]
+    ensures { λ r. ⌜ r ≡ talliesOf standings ⌝ }
 {
-    let mut counts = [0usize; 16];
+    let mut tallies = [tally::none(); 16];
     let mut i = 0;
     while i < 16 {
-        counts[i] = standings[i].count;
+        let standing = standings[i];
+        let tally = standing.tally;
+        tallies[i] = tally;
         i += 1;
     }
-    counts
+    tallies
 }
 
 // ----- a window -------------------------------------------------------------------------------
@@ -84,16 +89,21 @@ fn moved_on(
     velocities: &[f64],
     marks: &[u8],
 ) -> Standing
-    requires { ⌜ Level (now x) (now y) (now z) (now t) × (first + length (now x) < 4611686018427387904) × (standing .count ≤ first) ⌝ }
+    requires { ⌜ Level (now x) (now y) (now z) (now t) × (first + length (now x) < 4611686018427387904) × FewIn first (standing .tally) ⌝ }
     ensures { λ r. ⌜ (flatOf (now (x .exit)) (now (y .exit)) (now (z .exit)) (now (t .exit))
         ≡ ranOf (planTurnsOf (now (velocities .entry)) (now (marks .entry)) plan) first (standing .state) (flatOf (now (x .entry)) (now (y .entry)) (now (z .entry)) (now (t .entry))))
-        × (r ≡ movedOn (planTurnsOf (now (velocities .entry)) (now (marks .entry)) plan) first standing (flatOf (now (x .entry)) (now (y .entry)) (now (z .entry)) (now (t .entry)))) ⌝ }
+        × (r ≡ movedOn (planPassOf (now (velocities .entry)) (now (marks .entry)) plan) first standing (flatOf (now (x .entry)) (now (y .entry)) (now (z .entry)) (now (t .entry)))) ⌝ }
 {
-    let went = plan_columns::run(plan, first, standing.state, x, y, z, t, velocities, marks);
-    let state = went.state;
+    let part = plan_columns::run(plan, first, standing.state, x, y, z, t, velocities, marks);
+    let before = standing.tally;
+    let state = part.state;
+    let tally = Tally {
+        count: before.count + part.count,
+        met: before.met + part.met,
+    };
     Standing {
         state: state,
-        count: standing.count + went.count,
+        tally: tally,
     }
 }
 
@@ -113,8 +123,8 @@ fn forward(
 ) -> [Standing; 16]
     requires { ⌜ (n ≤ 16) × Level (now x) (now y) (now z) (now t) × (first + length (now x) < 4611686018427387904) × Few first before ⌝ }
     ensures { λ r. ⌜ (flatOf (now (x .exit)) (now (y .exit)) (now (z .exit)) (now (t .exit))
-        ≡ goneOf false first (turnsFrom (turnsIn (now (velocities .entry)) (now (marks .entry)) plans) n 0) before (flatOf (now (x .entry)) (now (y .entry)) (now (z .entry)) (now (t .entry))) .list)
-        × (r ≡ goneOf false first (turnsFrom (turnsIn (now (velocities .entry)) (now (marks .entry)) plans) n 0) before (flatOf (now (x .entry)) (now (y .entry)) (now (z .entry)) (now (t .entry))) .standings) ⌝ }
+        ≡ goneOf false first (passesFrom (passIn (now (velocities .entry)) (now (marks .entry)) plans) n 0) before (flatOf (now (x .entry)) (now (y .entry)) (now (z .entry)) (now (t .entry))) .list)
+        × (r ≡ goneOf false first (passesFrom (passIn (now (velocities .entry)) (now (marks .entry)) plans) n 0) before (flatOf (now (x .entry)) (now (y .entry)) (now (z .entry)) (now (t .entry))) .standings) ⌝ }
 {
     let mut standings = before;
     let mut i = 0;
@@ -143,8 +153,8 @@ fn backward(
 ) -> [Standing; 16]
     requires { ⌜ (n ≤ 16) × Level (now x) (now y) (now z) (now t) × (first + length (now x) < 4611686018427387904) × Few first before ⌝ }
     ensures { λ r. ⌜ (flatOf (now (x .exit)) (now (y .exit)) (now (z .exit)) (now (t .exit))
-        ≡ goneOf true first (turnsFrom (turnsIn (now (velocities .entry)) (now (marks .entry)) plans) n 0) before (flatOf (now (x .entry)) (now (y .entry)) (now (z .entry)) (now (t .entry))) .list)
-        × (r ≡ goneOf true first (turnsFrom (turnsIn (now (velocities .entry)) (now (marks .entry)) plans) n 0) before (flatOf (now (x .entry)) (now (y .entry)) (now (z .entry)) (now (t .entry))) .standings) ⌝ }
+        ≡ goneOf true first (passesFrom (passIn (now (velocities .entry)) (now (marks .entry)) plans) n 0) before (flatOf (now (x .entry)) (now (y .entry)) (now (z .entry)) (now (t .entry))) .list)
+        × (r ≡ goneOf true first (passesFrom (passIn (now (velocities .entry)) (now (marks .entry)) plans) n 0) before (flatOf (now (x .entry)) (now (y .entry)) (now (z .entry)) (now (t .entry))) .standings) ⌝ }
 {
     let mut standings = before;
     let mut i = n;
@@ -174,8 +184,8 @@ fn all_steps(
 ) -> [Standing; 16]
     requires { ⌜ (n ≤ 16) × Level (now x) (now y) (now z) (now t) × (first + length (now x) < 4611686018427387904) × Few first before ⌝ }
     ensures { λ r. ⌜ (flatOf (now (x .exit)) (now (y .exit)) (now (z .exit)) (now (t .exit))
-        ≡ goneOf inverse first (turnsFrom (turnsIn (now (velocities .entry)) (now (marks .entry)) plans) n 0) before (flatOf (now (x .entry)) (now (y .entry)) (now (z .entry)) (now (t .entry))) .list)
-        × (r ≡ goneOf inverse first (turnsFrom (turnsIn (now (velocities .entry)) (now (marks .entry)) plans) n 0) before (flatOf (now (x .entry)) (now (y .entry)) (now (z .entry)) (now (t .entry))) .standings) ⌝ }
+        ≡ goneOf inverse first (passesFrom (passIn (now (velocities .entry)) (now (marks .entry)) plans) n 0) before (flatOf (now (x .entry)) (now (y .entry)) (now (z .entry)) (now (t .entry))) .list)
+        × (r ≡ goneOf inverse first (passesFrom (passIn (now (velocities .entry)) (now (marks .entry)) plans) n 0) before (flatOf (now (x .entry)) (now (y .entry)) (now (z .entry)) (now (t .entry))) .standings) ⌝ }
 {
     if inverse {
         return backward(plans, n, first, before, x, y, z, t, velocities, marks);
@@ -199,8 +209,8 @@ fn window(
     marks: &[u8],
 ) -> [Standing; 16]
     requires { ⌜ (n ≤ 16) × Level (now x) (now y) (now z) (now t) × (length (now list) ≡ 4 * length (now x)) × (first + length (now x) < 4611686018427387904) × Few first before ⌝ }
-    ensures { λ r. ⌜ (now (list .exit) ≡ goneOf inverse first (turnsFrom (turnsIn (now (velocities .entry)) (now (marks .entry)) plans) n 0) before (now (list .entry)) .list)
-        × (r ≡ goneOf inverse first (turnsFrom (turnsIn (now (velocities .entry)) (now (marks .entry)) plans) n 0) before (now (list .entry)) .standings) ⌝ }
+    ensures { λ r. ⌜ (now (list .exit) ≡ goneOf inverse first (passesFrom (passIn (now (velocities .entry)) (now (marks .entry)) plans) n 0) before (now (list .entry)) .list)
+        × (r ≡ goneOf inverse first (passesFrom (passIn (now (velocities .entry)) (now (marks .entry)) plans) n 0) before (now (list .entry)) .standings) ⌝ }
 {
     columns::to_columns(list, x, y, z, t);
     let standings = all_steps(
@@ -222,7 +232,7 @@ fn window(
 
 // ----- window after window ---------------------------------------------------------------------
 
-// The first n plans, sixteen at most, over a flat list: the count of each, and 0 in the other
+// The first n plans, sixteen at most, over a flat list: the tally of each, and zeros in the other
 // places.
 pub fn over(
     inverse: bool,
@@ -231,9 +241,9 @@ pub fn over(
     list: &mut [f64],
     velocities: &[f64],
     marks: &[u8],
-) -> [usize; 16]
+) -> [Tally; 16]
     ensures { λ r. ⌜ (now (list .exit) ≡ goneOver inverse (now (velocities .entry)) (now (marks .entry)) plans n (now (list .entry)) .list)
-        × (r ≡ countsOf (goneOver inverse (now (velocities .entry)) (now (marks .entry)) plans n (now (list .entry)) .standings)) ⌝ }
+        × (r ≡ talliesOf (goneOver inverse (now (velocities .entry)) (now (marks .entry)) plans n (now (list .entry)) .standings)) ⌝ }
 {
     let mut x = step_windows::room();
     let mut y = step_windows::room();
@@ -264,5 +274,5 @@ pub fn over(
         standings = after;
         i += m;
     }
-    counts_of(standings)
+    tallies_of(standings)
 }

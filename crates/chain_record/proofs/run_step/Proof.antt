@@ -1,7 +1,8 @@
--- Calls are replaced by what they ensure, and the plan by its step (`plan-turns`, `plan-start`).
+-- Calls are replaced by what they ensure, and the plan by its step (`plan-list`,
+-- `plan-tally`).
 -- Assumes nothing.
-use Rattle.chain.specs.Chain.{stepListOf, tuplesCountedOf}
-use Rattle.chain.proofs.Windows.{plan-turns, plan-start}
+use mathlib.Core.Path.{_∙_}
+use Rattle.chain_record.proofs.Plans.{plan-list, plan-tally}
 use borrow.Author.Needs.{needs}
 use Rattle.chain_record.proofs.run_step.Statement.{statement}
 use Rattle.chain_record.proofs.run_step.Tie as tie
@@ -19,10 +20,11 @@ same-length : tie.Need-same-length
 same-length c = search needs
 
 returns : tie.Need-returns
-unfolding stepListOf tuplesCountedOf
 returns c =
-    let plan = c .before .before .before .before .plan-of-step .ensures in
-    rw (← c .before .before .before .before .before .reversed .ensures) (rw (plan, plan-turns, plan-start) at (c .before .before .over .ensures))
+    let there = c .before .before .before .before .plan-of-step .ensures in
+    let turned = c .before .before .before .before .before .reversed .ensures in
+    let e = c .before .before .over .ensures in
+    (e .0 ∙ plan-list _ _ _ _ _ turned there, e .1 ∙ plan-tally _ _ _ _ _ turned there)
 
 pub run-step-spec : {M : Type 1} → statement M
 run-step-spec = tie.close (tie.spec reversed-requires plan-of-step-requires over-requires same-length returns)

@@ -8,7 +8,7 @@ use mathlib.Core.Path.{_≡_, refl}
 use mathlib.Core.Bool.{true, false}
 use lib.ListN.{length}
 use Rattle.columns.specs.Columns.{Level, flatOf}
-use Rattle.windows.specs.Steps.{turnsIn}
+use Rattle.windows.specs.Steps.{passIn}
 use Rattle.windows.proofs.Steps.{Forward, absentStanding, forward-start, forward-few, forward-again, forward-end}
 use borrow.Author.Needs.{needs}
 use Rattle.windows.proofs.forward.Statement.{statement}
@@ -16,7 +16,7 @@ use Rattle.windows.proofs.forward.Tie as tie
 
 abbrev Inv-loop : tie.InvT-loop
 Inv-loop n first x₀ y₀ z₀ t₀ velocities marks plans standings₀ i₀ x y z t standings i =
-    Level x y z t × (length x ≡ length x₀) × Forward (turnsIn velocities marks plans) n first standings₀ (flatOf x₀ y₀ z₀ t₀) i standings (flatOf x y z t)
+    Level x y z t × (length x ≡ length x₀) × Forward (passIn velocities marks plans) n first standings₀ (flatOf x₀ y₀ z₀ t₀) i standings (flatOf x y z t)
 
 abbrev μ-loop : tie.MeasureT-loop
 μ-loop n first x₀ y₀ z₀ t₀ velocities marks plans standings₀ i₀ x y z t standings i = n - i
