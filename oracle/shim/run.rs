@@ -46,6 +46,53 @@ fn steps(job: &Job, listed: bool) -> Ran {
     ran
 }
 
+/// What is seen of a step at one tuple: before its operator is made, after it is, and after it was
+/// applied. `listed` tells the one listed difference: the Rust took a latitude where ours is NaN.
+#[allow(dead_code)]
+pub trait Watch {
+    fn begun(&mut self);
+    fn made(&mut self);
+    fn applied(&mut self, step: usize, kind: &Body, counted: bool, listed: bool);
+}
+
+/// The chain once more, watched a tuple at a time: each step's operator is made anew for every tuple
+/// of the list that reaches the step, and applied to it as a list of its own. In running mode such a
+/// list uses the matrix at its own time, as the whole list does, whose last time is then that one.
+#[allow(dead_code)]
+pub fn watched(job: &Job, watch: &mut impl Watch) {
+    if run(job).answer.refusal != 0 {
+        return;
+    }
+    let mut order: Vec<usize> = (0..job.steps.len()).collect();
+    if job.inverse {
+        order.reverse();
+    }
+    let mut list = job.list.clone();
+    for i in order {
+        let step = &job.steps[i];
+        let turned = (step.inverted != job.inverse) != by_the_comment(step);
+        for (k, tuple) in list.chunks_exact(4).enumerate() {
+            let lent = |n: usize, all: usize| if all == 0 { 0..0 } else { n * k..n * (k + 1) };
+            let alone = Job {
+                steps: vec![],
+                list: tuple.to_vec(),
+                velocities: job.velocities[lent(3, job.velocities.len())].to_vec(),
+                marks: job.marks[lent(1, job.marks.len())].to_vec(),
+                ..job.clone()
+            };
+            watch.begun();
+            let op = operator(&step.body, &alone).expect("made before");
+            watch.made();
+            let mut after = tuple.to_vec();
+            let counted = apply(&op, step, turned, &alone, &mut after);
+            let listed = nan_z_on_the_axis(&op, step, turned, &alone, tuple, &mut after);
+            watch.applied(i, &step.body, counted == 1, listed == 1);
+        }
+        let alone = Job { inverse: job.inverse, steps: vec![job.steps[i].clone()], list, ..job.clone() };
+        list = run(&alone).answer.list;
+    }
+}
+
 /// Whether a step has deformation's flag 2, with which the Rust is run the other way round.
 fn by_the_comment(step: &Step) -> bool {
     matches!(step.body, Body::Deformation { flags, .. } if flags & 2 != 0)

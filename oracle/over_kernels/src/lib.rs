@@ -22,9 +22,11 @@ mod kernels {
 
     impl Kernels for f64 {
         fn k_sin(self) -> f64 {
+            crate::reach::asked(self);
             ours::sin(self)
         }
         fn k_sin_cos(self) -> (f64, f64) {
+            crate::reach::asked(self);
             ours::sin_cos(self)
         }
         fn k_sqrt(self) -> f64 {
@@ -59,7 +61,64 @@ use shim::*;
 
 include!(concat!(env!("OUT_DIR"), "/files.rs"));
 
+pub use reach::out_of_reach;
 pub use run::{Ran, run};
+
+/// Document 02, A5: how many tuples met an angle out of reach, counted where the Rust takes a sine or
+/// a cosine.
+mod reach {
+    use crate::run::{Watch, watched};
+    use job::{Body, Job};
+    use std::cell::Cell;
+
+    thread_local! {
+        /// Whether a sine was asked for since the mark was cleared, and whether of an angle that is
+        /// not finite or beyond 1024.
+        static MARK: Cell<(bool, bool)> = const { Cell::new((false, false)) };
+    }
+
+    pub fn asked(angle: f64) {
+        let out = !(angle.abs() <= 1024.0);
+        MARK.with(|mark| mark.set((true, mark.get().1 || out)));
+    }
+
+    fn taken() -> (bool, bool) {
+        MARK.with(|mark| mark.replace((false, false)))
+    }
+
+    #[derive(Default)]
+    struct Counts {
+        made: (bool, bool),
+        numbers: [u32; 16],
+    }
+
+    impl Watch for Counts {
+        fn begun(&mut self) {
+            taken();
+        }
+
+        /// What `new` asked for: Helmert's matrix of the sheet's own angles.
+        fn made(&mut self) {
+            self.made = taken();
+        }
+
+        /// A step that asks for a sine at the tuple goes by that; else the matrix that `new` made is
+        /// used. A fix without its time uses none in own-epoch mode, and is the one fix that Helmert
+        /// does not count (A3). By the listed difference deformation's latitude is NaN.
+        fn applied(&mut self, step: usize, kind: &Body, counted: bool, listed: bool) {
+            let (asked, out) = taken();
+            let met = if asked { out } else { self.made.1 } || listed && matches!(kind, Body::Deformation { .. });
+            let used = counted || !matches!(kind, Body::Helmert(_));
+            self.numbers[step] += (met && used) as u32;
+        }
+    }
+
+    pub fn out_of_reach(job: &Job) -> [u32; 16] {
+        let mut counts = Counts::default();
+        watched(job, &mut counts);
+        counts.numbers
+    }
+}
 
 /// `geographic` on an ellipsoid of the table. `deformation` alone calls it, and leaves its height unread. On the axis a NaN Z gives
 /// φ NaN, the listed difference.

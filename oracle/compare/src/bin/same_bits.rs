@@ -1,6 +1,7 @@
 //! The same-bits run (document 01's second oracle): every bit of our answers beside those of the published
-//! code over our kernels, and what `sillfeather_check` says of each sheet beside the Rust's `new`. No
-//! tolerance.
+//! code over our kernels, what `sillfeather_check` says of each sheet beside the Rust's `new`, and how
+//! many tuples met an angle out of reach beside a mark set where the Rust takes a sine or a cosine
+//! (document 02, A5). No tolerance.
 //!
 //!     same_bits [tuples a suite and direction, 50000] [seed, 1]
 use compare::{
@@ -19,6 +20,7 @@ struct Tally {
     jobs: usize,
     refused: usize,
     listed: usize,
+    out_of_reach: u32,
     parted: usize,
 }
 
@@ -33,8 +35,8 @@ fn main() -> ExitCode {
             let name = format!("{} {}", suite.name, if inverse { "inverse" } else { "forward" });
             let tally = compare(&name, wanted, |n, r| suite.job(r, inverse, n), &mut r);
             println!(
-                "{name}: {} tuples, {} without NaN, in {} jobs, {} refused alike, {} with a NaN Z on the axis, {} parted",
-                tally.tuples, tally.whole, tally.jobs, tally.refused, tally.listed, tally.parted
+                "{name}: {} tuples, {} without NaN, in {} jobs, {} refused alike, {} with a NaN Z on the axis, {} out of reach, {} parted",
+                tally.tuples, tally.whole, tally.jobs, tally.refused, tally.listed, tally.out_of_reach, tally.parted
             );
             if tally.parted == 0 { passed += 1 } else { failed += 1 }
         }
@@ -59,8 +61,12 @@ fn compare(name: &str, wanted: usize, draw: impl Fn(usize, &mut Random) -> job::
         } else {
             tally.refused += 1;
         }
-        let checked = ours::check(&job::sheet(&job.steps));
-        if !ran.answer.same(&ours) || checked != (ran.answer.refusal, ran.answer.step) {
+        let sheet = job::sheet(&job.steps);
+        let checked = ours::check(&sheet);
+        let marked = over_kernels::out_of_reach(&job);
+        let (_, met) = ours::shift_reach(job.inverse, &sheet, &job.list, &job.velocities, &job.marks);
+        tally.out_of_reach += marked.iter().sum::<u32>();
+        if !ran.answer.same(&ours) || checked != (ran.answer.refusal, ran.answer.step) || met != marked {
             tally.parted += 1;
             if tally.parted <= 3 {
                 tell::difference(name, &job, &ran.answer, &ours);
