@@ -1,7 +1,7 @@
 -- Document 02, A5: which tuples meet an angle out of reach of sine and cosine, step by step. The
--- angles are those that the step's own definition takes the sine or cosine of, and an angle is out of
--- reach where the kernel answers so (trig's `outOfReach`). A tuple counts once, however many of its
--- angles are out of reach.
+-- angles are those that the step's own definition takes the sine or cosine of, and an angle is out
+-- of reach where the kernel answers so (trig's `outOfReach`). A tuple counts once, however many of
+-- its angles are out of reach.
 use Prim.Native.Nat.{ℕ}
 use mathlib.Core.Bool.{Bool, false, not, cond, _&&_, _||_}
 use mathlib.Core.List.{List}

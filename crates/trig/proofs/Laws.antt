@@ -251,7 +251,8 @@ out-exactly x = go (outOfReach x)
     go true = refl
     go false = refl
 
--- which is where the sine is NaN, and the cosine: what a block, which hands numbers on, has for a mark
+-- which is where the sine is NaN, and the cosine: what a block, which hands numbers on, has for a
+-- mark
 pub out-where-sine-is-nan : (x : Float) → isNan (sinOf x) ≡ outOfReach x
 unfolding outOfReach
 out-where-sine-is-nan x = sine-is-nan-exactly-out-of-reach x

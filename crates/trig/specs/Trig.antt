@@ -137,13 +137,13 @@ sinCosOf x = record { s = sinOf x; c = cosOf x }
 
 -- ---- the kernel's answer: the pair of numbers, or out of reach
 
--- An angle is out of reach exactly where it is not finite or beyond ±1024: its magnitude is then not
--- at most 1024.
+-- An angle is out of reach exactly where it is not finite or beyond ±1024: its magnitude is then
+-- not at most 1024.
 unfoldable pub outOfReach : Float → Bool
 outOfReach x = not (le (absOf x) reach)
 
--- Either the pair of numbers or "out of reach", the latter exactly for an angle not finite or beyond
--- ±1024.
+-- Either the pair of numbers or "out of reach", the latter exactly for an angle not finite or
+-- beyond ±1024.
 unfoldable pub angleOf : Float → Angle
 angleOf x = cond (outOfReach x) OutOfReach (Pair (sinCosOf x))
 

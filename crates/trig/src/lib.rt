@@ -8,11 +8,11 @@
 // sine and cosine, in which only the last addition rounds a number of the result's size.
 //
 // Proved: the answer is the definition's for every angle; within -1 to 1; sine odd, cosine even;
-// sine of a zero is that zero, cosine of a zero is 1. The answer is either the pair of numbers or "out
-// of reach", the latter exactly for an angle not finite or beyond ±1024 (document 02, A5); its numbers
-// are then NaN, and only then. Measured: within 0.59·2^-53 for |x| up to 8, and within 1.35 units in
-// the last place for every angle in reach. Every step of a shift that meets a latitude or an exact
-// rotation uses the pair.
+// sine of a zero is that zero, cosine of a zero is 1. The answer is either the pair of numbers or
+// "out of reach", the latter exactly for an angle not finite or beyond ±1024 (document 02, A5); its
+// numbers are then NaN, and only then. Measured: within 0.59·2^-53 for |x| up to 8, and within 1.35
+// units in the last place for every angle in reach. Every step of a shift that meets a latitude or
+// an exact rotation uses the pair.
 ghost use mathlib.Core.Path.{_≡_};
 ghost use Prim.Native.Nat.{_%_};
 ghost use Rattle.trig.specs.Table.{rowOf, asideOf, halfOf};
@@ -26,8 +26,8 @@ pub struct SinCos {
     pub c: f64,
 }
 
-// What sine and cosine of an angle are: the pair of numbers, or out of reach, the latter exactly for
-// an angle not finite or beyond ±1024.
+// What sine and cosine of an angle are: the pair of numbers, or out of reach, the latter exactly
+// for an angle not finite or beyond ±1024.
 pub enum Angle {
     OutOfReach,
     Pair(SinCos),
