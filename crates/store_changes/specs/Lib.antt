@@ -1,0 +1,2 @@
+-- What the contracts of `store_changes` cite.
+pub mod Changes

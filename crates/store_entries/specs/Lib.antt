@@ -1,0 +1,2 @@
+-- What the contracts of `store_entries` cite.
+pub mod Places

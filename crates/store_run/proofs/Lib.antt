@@ -1,0 +1,2 @@
+-- The tests.
+pub mod Tests

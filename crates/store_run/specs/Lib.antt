@@ -1,0 +1,2 @@
+-- What the contracts of `store_run` cite.
+pub mod Run
