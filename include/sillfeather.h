@@ -90,6 +90,11 @@ enum {
                                              tuples */
     SILLFEATHER_REFUSED_ROOM = 15,        /* the room is too short for the sheet, or a rescue's list
                                              for its changes */
+    SILLFEATHER_REFUSED_GRID = 17,        /* a velocity grid of fewer than 8 bytes, with a count
+                                             outside 2 to 64, or of another length than its counts
+                                             say */
+    SILLFEATHER_REFUSED_GRID_NUMBER = 18, /* a number of a velocity grid not finite, or a spacing not
+                                             positive */
     SILLFEATHER_REFUSED_RESCUE = 19       /* the damaged sheet cannot be rebuilt */
 };
 
@@ -113,6 +118,20 @@ uint32_t sillfeather_check(const uint8_t *sheet, size_t sheet_len);
  *   Leaves    on refusal the list as it was, and zeros in counts. */
 uint32_t sillfeather_shift(uint32_t inverse, const uint8_t *sheet, size_t sheet_len, double *list, size_t list_len, const double *velocities,
                            size_t velocities_len, const uint8_t *marks, size_t marks_len, uint32_t counts[16]);
+
+/* ----- a velocity grid ------------------------------------------------------------------------ */
+
+/* A VELOCITY GRID is 136 to 98,344 bytes: two counts, a corner, two spacings and the velocities at
+ * the nodes. docs/FORMAT.md gives it byte by byte, with the sequence of roundings by which a velocity
+ * is found. The grid's edges belong to it. Longitudes are not wrapped: a grid that begins west of ±π
+ * finds nothing on the other side. */
+#define SILLFEATHER_GRID_MAX 98344 /* bytes: 64 rows by 64 columns */
+
+/* Whether a velocity grid breaks no rule.
+ *   Reads     the grid.
+ *   Writes    nothing.
+ *   Refuses   17, then 18, without a step. */
+uint32_t sillfeather_check_grid(const uint8_t *grid, size_t grid_len);
 
 /* ----- the kept run -------------------------------------------------------------------------- */
 

@@ -101,6 +101,7 @@ unsafe extern "C" {
         changes_len: usize,
         changed: *mut u64,
     ) -> u32;
+    fn sillfeather_check_grid(grid: *const u8, grid_len: usize) -> u32;
 }
 
 pub fn sin_cos(x: f64) -> (f64, f64) {
@@ -240,4 +241,9 @@ pub fn rescue(damaged: &[u8], room: &mut [u8], changes: &mut [u32]) -> (u32, u64
         )
     };
     (told, changed)
+}
+
+pub fn check_grid(grid: &[u8]) -> u32 {
+    // SAFETY: a slice with its length.
+    unsafe { sillfeather_check_grid(grid.as_ptr(), grid.len()) }
 }

@@ -60,3 +60,8 @@ pub fn rescue(damaged: &[u8], room: &mut [u8], changes: &mut [u32]) -> Result<u6
     Refusal::told(told)?;
     Ok(changed)
 }
+
+/// Whether the bytes are a velocity grid: 17 where its layout is broken, else 18 where a number is not finite or a spacing not positive.
+pub fn check_grid(grid: &[u8]) -> Result<(), Refusal> {
+    Refusal::told(ffi::check_grid(grid))
+}

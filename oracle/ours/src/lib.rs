@@ -3,6 +3,7 @@
 //! Each shift, fresh run and correction is made twice, through the flat entry and through the
 //! columns entry, and the two have to agree in the answer and in every number (`columns`).
 pub mod columns;
+pub mod grid;
 
 use job::{Answer, Job, sheet};
 
