@@ -11,6 +11,7 @@ use lib.Dec.{eqb}
 use lib.ListN.{length, getD}
 use lib.Ieee.{Float}
 use Rattle.sheet.specs.Layout.{stepCountOf}
+use Rattle.tally.specs.Tallies.{countsOf, metsOf}
 use Rattle.chain.specs.Rules.{Outcome, shiftOf}
 use Rattle.chain.proofs.ExactlyWhen.{no-number-past-eleven}
 use Rattle.text.specs.Digits.{digitsOf, placesOf, decimalOf}
@@ -27,9 +28,9 @@ letter i text = getD text i 0
 differ : (a b : ℕ) → (a ≡ b → ⊥) → a ≡ b → ⊥
 differ a b apart e = apart e
 
-ran-is-not : (steps : ℕ) (counts : List ℕ) (l : List Float) → ranText steps counts l ≡ refusedText 16 0 → ⊥
+ran-is-not : (steps : ℕ) (counts mets : List ℕ) (l : List Float) → ranText steps counts mets l ≡ refusedText 16 0 → ⊥
 unfolding letter ranText lineOf
-ran-is-not steps counts l e = differ 115 114 (λ z. omega arith) (ap (letter 0) e)
+ran-is-not steps counts mets l e = differ 115 114 (λ z. omega arith) (ap (letter 0) e)
 
 -- a case for each number: the place, and the letters that stand there in its text and in that of 16
 refused-is-not : (n step : ℕ) → n ≤ 11 → refusedText n step ≡ refusedText 16 0 → ⊥
@@ -52,8 +53,8 @@ told-is-not : (steps : ℕ) (o : Outcome) → o .answer .refusal .number ≤ 11 
 unfolding toldOf
 told-is-not steps o few = by (eqb (o .answer .refusal .number) 0)
   where
-    by : (b : Bool) → cond b (ranText steps (o .answer .counts) (o .list)) (refusedText (o .answer .refusal .number) (o .answer .refusal .step)) ≡ refusedText 16 0 → ⊥
-    by true e = ran-is-not steps (o .answer .counts) (o .list) e
+    by : (b : Bool) → cond b (ranText steps (countsOf (o .answer .tallies)) (metsOf (o .answer .tallies)) (o .list)) (refusedText (o .answer .refusal .number) (o .answer .refusal .step)) ≡ refusedText 16 0 → ⊥
+    by true e = ran-is-not steps (countsOf (o .answer .tallies)) (metsOf (o .answer .tallies)) (o .list) e
     by false e = refused-is-not (o .answer .refusal .number) (o .answer .refusal .step) few e
 
 -- ---- 16 exactly when the job is bad

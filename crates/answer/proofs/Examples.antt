@@ -9,13 +9,15 @@ use Rattle.trig.specs.Table.{rowOf}
 use Rattle.trig.specs.Trig.{reducedOf, bendOf, atMostOne, clampOf, sumOf, sineOf, cosineOf, signedOf, sinOf, cosOf}
 use Rattle.ellipsoid.specs.Figure.{ellipsoidOf, namedOf, wOf, primeVerticalOf}
 use Rattle.geocart.specs.Geocart.{cartesianOf}
+use Rattle.trig.specs.Trig.{outOfReach}
+use Rattle.tally.specs.Tallies.{eachOf}
 use Rattle.words.specs.Words.{word32, word64, numberAt, oneNanAt, le32}
 use Rattle.bodies.specs.Kinds.{lengthOf as bodyLengthOf}
 use Rattle.bodies.specs.Read.{stepOf as readOf, cartOf as cartRecordOf}
 use Rattle.bodies.specs.Rules.{stepInRule, lacksConvention, lacksEpoch, lacksDuration, writtenInRule, bodyInRule}
 use Rattle.sheet.specs.Layout.{bodyAt, entryAt}
 use Rattle.sheet.specs.Rules.{refusal1, refusal2, refusal3, refusal4, refusal5, endBefore, placeBroken, someFrom, hasDeformation, refusal11, rulesOfStep, fiveToEight, elevens, readerOrder, firstBroken, refusalOf}
-use Rattle.chain.specs.Chain.{chainForwardOf, entriesOf, stepListOf, tuplesCountedOf}
+use Rattle.chain.specs.Chain.{chainForwardOf, entriesOf, stepListOf, tuplesCountedOf, tuplesMetOf}
 use Rattle.chain.specs.Rules.{shiftOf, outcomeOf, shiftRefusalOf, refusal9, refusal10, overOne}
 use Rattle.chain.specs.MarkedPoints.{bytes, p1}
 use Rattle.text.specs.Ascii.{ascii}
@@ -27,7 +29,7 @@ use Rattle.answer.specs.MarkedPoints.{p1-job, P1Printed}
 
 -- P1, complete
 pub p1-complete : P1Printed
-unfolding bytes p1 p1-job answerOf jobText toldOf refusal16 numbersOf sheetOf tuplesOf velocitiesOf marksOf ranText lineOf countsText tuplesText tupleText wordOf decimalOf placesOf digitsOf hexOf shiftOf outcomeOf shiftRefusalOf refusal9 refusal10 overOne chainForwardOf entriesOf stepListOf tuplesCountedOf word32 word64 numberAt oneNanAt le32 bodyLengthOf bodyAt readOf cartRecordOf stepInRule lacksConvention lacksEpoch lacksDuration writtenInRule bodyInRule refusal1 refusal2 refusal3 refusal4 refusal5 endBefore placeBroken someFrom hasDeformation refusal11 rulesOfStep fiveToEight elevens readerOrder firstBroken refusalOf entryAt cartesianOf namedOf ellipsoidOf primeVerticalOf wOf sqrtOf sinOf cosOf signedOf sineOf cosineOf reducedOf rowOf bendOf sumOf clampOf atMostOne signOf isNan ofBits toBits neg add sub mul div lt le eq ne sum round size
+unfolding bytes p1 p1-job answerOf jobText toldOf refusal16 numbersOf sheetOf tuplesOf velocitiesOf marksOf ranText lineOf countsText tuplesText tupleText wordOf decimalOf placesOf digitsOf hexOf shiftOf outcomeOf shiftRefusalOf refusal9 refusal10 overOne chainForwardOf entriesOf stepListOf tuplesCountedOf tuplesMetOf eachOf outOfReach word32 word64 numberAt oneNanAt le32 bodyLengthOf bodyAt readOf cartRecordOf stepInRule lacksConvention lacksEpoch lacksDuration writtenInRule bodyInRule refusal1 refusal2 refusal3 refusal4 refusal5 endBefore placeBroken someFrom hasDeformation refusal11 rulesOfStep fiveToEight elevens readerOrder firstBroken refusalOf entryAt cartesianOf namedOf ellipsoidOf primeVerticalOf wOf sqrtOf sinOf cosOf signedOf sineOf cosineOf reducedOf rowOf bendOf sumOf clampOf atMostOne signOf isNan ofBits toBits neg add sub mul div lt le eq ne sum round size
 p1-complete = refl
 
 -- A bad job is 16, whatever stands in it: nothing, P1 without its last byte and with one more, a

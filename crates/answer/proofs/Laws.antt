@@ -15,10 +15,12 @@ use Rattle.sheet.specs.declared.Entry.{Entry}
 use Rattle.sheet.specs.Layout.{stepCountOf, kindAt, entryAt}
 use Rattle.sheet.specs.Rules.{refusalOf, hasDeformation}
 use Rattle.sheet.proofs.Order.{neither, accepted-count}
+use Rattle.plans.specs.Lent.{Lent, lentOf}
 use Rattle.chain.specs.Chain.{chainForwardOf, chainInverseOf, chainOf, entriesOf, stepListOf}
 use Rattle.chain.specs.Rules.{Outcome, shiftOf, outcomeOf, shiftRefusalOf}
 use Rattle.chain.proofs.Laws.{step-length}
 use Rattle.chain.proofs.Outcome.{refused-own}
+use Rattle.tally.specs.Tallies.{countsOf, metsOf}
 use Rattle.text.specs.Text.{text, appended}
 use Rattle.text.proofs.Laws.{fits}
 use Rattle.job.specs.Job.{headOf, tuplesAt, velocitiesAt, marksAt, endAt, refusal16, numbersOf, sheetOf, tuplesOf, velocitiesOf, marksOf}
@@ -84,27 +86,27 @@ pick-length : (b : Bool) (x y : Outcome) (n : ℕ) → length (x .list) ≡ n �
 pick-length true x y n p q = p
 pick-length false x y n p q = q
 
-forward-length : (velocities : List Float) (marks : List ℕ) (es : List Entry) (l : List Float) → length (chainForwardOf velocities marks es l .list) ≡ length l
+forward-length : (lent : Lent) (es : List Entry) (l : List Float) → length (chainForwardOf lent es l .list) ≡ length l
 unfolding chainForwardOf
-forward-length velocities marks [] l = refl
-forward-length velocities marks (e ∷ es) l =
-    forward-length velocities marks es (stepListOf false velocities marks e l) ∙ step-length false velocities marks e l
+forward-length lent [] l = refl
+forward-length lent (e ∷ es) l =
+    forward-length lent es (stepListOf false lent e l) ∙ step-length false lent e l
 
-inverse-length : (velocities : List Float) (marks : List ℕ) (es : List Entry) (l : List Float) → length (chainInverseOf velocities marks es l .list) ≡ length l
+inverse-length : (lent : Lent) (es : List Entry) (l : List Float) → length (chainInverseOf lent es l .list) ≡ length l
 unfolding chainInverseOf
-inverse-length velocities marks [] l = refl
-inverse-length velocities marks (e ∷ es) l = step-length true velocities marks e (chainInverseOf velocities marks es l .list) ∙ inverse-length velocities marks es l
+inverse-length lent [] l = refl
+inverse-length lent (e ∷ es) l = step-length true lent e (chainInverseOf lent es l .list) ∙ inverse-length lent es l
 
-chain-length : (inverse : Bool) (velocities : List Float) (marks : List ℕ) (es : List Entry) (l : List Float)
-    → length (chainOf inverse velocities marks es l .list) ≡ length l
-chain-length true velocities marks es l = inverse-length velocities marks es l
-chain-length false velocities marks es l = forward-length velocities marks es l
+chain-length : (inverse : Bool) (lent : Lent) (es : List Entry) (l : List Float)
+    → length (chainOf inverse lent es l .list) ≡ length l
+chain-length true lent es l = inverse-length lent es l
+chain-length false lent es l = forward-length lent es l
 
 shift-length : (inverse : Bool) (s : List ℕ) (l velocities : List Float) (marks : List ℕ) → length (shiftOf inverse s l velocities marks .list) ≡ length l
 unfolding shiftOf outcomeOf
 shift-length inverse s l velocities marks =
     pick-length (eqb (shiftRefusalOf (refusalOf s) (hasDeformation (kindAt s) (stepCountOf s)) l velocities marks .number) 0) _ _ (length l)
-    (chain-length inverse velocities marks (entriesOf (entryAt s) (stepCountOf s) 0) l) refl
+    (chain-length inverse (lentOf velocities marks []) (entriesOf (entryAt s) (stepCountOf s) 0) l) refl
 
 -- a sheet that runs has at most sixteen steps
 few-steps : (inverse : Bool) (s : List ℕ) (l velocities : List Float) (marks : List ℕ) → shiftOf inverse s l velocities marks .answer .refusal .number ≡ 0
@@ -119,19 +121,19 @@ few-steps inverse s l velocities marks h = by (eqb (refusalOf s .number) 0) refl
         let own = refused-own (refusalOf s) (hasDeformation (kindAt s) (stepCountOf s)) inverse (entriesOf (entryAt s) (stepCountOf s) 0) l velocities marks broken in
         absurd (broken (ap (λ (o : Outcome). o .answer .refusal .number) (sym own) ∙ h))
 
-told-is-short : (steps : ℕ) (o : Outcome) → (o .answer .refusal .number ≡ 0 → steps ≤ 16) → length (o .list) ≤ 2048 → length (toldOf steps o) ≤ 35751
+told-is-short : (steps : ℕ) (o : Outcome) → (o .answer .refusal .number ≡ 0 → steps ≤ 16) → length (o .list) ≤ 2048 → length (toldOf steps o) ≤ 36295
 unfolding toldOf
 told-is-short steps o few l = by (eqb (o .answer .refusal .number) 0) refl
   where
     by : (b : Bool) → eqb (o .answer .refusal .number) 0 ≡ b
-        → length (cond b (ranText steps (o .answer .counts) (o .list)) (refusedText (o .answer .refusal .number) (o .answer .refusal .step))) ≤ 35751
+        → length (cond b (ranText steps (countsOf (o .answer .tallies)) (metsOf (o .answer .tallies)) (o .list)) (refusedText (o .answer .refusal .number) (o .answer .refusal .step))) ≤ 36295
     by true e =
         let s = few (eqb-true (o .answer .refusal .number) 0 e) in
-        let r = ran-is-short steps (o .answer .counts) (o .list) in
+        let r = ran-is-short steps (countsOf (o .answer .tallies)) (metsOf (o .answer .tallies)) (o .list) in
         omega arith
     by false e = let r = refused-is-short (o .answer .refusal .number) (o .answer .refusal .step) in omega arith
 
-job-is-short : (j : List ℕ) → Good (headOf j) (length j) → length (jobText j) ≤ 35751
+job-is-short : (j : List ℕ) → Good (headOf j) (length j) → length (jobText j) ≤ 36295
 unfolding jobText
 job-is-short j g =
     let n : length (tuplesOf j) ≡ 4 * headOf j .tuples = length-tuples j in
@@ -140,12 +142,12 @@ job-is-short j g =
     (few-steps (asksInverse j) (sheetOf j) (tuplesOf j) (velocitiesOf j) (marksOf j))
     (rw (shift-length (asksInverse j) (sheetOf j) (tuplesOf j) (velocitiesOf j) (marksOf j)) (omega arith))
 
--- No text is longer than 35,751 bytes, so that the program's room of 65,536 holds every one.
-pub text-is-short : (j : List ℕ) → length (answerOf j) ≤ 35751
+-- No text is longer than 36,295 bytes, so that the program's room of 65,536 holds every one.
+pub text-is-short : (j : List ℕ) → length (answerOf j) ≤ 36295
 unfolding answerOf
 text-is-short j = by (refusal16 (headOf j) (length j)) refl
   where
-    by : (b : Bool) → refusal16 (headOf j) (length j) ≡ b → length (cond b (refusedText 16 0) (jobText j)) ≤ 35751
+    by : (b : Bool) → refusal16 (headOf j) (length j) ≡ b → length (cond b (refusedText 16 0) (jobText j)) ≤ 36295
     by true e = let r = refused-is-short 16 0 in omega arith
     by false e = job-is-short j (good-job (headOf j) (length j) e)
 

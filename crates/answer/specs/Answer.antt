@@ -6,6 +6,7 @@ use lib.Dec.{eqb}
 use lib.ListN.{length}
 use lib.Ieee.{Float}
 use Rattle.sheet.specs.Layout.{stepCountOf}
+use Rattle.tally.specs.Tallies.{countsOf, metsOf}
 use Rattle.chain.specs.Rules.{Outcome, shiftOf}
 use Rattle.job.specs.Job.{headOf, refusal16, asksInverse, sheetOf, tuplesOf, velocitiesOf, marksOf}
 use Rattle.report.specs.Report.{refusedText, ranText}
@@ -14,7 +15,7 @@ use Rattle.report.specs.Report.{refusedText, ranText}
 unfoldable pub toldOf : ℕ → Outcome → List ℕ
 toldOf steps o =
     cond (eqb (o .answer .refusal .number) 0)
-    (ranText steps (o .answer .counts) (o .list))
+    (ranText steps (countsOf (o .answer .tallies)) (metsOf (o .answer .tallies)) (o .list))
     (refusedText (o .answer .refusal .number) (o .answer .refusal .step))
 
 abbrev pub shiftText : Bool → List ℕ → List Float → List Float → List ℕ → List ℕ

@@ -2,7 +2,7 @@
 // shifts, `report` tells.
 //
 // Document 01, "Program". The text is fixed for every job by specs/Answer.antt, in a room of any
-// length; the longest text has 35,147 bytes. A bad job is 16, before all others. No rounding but
+// length; the longest text has 35,419 bytes. A bad job is 16, before all others. No rounding but
 // the steps' own. Used by the program `shift`.
 ghost use mathlib.Core.Path.{_≡_};
 ghost use Prim.Native.Nat.{_*_, _≤_};
@@ -28,8 +28,10 @@ fn told(
     if refusal.number != 0 {
         return report::refused(room, 0, refusal.number, refusal.step);
     }
-    let counts = said.counts;
-    report::ran(room, 0, sheet::step_count(s), &counts, list)
+    let tallies = said.tallies;
+    let counts = tally::counts(tallies);
+    let mets = tally::mets(tallies);
+    report::ran(room, 0, sheet::step_count(s), &counts, &mets, list)
 }
 
 // A job's sheet over its list, in lists as long as its words say.

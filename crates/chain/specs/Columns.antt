@@ -11,6 +11,7 @@ use Rattle.sheet.specs.declared.Entry.{Entry}
 use Rattle.sheet.specs.declared.Refusal.{Refusal}
 use Rattle.sheet.specs.Layout.{stepCountOf, kindAt, entryAt}
 use Rattle.sheet.specs.Rules.{ofCall, rule, firstBroken, hasDeformation, refusalOf}
+use Rattle.plans.specs.Lent.{lentOf}
 use Rattle.chain.specs.declared.Answer.{Answer}
 use Rattle.chain.specs.Chain.{Run, chainOf, placesOf, entriesOf}
 use Rattle.chain.specs.Rules.{refusal10, refusedAnswer, ranAnswer}
@@ -38,14 +39,14 @@ columnsOutcome answer c = record { answer = answer; columns = c }
 
 -- the columns of what the chain makes of the flat list that the columns stand for
 abbrev pub ranColumns : Run → ColumnsOutcome
-ranColumns run = columnsOutcome (ranAnswer (placesOf (run .counts))) (columnsOf (run .list))
+ranColumns run = columnsOutcome (ranAnswer (placesOf (run .tallies))) (columnsOf (run .list))
 
 -- refused: every column as it was
 unfoldable pub columnsOutcomeOf : Refusal → Bool → Bool → List Entry → Columns → List Float → List ℕ → ColumnsOutcome
 columnsOutcomeOf own deforms inverse es c velocities marks =
     let refusal = columnsRefusalOf own deforms c velocities marks in
     cond (eqb (refusal .number) 0)
-    (ranColumns (chainOf inverse velocities marks es (flatOf (c .x) (c .y) (c .z) (c .t))))
+    (ranColumns (chainOf inverse (lentOf velocities marks []) es (flatOf (c .x) (c .y) (c .z) (c .t))))
     (columnsOutcome (refusedAnswer refusal) c)
 
 -- over a sheet's bytes

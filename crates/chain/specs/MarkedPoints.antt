@@ -12,6 +12,8 @@ use Rattle.ellipsoid.specs.Figure.{namedOf}
 use Rattle.geocart.specs.Geocart.{halfPi}
 use Rattle.words.specs.Words.{le32}
 use Rattle.sheet.specs.Rules.{ofCall, ofStep}
+use Rattle.tally.specs.declared.Tally.{Tally}
+use Rattle.tally.specs.Tallies.{noTally}
 use Rattle.chain.specs.Rules.{outcome, refusedAnswer, ranAnswer, shiftOf}
 
 -- ---- sheets and lists to look at
@@ -73,9 +75,9 @@ y2002 = bits 0x409f_4800_0000_0000
 unfoldable pub shifted-x : ℕ → List Float → List Float
 shifted-x flags times = xs (shiftOf false (helmertSheet flags 0x3ff00000 0 0x409f4000) (fixes times) [] [] .list)
 
--- the counts of a sheet of one step
-unfoldable pub only : ℕ → List ℕ
-only n = n ∷ replicate 15 0
+-- the tallies of a sheet of one step that counts n tuples, none of which meets an angle out of reach
+unfoldable pub only : ℕ → List Tally
+only n = record { count = n; met = 0 } ∷ replicate 15 noTally
 
 -- ---- the table
 

@@ -10,6 +10,9 @@ use Rattle.sheet.specs.declared.Entry.{Entry}
 use Rattle.sheet.specs.declared.Refusal.{Refusal}
 use Rattle.sheet.specs.Layout.{stepCountOf, kindAt, entryAt}
 use Rattle.sheet.specs.Rules.{accepted, ofCall, rule, firstBroken, hasDeformation, refusalOf}
+use Rattle.tally.specs.declared.Tally.{Tally}
+use Rattle.tally.specs.Tallies.{noTally}
+use Rattle.plans.specs.Lent.{lentOf}
 use Rattle.chain.specs.declared.Answer.{Answer}
 use Rattle.chain.specs.Chain.{Run, chainOf, placesOf, entriesOf}
 
@@ -52,22 +55,22 @@ pub record Outcome : Type 0 where
 abbrev pub outcome : Answer → List Float → Outcome
 outcome answer l = record { answer = answer; list = l }
 
--- refused: no counts, and the list as it was
+-- refused: zeros, and the list as it was
 abbrev pub refusedAnswer : Refusal → Answer
-refusedAnswer refusal = record { refusal = refusal; counts = replicate 16 0 }
+refusedAnswer refusal = record { refusal = refusal; tallies = replicate 16 noTally }
 
--- run: no refusal, and the counts in their places
-abbrev pub ranAnswer : List ℕ → Answer
-ranAnswer counts = record { refusal = accepted; counts = counts }
+-- run: no refusal, and the tallies in their places
+abbrev pub ranAnswer : List Tally → Answer
+ranAnswer tallies = record { refusal = accepted; tallies = tallies }
 
 -- the list after the last step
 abbrev pub ranOutcome : Run → Outcome
-ranOutcome run = outcome (ranAnswer (placesOf (run .counts))) (run .list)
+ranOutcome run = outcome (ranAnswer (placesOf (run .tallies))) (run .list)
 
 unfoldable pub outcomeOf : Refusal → Bool → Bool → List Entry → List Float → List Float → List ℕ → Outcome
 outcomeOf own deforms inverse es l velocities marks =
     let refusal = shiftRefusalOf own deforms l velocities marks in
-    cond (eqb (refusal .number) 0) (ranOutcome (chainOf inverse velocities marks es l)) (outcome (refusedAnswer refusal) l)
+    cond (eqb (refusal .number) 0) (ranOutcome (chainOf inverse (lentOf velocities marks []) es l)) (outcome (refusedAnswer refusal) l)
 
 -- over a sheet's bytes
 unfoldable pub shiftOf : Bool → List ℕ → List Float → List Float → List ℕ → Outcome

@@ -3,19 +3,22 @@
 //
 // As `chain::shift` does over a sheet's bytes; the two agree on every sheet that is accepted
 // (proofs/Agree.antt). A record's own rules are the writer's, in a room that any sheet fits. The
-// answer, the counts and the list are fixed for every input by specs/Record.antt over chain's
+// answer, the tallies and the list are fixed for every input by specs/Record.antt over chain's
 // definitions. No rounding but the steps' own. For callers that hold a sheet as a record.
 ghost use mathlib.Core.Path.{_≡_};
+ghost use mathlib.Core.List.{[]};
 ghost use Prim.Native.Nat.{_≤_};
 ghost use Rattle.sheet.specs.Layout.{entryOf, kindIn};
 ghost use Rattle.sheet.specs.Rules.{hasDeformation};
-ghost use Rattle.chain.specs.Chain.{stepListOf, tuplesCountedOf, chainForwardOf, chainInverseOf, placesOf, entriesOf};
+ghost use Rattle.plans.specs.Lent.{lentOf};
+ghost use Rattle.chain.specs.Chain.{stepListOf, stepTallyOf, chainForwardOf, chainInverseOf, placesOf, entriesOf};
 ghost use Rattle.chain.specs.Rules.{outcome};
 ghost use Rattle.chain_record.specs.Record.{shiftRecordOf};
 use chain::Answer;
 use sheet::Entry;
 use sheet::Refusal;
 use sheet::Sheet;
+use tally::Tally;
 
 // One step over the list, a window of it at a time.
 fn run_step(
@@ -24,13 +27,15 @@ fn run_step(
     list: &mut [f64],
     velocities: &[f64],
     marks: &[u8],
-) -> usize
-    ensures { λ r. ⌜ (now (list .exit) ≡ stepListOf inverse (now (velocities .entry)) (now (marks .entry)) entry (now (list .entry)))
-        × (r ≡ tuplesCountedOf inverse (now (velocities .entry)) (now (marks .entry)) entry (now (list .entry))) ⌝ }
+) -> Tally
+    ensures { λ r. ⌜ (now (list .exit) ≡ stepListOf inverse (lentOf (now (velocities .entry)) (now (marks .entry)) []) entry (now (list .entry)))
+        × (r ≡ stepTallyOf inverse (lentOf (now (velocities .entry)) (now (marks .entry)) []) entry (now (list .entry))) ⌝ }
 {
     let inv = chain::reversed(inverse, entry);
     let step = entry.step;
-    step_windows::over(plans::plan_of_step(inv, step), list, velocities, marks)
+    let plan = plans::plan_of_step(inv, step);
+    let none = chain::no_grid(marks);
+    step_windows::over(plan, list, velocities, marks, none)
 }
 
 fn forward_record(
@@ -39,20 +44,20 @@ fn forward_record(
     list: &mut [f64],
     velocities: &[f64],
     marks: &[u8],
-) -> [usize; 16]
+) -> [Tally; 16]
     requires { ⌜ n ≤ 16 ⌝ }
-    ensures { λ r. ⌜ (now (list .exit) ≡ chainForwardOf (now (velocities .entry)) (now (marks .entry)) (entriesOf (entryOf kept) n 0) (now (list .entry)) .list)
-        × (r ≡ placesOf (chainForwardOf (now (velocities .entry)) (now (marks .entry)) (entriesOf (entryOf kept) n 0) (now (list .entry)) .counts)) ⌝ }
+    ensures { λ r. ⌜ (now (list .exit) ≡ chainForwardOf (lentOf (now (velocities .entry)) (now (marks .entry)) []) (entriesOf (entryOf kept) n 0) (now (list .entry)) .list)
+        × (r ≡ placesOf (chainForwardOf (lentOf (now (velocities .entry)) (now (marks .entry)) []) (entriesOf (entryOf kept) n 0) (now (list .entry)) .tallies)) ⌝ }
 {
-    let mut counts = [0usize; 16];
+    let mut tallies = [tally::none(); 16];
     let mut i = 0;
     while i < n {
         let entry = kept.entries[i];
-        let count = run_step(false, entry, list, velocities, marks);
-        counts[i] = count;
+        let tally = run_step(false, entry, list, velocities, marks);
+        tallies[i] = tally;
         i += 1;
     }
-    counts
+    tallies
 }
 
 fn backward_record(
@@ -61,20 +66,20 @@ fn backward_record(
     list: &mut [f64],
     velocities: &[f64],
     marks: &[u8],
-) -> [usize; 16]
+) -> [Tally; 16]
     requires { ⌜ n ≤ 16 ⌝ }
-    ensures { λ r. ⌜ (now (list .exit) ≡ chainInverseOf (now (velocities .entry)) (now (marks .entry)) (entriesOf (entryOf kept) n 0) (now (list .entry)) .list)
-        × (r ≡ placesOf (chainInverseOf (now (velocities .entry)) (now (marks .entry)) (entriesOf (entryOf kept) n 0) (now (list .entry)) .counts)) ⌝ }
+    ensures { λ r. ⌜ (now (list .exit) ≡ chainInverseOf (lentOf (now (velocities .entry)) (now (marks .entry)) []) (entriesOf (entryOf kept) n 0) (now (list .entry)) .list)
+        × (r ≡ placesOf (chainInverseOf (lentOf (now (velocities .entry)) (now (marks .entry)) []) (entriesOf (entryOf kept) n 0) (now (list .entry)) .tallies)) ⌝ }
 {
-    let mut counts = [0usize; 16];
+    let mut tallies = [tally::none(); 16];
     let mut i = n;
     while 0 < i {
         i -= 1;
         let entry = kept.entries[i];
-        let count = run_step(true, entry, list, velocities, marks);
-        counts[i] = count;
+        let tally = run_step(true, entry, list, velocities, marks);
+        tallies[i] = tally;
     }
-    counts
+    tallies
 }
 
 // Whether one of the first n steps is a deformation step.
@@ -115,9 +120,9 @@ pub fn shift_record(
         return chain::refused(Refusal::of_call(10));
     }
     if inverse {
-        let counts = backward_record(kept, n, list, velocities, marks);
-        return chain::ran(counts);
+        let tallies = backward_record(kept, n, list, velocities, marks);
+        return chain::ran(tallies);
     }
-    let counts = forward_record(kept, n, list, velocities, marks);
-    chain::ran(counts)
+    let tallies = forward_record(kept, n, list, velocities, marks);
+    chain::ran(tallies)
 }

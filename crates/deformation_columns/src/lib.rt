@@ -6,21 +6,24 @@
 // part of the list, and `first` is the index of the part's first fix. Sixteen places are worked out
 // before sixteen velocities are read, so that these may come by place from elsewhere, and no block
 // is laid out before it is needed. What depends on the record alone is worked out by the caller,
-// once a list. Proved equal, list and count, to the step's own definition from tuple to tuple, over
-// the flat list that the columns stand for. Exact: no rounding but the step's own. Used by whatever
-// runs a step over columns.
+// once a list. Beside the count stands how many fixes met an angle out of reach of sine and cosine
+// (document 02, A5); it is counted here, where the longitudes and latitudes stand. Proved equal, list
+// and both numbers, to the step's own definition from tuple to tuple, over the flat list that the
+// columns stand for. Exact: no rounding but the step's own. Used by whatever runs a step over
+// columns.
 ghost use mathlib.Core.Path.{_≡_};
-ghost use mathlib.Core.Bool.{cond};
+ghost use mathlib.Core.Bool.{cond, _&&_};
 ghost use Prim.Native.Nat.{ℕ, _+_, _*_, _^_, _≤_, _<_};
-ghost use lib.Dec.{ltb};
+ghost use lib.Dec.{eqb, ltb};
 ghost use lib.ListN.{length};
-ghost use Rattle.blocks.specs.Each.{Each, EachWhole};
+ghost use Rattle.blocks.specs.Each.{at, wholeAt, Each, EachWhole, countTo};
 ghost use Rattle.tuple.specs.Columns.{rowOf};
 ghost use Rattle.geocart.specs.Geocart.{placeOf};
 ghost use Rattle.lists.specs.Run.{ranOf, countOf};
 ghost use Rattle.lists.specs.Sixteen.{rowAt};
 ghost use Rattle.helmert.specs.Turns.{noState};
 ghost use Rattle.turns.specs.Turns.{velocityAt, markAt, movedTurns};
+ghost use Rattle.reach.specs.Met.{placeOut, movedMetTurns};
 ghost use Rattle.columns.specs.Columns.{Level, flatOf};
 ghost use Rattle.columns.specs.Passed.{Passed, laterTurns};
 use blocks::WIDTH;
@@ -82,10 +85,32 @@ fn mark_block(marks: &[u8], k: usize, m: &mut [u8; WIDTH])
     }
 }
 
+// ----- what meets an angle out of reach --------------------------------------------------------
+
+// How many of a list's fixes count, and how many met an angle out of reach.
+pub struct Moved {
+    pub count: usize,
+    pub met: usize,
+}
+
+// Of sixteen fixes by their marks, longitudes and latitudes: how many are present and have one of
+// the two out of reach.
+fn met_block(m: &[u8; WIDTH], lam: &[f64; WIDTH], phi: &[f64; WIDTH]) -> usize
+    ensures { λ r. ⌜ r ≡ countTo 16 (λ (j : ℕ). eqb (wholeAt (now (m .entry)) j) 1 && placeOut (at (now (lam .entry)) j) (at (now (phi .entry)) j)) ⌝ }
+{
+    let mut n = 0;
+    let mut i = 0;
+    while i < WIDTH {
+        n += one_if((m[i] == 1) & reach::place_out(lam[i], phi[i]));
+        i += 1;
+    }
+    n
+}
+
 // ----- the columns ---------------------------------------------------------------------------
 
 // Sixteen rows that stand from an index on, as blocks with their longitudes and latitudes: moved,
-// and put there. How many of them count.
+// and put there.
 fn moved_sixteen(
     x: &mut [f64],
     y: &mut [f64],
@@ -103,7 +128,7 @@ fn moved_sixteen(
     bt: &[f64; WIDTH],
     lam: &[f64; WIDTH],
     phi: &[f64; WIDTH],
-) -> usize
+) -> Moved
     requires { ⌜ Level (now x) (now y) (now z) (now t) × (i + 16 ≤ length (now x)) × (first + i + 16 < 2 ^ 64)
         × Each (now bx) (λ (j : ℕ). rowAt (flatOf (now x) (now y) (now z) (now t)) (4 * i) j .x)
         × Each (now by) (λ (j : ℕ). rowAt (flatOf (now x) (now y) (now z) (now t)) (4 * i) j .y)
@@ -113,7 +138,10 @@ fn moved_sixteen(
         × Each (now phi) (λ (j : ℕ). placeOf (op .ellps) (rowOf (now bx) (now by) (now bz) (now bt) j) .phi) ⌝ }
     ensures { λ r. ⌜ Passed (laterTurns first (movedTurns op inverse (now (velocities .entry)) (now (marks .entry))))
         i noState (flatOf (now (x .entry)) (now (y .entry)) (now (z .entry)) (now (t .entry)))
-        (i + 16) noState (flatOf (now (x .exit)) (now (y .exit)) (now (z .exit)) (now (t .exit))) r ⌝ }
+        (i + 16) noState (flatOf (now (x .exit)) (now (y .exit)) (now (z .exit)) (now (t .exit))) (r .count)
+        × Passed (laterTurns first (movedMetTurns op inverse (now (velocities .entry)) (now (marks .entry))))
+        i noState (flatOf (now (x .entry)) (now (y .entry)) (now (z .entry)) (now (t .entry)))
+        (i + 16) noState (flatOf (now (x .exit)) (now (y .exit)) (now (z .exit)) (now (t .exit))) (r .met) ⌝ }
 {
     let mut east = [0.0; WIDTH];
     let mut north = [0.0; WIDTH];
@@ -145,10 +173,13 @@ fn moved_sixteen(
         &mut ot,
     );
     column_blocks::store_block(x, y, z, t, i, &ox, &oy, &oz, &ot);
-    n
+    Moved {
+        count: n,
+        met: met_block(&m, lam, phi),
+    }
 }
 
-// Sixteen rows from an index on; how many of them count.
+// Sixteen rows from an index on.
 fn deformation_sixteen(
     x: &mut [f64],
     y: &mut [f64],
@@ -160,11 +191,14 @@ fn deformation_sixteen(
     inverse: bool,
     velocities: &[f64],
     marks: &[u8],
-) -> usize
+) -> Moved
     requires { ⌜ Level (now x) (now y) (now z) (now t) × (i + 16 ≤ length (now x)) × (first + i + 16 < 2 ^ 64) ⌝ }
     ensures { λ r. ⌜ Passed (laterTurns first (movedTurns op inverse (now (velocities .entry)) (now (marks .entry))))
         i noState (flatOf (now (x .entry)) (now (y .entry)) (now (z .entry)) (now (t .entry)))
-        (i + 16) noState (flatOf (now (x .exit)) (now (y .exit)) (now (z .exit)) (now (t .exit))) r ⌝ }
+        (i + 16) noState (flatOf (now (x .exit)) (now (y .exit)) (now (z .exit)) (now (t .exit))) (r .count)
+        × Passed (laterTurns first (movedMetTurns op inverse (now (velocities .entry)) (now (marks .entry))))
+        i noState (flatOf (now (x .entry)) (now (y .entry)) (now (z .entry)) (now (t .entry)))
+        (i + 16) noState (flatOf (now (x .exit)) (now (y .exit)) (now (z .exit)) (now (t .exit))) (r .met) ⌝ }
 {
     let mut bx = [0.0; WIDTH];
     let mut by = [0.0; WIDTH];
@@ -194,7 +228,7 @@ fn deformation_sixteen(
     )
 }
 
-// The row at an index; 1 where it counts.
+// The row at an index: 1 where it counts, 1 where it met an angle out of reach.
 fn deformation_row(
     x: &mut [f64],
     y: &mut [f64],
@@ -206,25 +240,27 @@ fn deformation_row(
     inverse: bool,
     velocities: &[f64],
     marks: &[u8],
-) -> usize
+) -> Moved
     requires { ⌜ Level (now x) (now y) (now z) (now t) × (i < length (now x)) × (first + i < 2 ^ 64) ⌝ }
     ensures { λ r. ⌜ Passed (laterTurns first (movedTurns op inverse (now (velocities .entry)) (now (marks .entry))))
         i noState (flatOf (now (x .entry)) (now (y .entry)) (now (z .entry)) (now (t .entry)))
-        (i + 1) noState (flatOf (now (x .exit)) (now (y .exit)) (now (z .exit)) (now (t .exit))) r ⌝ }
+        (i + 1) noState (flatOf (now (x .exit)) (now (y .exit)) (now (z .exit)) (now (t .exit))) (r .count)
+        × Passed (laterTurns first (movedMetTurns op inverse (now (velocities .entry)) (now (marks .entry))))
+        i noState (flatOf (now (x .entry)) (now (y .entry)) (now (z .entry)) (now (t .entry)))
+        (i + 1) noState (flatOf (now (x .exit)) (now (y .exit)) (now (z .exit)) (now (t .exit))) (r .met) ⌝ }
 {
     let k = first + i;
-    let r = deformation::common(
-        op,
-        inverse,
-        turns::velocity_at(velocities, k),
-        turns::mark_at(marks, k),
-        columns::read_row(x, y, z, t, i),
-    );
+    let mark = turns::mark_at(marks, k);
+    let v = columns::read_row(x, y, z, t, i);
+    let r = deformation::common(op, inverse, turns::velocity_at(velocities, k), mark, v);
     columns::write_row(x, y, z, t, i, r.tuple);
-    one_if(r.counted)
+    Moved {
+        count: one_if(r.counted),
+        met: one_if(reach::moved_met(op, mark, v)),
+    }
 }
 
-// Every row; how many of them count. Columns of unequal length are left, and none counts.
+// Every row. Columns of unequal length are left, and none counts or meets anything.
 pub fn deformation(
     x: &mut [f64],
     y: &mut [f64],
@@ -235,19 +271,20 @@ pub fn deformation(
     inverse: bool,
     velocities: &[f64],
     marks: &[u8],
-) -> usize
+) -> Moved
     ensures { λ r. ⌜ (flatOf (now (x .exit)) (now (y .exit)) (now (z .exit)) (now (t .exit))
         ≡ ranOf (movedTurns op inverse (now (velocities .entry)) (now (marks .entry))) first noState (flatOf (now (x .entry)) (now (y .entry)) (now (z .entry)) (now (t .entry))))
-        × (r ≡ countOf (movedTurns op inverse (now (velocities .entry)) (now (marks .entry))) first noState (flatOf (now (x .entry)) (now (y .entry)) (now (z .entry)) (now (t .entry)))) ⌝ }
+        × (r .count ≡ countOf (movedTurns op inverse (now (velocities .entry)) (now (marks .entry))) first noState (flatOf (now (x .entry)) (now (y .entry)) (now (z .entry)) (now (t .entry))))
+        × (r .met ≡ countOf (movedMetTurns op inverse (now (velocities .entry)) (now (marks .entry))) first noState (flatOf (now (x .entry)) (now (y .entry)) (now (z .entry)) (now (t .entry)))) ⌝ }
 {
     if columns::level(x, y, z, t) {
         let from = lent_from(first);
         return deformation_level(x, y, z, t, from, op, inverse, velocities, marks);
     }
-    0
+    Moved { count: 0, met: 0 }
 }
 
-// Every row of columns of one length; how many of them count.
+// Every row of columns of one length.
 fn deformation_level(
     x: &mut [f64],
     y: &mut [f64],
@@ -258,21 +295,27 @@ fn deformation_level(
     inverse: bool,
     velocities: &[f64],
     marks: &[u8],
-) -> usize
+) -> Moved
     requires { ⌜ Level (now x) (now y) (now z) (now t) × (first + length (now x) < 2 ^ 64) ⌝ }
     ensures { λ r. ⌜ (flatOf (now (x .exit)) (now (y .exit)) (now (z .exit)) (now (t .exit))
         ≡ ranOf (movedTurns op inverse (now (velocities .entry)) (now (marks .entry))) first noState (flatOf (now (x .entry)) (now (y .entry)) (now (z .entry)) (now (t .entry))))
-        × (r ≡ countOf (movedTurns op inverse (now (velocities .entry)) (now (marks .entry))) first noState (flatOf (now (x .entry)) (now (y .entry)) (now (z .entry)) (now (t .entry)))) ⌝ }
+        × (r .count ≡ countOf (movedTurns op inverse (now (velocities .entry)) (now (marks .entry))) first noState (flatOf (now (x .entry)) (now (y .entry)) (now (z .entry)) (now (t .entry))))
+        × (r .met ≡ countOf (movedMetTurns op inverse (now (velocities .entry)) (now (marks .entry))) first noState (flatOf (now (x .entry)) (now (y .entry)) (now (z .entry)) (now (t .entry)))) ⌝ }
 {
     let mut n = 0;
+    let mut met = 0;
     let mut i = 0;
     while 16 <= x.len() - i {
-        n += deformation_sixteen(x, y, z, t, first, i, op, inverse, velocities, marks);
+        let r = deformation_sixteen(x, y, z, t, first, i, op, inverse, velocities, marks);
+        n += r.count;
+        met += r.met;
         i += 16;
     }
     while i < x.len() {
-        n += deformation_row(x, y, z, t, first, i, op, inverse, velocities, marks);
+        let r = deformation_row(x, y, z, t, first, i, op, inverse, velocities, marks);
+        n += r.count;
+        met += r.met;
         i += 1;
     }
-    n
+    Moved { count: n, met: met }
 }

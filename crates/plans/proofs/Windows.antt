@@ -1,5 +1,5 @@
 -- A list in parts. A step over two lists joined is the step over the first, and over the second
--- from the state and the index that the first leaves; its count is the sum of both. So are steps
+-- from the state and the index that the first leaves; its tally is the sum of both. So are steps
 -- one after another (`in-parts`): which is by induction over the steps, since what a step makes of
 -- the first part does not depend on the second. Assumes nothing.
 use Prim.Native.Nat.{ℕ, zero, suc, _+_, _*_, _≤_, _<_}
@@ -15,6 +15,10 @@ use Rattle.helmert.specs.declared.State.{State}
 use Rattle.lists.specs.Flat.{fourOf, numbersOf}
 use Rattle.lists.specs.Run.{Turns, ranOf, countOf, stateAfterOf}
 use Rattle.lists.proofs.Laws.{ran-short, count-short, ran-length}
+use Rattle.reach.proofs.Laws.{meeting-state}
+use Rattle.tally.specs.Tallies.{noTally, plusOf}
+use Rattle.tally.proofs.Laws.{plus-assoc, plus-none}
+use Rattle.plans.specs.Passes.{Pass, meets, tallyOf}
 use Rattle.plans.specs.declared.Standing.{Standing}
 use Rattle.plans.specs.Windows.{movedOn, Gone, goneOf}
 
@@ -59,55 +63,64 @@ state-append f k state n (x ∷ y ∷ z ∷ []) more h = absurd (omega (arith, h
 state-append f k state n (x ∷ y ∷ []) more h = absurd (omega (arith, h))
 state-append f k state n (x ∷ []) more h = absurd (omega (arith, h))
 
+pub tally-append : (p : Pass) (k : ℕ) (state : State) (n : ℕ) (l more : List Float) → length l ≡ 4 * n
+    → tallyOf p k state (l ++ more) ≡ plusOf (tallyOf p k state l) (tallyOf p (k + n) (stateAfterOf (p .turns) k state l) more)
+tally-append p k state n l more h =
+    rw (count-append (p .turns) k state n l more h, count-append (meets p) k state n l more h, meeting-state (p .met) (p .turns) k state l)
+
 -- where a step stands after both parts
-moved-append : (f : Turns State) (k : ℕ) (standing : Standing) (n : ℕ) (l more : List Float) → length l ≡ 4 * n
-    → movedOn f k standing (l ++ more) ≡ movedOn f (k + n) (movedOn f k standing l) more
-moved-append f k standing n l more h =
-    rw (state-append f k (standing .state) n l more h, count-append f k (standing .state) n l more h, add-assoc (standing .count) (countOf f k (standing .state) l))
+moved-append : (p : Pass) (k : ℕ) (standing : Standing) (n : ℕ) (l more : List Float) → length l ≡ 4 * n
+    → movedOn p k standing (l ++ more) ≡ movedOn p (k + n) (movedOn p k standing l) more
+moved-append p k standing n l more h =
+    let first = tallyOf p k (standing .state) l in
+    let second = tallyOf p (k + n) (stateAfterOf (p .turns) k (standing .state) l) more in
+    let es = state-append (p .turns) k (standing .state) n l more h in
+    let et = ap (plusOf (standing .tally)) (tally-append p k (standing .state) n l more h) ∙ sym (plus-assoc (standing .tally) first second) in
+    λ j. record { state = es j; tally = et j }
 
 -- ---- steps one after another
 
 -- the part keeps its length
-pub gone-length : (inverse : Bool) (k : ℕ) (fs : List (Turns State)) (standings : List Standing) (l : List Float) → length (goneOf inverse k fs standings l .list) ≡ length l
+pub gone-length : (inverse : Bool) (k : ℕ) (ps : List Pass) (standings : List Standing) (l : List Float) → length (goneOf inverse k ps standings l .list) ≡ length l
 unfolding goneOf
 gone-length inverse k [] standings l = refl
-gone-length inverse k (f ∷ fs) [] l = refl
-gone-length false k (f ∷ fs) (standing ∷ standings) l = gone-length false k fs standings (ranOf f k (standing .state) l) ∙ ran-length f k (standing .state) l
-gone-length true k (f ∷ fs) (standing ∷ standings) l =
-    ran-length f k (standing .state) (goneOf true k fs standings l .list) ∙ gone-length true k fs standings l
+gone-length inverse k (p ∷ ps) [] l = refl
+gone-length false k (p ∷ ps) (standing ∷ standings) l = gone-length false k ps standings (ranOf (p .turns) k (standing .state) l) ∙ ran-length (p .turns) k (standing .state) l
+gone-length true k (p ∷ ps) (standing ∷ standings) l =
+    ran-length (p .turns) k (standing .state) (goneOf true k ps standings l .list) ∙ gone-length true k ps standings l
 
 -- both parts, the second from where the first leaves each step
-abbrev pub joined : Bool → ℕ → List (Turns State) → List Standing → ℕ → List Float → List Float → Gone
-joined inverse k fs standings n l more =
-    let first = goneOf inverse k fs standings l in
-    let second = goneOf inverse (k + n) fs (first .standings) more in
+abbrev pub joined : Bool → ℕ → List Pass → List Standing → ℕ → List Float → List Float → Gone
+joined inverse k ps standings n l more =
+    let first = goneOf inverse k ps standings l in
+    let second = goneOf inverse (k + n) ps (first .standings) more in
     record { list = first .list ++ second .list; standings = second .standings }
 
-pub in-parts : (inverse : Bool) (k : ℕ) (fs : List (Turns State)) (standings : List Standing) (n : ℕ) (l more : List Float) → length l ≡ 4 * n
-    → goneOf inverse k fs standings (l ++ more) ≡ joined inverse k fs standings n l more
+pub in-parts : (inverse : Bool) (k : ℕ) (ps : List Pass) (standings : List Standing) (n : ℕ) (l more : List Float) → length l ≡ 4 * n
+    → goneOf inverse k ps standings (l ++ more) ≡ joined inverse k ps standings n l more
 unfolding goneOf
 in-parts inverse k [] standings n l more h = refl
-in-parts inverse k (f ∷ fs) [] n l more h = refl
-in-parts false k (f ∷ fs) (standing ∷ standings) n l more h =
+in-parts inverse k (p ∷ ps) [] n l more h = refl
+in-parts false k (p ∷ ps) (standing ∷ standings) n l more h =
     rw (
-      ran-append f k (standing .state) n l more h,
-      moved-append f k standing n l more h,
-      in-parts false k fs standings n (ranOf f k (standing .state) l) (ranOf f (k + n) (stateAfterOf f k (standing .state) l) more) (ran-length f k (standing .state) l ∙ h),
+      ran-append (p .turns) k (standing .state) n l more h,
+      moved-append p k standing n l more h,
+      in-parts false k ps standings n (ranOf (p .turns) k (standing .state) l) (ranOf (p .turns) (k + n) (stateAfterOf (p .turns) k (standing .state) l) more) (ran-length (p .turns) k (standing .state) l ∙ h),
     )
-in-parts true k (f ∷ fs) (standing ∷ standings) n l more h =
-    let a = goneOf true k fs standings l .list in
-    let b = goneOf true (k + n) fs (goneOf true k fs standings l .standings) more .list in
-    let long : length a ≡ 4 * n = gone-length true k fs standings l ∙ h in
-    rw (in-parts true k fs standings n l more h, ran-append f k (standing .state) n a b long, moved-append f k standing n a b long)
+in-parts true k (p ∷ ps) (standing ∷ standings) n l more h =
+    let a = goneOf true k ps standings l .list in
+    let b = goneOf true (k + n) ps (goneOf true k ps standings l .standings) more .list in
+    let long : length a ≡ 4 * n = gone-length true k ps standings l ∙ h in
+    rw (in-parts true k ps standings n l more h, ran-append (p .turns) k (standing .state) n a b long, moved-append p k standing n a b long)
 
 -- standings stay as many
-pub gone-standings : (inverse : Bool) (k : ℕ) (fs : List (Turns State)) (standings : List Standing) (l : List Float) → length fs ≤ length standings
-    → length (goneOf inverse k fs standings l .standings) ≡ length standings
+pub gone-standings : (inverse : Bool) (k : ℕ) (ps : List Pass) (standings : List Standing) (l : List Float) → length ps ≤ length standings
+    → length (goneOf inverse k ps standings l .standings) ≡ length standings
 unfolding goneOf
 gone-standings inverse k [] standings l h = refl
-gone-standings inverse k (f ∷ fs) [] l h = absurd (omega (arith, h))
-gone-standings false k (f ∷ fs) (standing ∷ standings) l h = ap suc (gone-standings false k fs standings (ranOf f k (standing .state) l) (omega (arith, h)))
-gone-standings true k (f ∷ fs) (standing ∷ standings) l h = ap suc (gone-standings true k fs standings l (omega (arith, h)))
+gone-standings inverse k (p ∷ ps) [] l h = absurd (omega (arith, h))
+gone-standings false k (p ∷ ps) (standing ∷ standings) l h = ap suc (gone-standings false k ps standings (ranOf (p .turns) k (standing .state) l) (omega (arith, h)))
+gone-standings true k (p ∷ ps) (standing ∷ standings) l h = ap suc (gone-standings true k ps standings l (omega (arith, h)))
 
 -- a step counts no more tuples than there are
 pub count-few : {S : Type 0} (f : Turns S) (k : ℕ) (state : S) (l : List Float) → 4 * countOf f k state l ≤ length l
@@ -119,6 +132,10 @@ count-few f k state (x ∷ y ∷ []) = omega arith
 count-few f k state (x ∷ []) = omega arith
 count-few f k state [] = omega arith
 
+-- neither number of a step's tally is over the number of tuples
+pub tally-few : (p : Pass) (k : ℕ) (state : State) (l : List Float) → (4 * (tallyOf p k state l .count) ≤ length l) × (4 * (tallyOf p k state l .met) ≤ length l)
+tally-few p k state l = (count-few (p .turns) k state l, count-few (meets p) k state l)
+
 -- over less than a tuple all stays
 state-short : {S : Type 0} (f : Turns S) (k : ℕ) (state : S) (l : List Float) → length l < 4 → stateAfterOf f k state l ≡ state
 state-short f k state (x ∷ y ∷ z ∷ t ∷ rest) h = absurd (omega (arith, h))
@@ -127,12 +144,21 @@ state-short f k state (x ∷ y ∷ []) h = refl
 state-short f k state (x ∷ []) h = refl
 state-short f k state [] h = refl
 
-pub in-no-part : (inverse : Bool) (k : ℕ) (fs : List (Turns State)) (standings : List Standing) (l : List Float) → length l < 4
-    → goneOf inverse k fs standings l ≡ record { list = l; standings = standings }
+tally-short : (p : Pass) (k : ℕ) (state : State) (l : List Float) → length l < 4 → tallyOf p k state l ≡ noTally
+tally-short p k state l h = rw (count-short (p .turns) k state l h, count-short (meets p) k state l h)
+
+moved-short : (p : Pass) (k : ℕ) (standing : Standing) (l : List Float) → length l < 4 → movedOn p k standing l ≡ standing
+moved-short p k standing l h =
+    let es = state-short (p .turns) k (standing .state) l h in
+    let et = ap (plusOf (standing .tally)) (tally-short p k (standing .state) l h) ∙ plus-none (standing .tally) in
+    λ j. record { state = es j; tally = et j }
+
+pub in-no-part : (inverse : Bool) (k : ℕ) (ps : List Pass) (standings : List Standing) (l : List Float) → length l < 4
+    → goneOf inverse k ps standings l ≡ record { list = l; standings = standings }
 unfolding goneOf
 in-no-part inverse k [] standings l h = refl
-in-no-part inverse k (f ∷ fs) [] l h = refl
-in-no-part false k (f ∷ fs) (standing ∷ standings) l h =
-    rw (ran-short f k (standing .state) l h, in-no-part false k fs standings l h, state-short f k (standing .state) l h, count-short f k (standing .state) l h, add-zero (standing .count))
-in-no-part true k (f ∷ fs) (standing ∷ standings) l h =
-    rw (in-no-part true k fs standings l h, ran-short f k (standing .state) l h, state-short f k (standing .state) l h, count-short f k (standing .state) l h, add-zero (standing .count))
+in-no-part inverse k (p ∷ ps) [] l h = refl
+in-no-part false k (p ∷ ps) (standing ∷ standings) l h =
+    rw (ran-short (p .turns) k (standing .state) l h, in-no-part false k ps standings l h, moved-short p k standing l h)
+in-no-part true k (p ∷ ps) (standing ∷ standings) l h =
+    rw (in-no-part true k ps standings l h, ran-short (p .turns) k (standing .state) l h, moved-short p k standing l h)

@@ -24,6 +24,7 @@ use helmert::State;
 use molodensky::Moped;
 use permtide::Tide;
 use rotation::Vec3;
+use tally::Tally;
 
 pub enum Plan {
     CartForward(Ellipsoid),
@@ -34,10 +35,11 @@ pub enum Plan {
     HelmertEither(Shift, bool),
 }
 
-// Where a step stands between two parts of a list: its state, and how many tuples it has counted.
+// Where a step stands between two parts of a list: its state, and how many tuples it has counted and
+// how many have met an angle out of reach.
 pub struct Standing {
     pub state: State,
-    pub count: usize,
+    pub tally: Tally,
 }
 
 // ----- a step made ready -----------------------------------------------------------------------

@@ -1,7 +1,9 @@
 -- A line for each count and each tuple, one after another. Assumes nothing.
 use mathlib.Core.Path.{_≡_, refl, sym, ap, _∙_}
 use Prim.Native.Nat.{ℕ, zero, suc, _+_, _-_, _*_, _/_, _<_, _≤_}
+use mathlib.Core.Bool.{Bool, true, false, cond}
 use mathlib.Core.List.{List, [], _∷_, _++_}
+use lib.Dec.{eqb}
 use native.Mathlib.Omega.{arith}
 use native.Mathlib.Numerals.{add-one}
 use lib.ListN.{length, take, drop, getD, length-append, length-take, length-drop, drop-of-length-le}
@@ -9,26 +11,31 @@ use lib.Seq.{drop-cons, getD-take}
 use lib.Ieee.{Float, nan}
 use Rattle.text.specs.Ascii.{ascii}
 use Rattle.text.proofs.Laws.{length-hex, decimal-is-short}
-use Rattle.report.specs.Report.{lineOf, refusedText, countText, countsText, wordOf, tupleText, tuplesText, ranText}
+use Rattle.report.specs.Report.{lineOf, refusedText, reachText, countText, countsText, metIn, wordOf, tupleText, tuplesText, ranText}
 
 -- ---- counts
 
-pub next-count : (steps i : ℕ) (counts : List ℕ) → i < length counts → i < steps
-    → countsText i (drop i (take steps counts)) ≡ countText (i + 1) (getD counts i 0) ++ countsText (i + 1) (drop (i + 1) (take steps counts))
+pub past-the-end : (numbers : List ℕ) (i : ℕ) → length numbers ≤ i → getD numbers i 0 ≡ 0
+past-the-end [] i h = refl
+past-the-end (n ∷ numbers) zero h = absurd (omega (arith, h))
+past-the-end (n ∷ numbers) (suc i) h = past-the-end numbers i (omega (arith, h))
+
+pub next-count : (met : ℕ → ℕ) (steps i : ℕ) (counts : List ℕ) → i < length counts → i < steps
+    → countsText met i (drop i (take steps counts)) ≡ countText (i + 1) (getD counts i 0) (met i) ++ countsText met (i + 1) (drop (i + 1) (take steps counts))
 unfolding countsText
-next-count steps i counts h k =
+next-count met steps i counts h k =
     let there : i < length (take steps counts) = simp length-take (omega arith) in
     rw (drop-cons (take steps counts) i 0 there, getD-take steps counts i 0 k, add-one i)
 
-pub no-count : (steps i : ℕ) (counts : List ℕ) → steps ≤ i → countsText i (drop i (take steps counts)) ≡ []
+pub no-count : (met : ℕ → ℕ) (steps i : ℕ) (counts : List ℕ) → steps ≤ i → countsText met i (drop i (take steps counts)) ≡ []
 unfolding countsText
-no-count steps i counts h =
+no-count met steps i counts h =
     let past : length (take steps counts) ≤ i = simp length-take (omega arith) in
     rw (drop-of-length-le (take steps counts) past)
 
-pub all-counted : (steps i : ℕ) (counts : List ℕ) → length counts ≤ i → countsText i (drop i (take steps counts)) ≡ []
+pub all-counted : (met : ℕ → ℕ) (steps i : ℕ) (counts : List ℕ) → length counts ≤ i → countsText met i (drop i (take steps counts)) ≡ []
 unfolding countsText
-all-counted steps i counts h =
+all-counted met steps i counts h =
     let past : length (take steps counts) ≤ i = simp length-take (omega arith) in
     rw (drop-of-length-le (take steps counts) past)
 
@@ -72,12 +79,27 @@ line-is-short first a second b =
 pub refused-is-short : (number step : ℕ) → length (refusedText number step) ≤ 55
 refused-is-short number step = line-is-short (ascii "refused ") number (ascii " step ") step
 
-counts-are-short : (i : ℕ) (counts : List ℕ) → length (countsText i counts) ≤ 55 * length counts
+reach-is-short : (step count met : ℕ) → length (reachText step count met) ≤ 89
+unfolding reachText
+reach-is-short step count met =
+    let x = decimal-is-short step in
+    let y = decimal-is-short count in
+    let z = decimal-is-short met in
+    simp length-append (omega arith)
+
+count-is-short : (step count met : ℕ) → length (countText step count met) ≤ 89
+count-is-short step count met = by (eqb met 0)
+  where
+    by : (b : Bool) → length (cond b (lineOf (ascii "step ") step (ascii " counted ") count) (reachText step count met)) ≤ 89
+    by true = let x = line-is-short (ascii "step ") step (ascii " counted ") count in omega arith
+    by false = reach-is-short step count met
+
+counts-are-short : (met : ℕ → ℕ) (i : ℕ) (counts : List ℕ) → length (countsText met i counts) ≤ 89 * length counts
 unfolding countsText
-counts-are-short i [] = omega arith
-counts-are-short i (c ∷ counts) =
-    let x = line-is-short (ascii "step ") (i + 1) (ascii " counted ") c in
-    let y = counts-are-short (i + 1) counts in
+counts-are-short met i [] = omega arith
+counts-are-short met i (c ∷ counts) =
+    let x = count-is-short (i + 1) c (met i) in
+    let y = counts-are-short met (i + 1) counts in
     simp length-append (omega arith)
 
 length-word : (x : Float) (end : ℕ) → length (wordOf x end) ≡ 17
@@ -99,12 +121,12 @@ tuples-are-short (x ∷ y ∷ []) = omega arith
 tuples-are-short (x ∷ []) = omega arith
 tuples-are-short [] = omega arith
 
--- 55 bytes a line of names, 68 a tuple
-pub ran-is-short : (steps : ℕ) (counts : List ℕ) (l : List Float) → length (ranText steps counts l) ≤ 55 + 55 * steps + 17 * length l
+-- 55 bytes the first line, 89 a step, 68 a tuple
+pub ran-is-short : (steps : ℕ) (counts mets : List ℕ) (l : List Float) → length (ranText steps counts mets l) ≤ 55 + 89 * steps + 17 * length l
 unfolding ranText
-ran-is-short steps counts l =
+ran-is-short steps counts mets l =
     let a = line-is-short (ascii "steps ") steps (ascii " tuples ") (length l / 4) in
-    let b = counts-are-short 0 (take steps counts) in
+    let b = counts-are-short (metIn mets) 0 (take steps counts) in
     let c = tuples-are-short l in
     let d : length (take steps counts) ≤ steps = simp length-take (omega arith) in
     simp length-append (omega arith)

@@ -1,14 +1,15 @@
 // The lines that the program prints, written into a lent room.
 //
 // Document 01, "Program": how many steps and tuples, the count of each step, each tuple as four
-// words of 16 hexadecimal digits; or the refusal. Every byte is fixed by specs/Report.antt, for
+// words of 16 hexadecimal digits; or the refusal. Document 02, A5: after a step's count how many
+// tuples met an angle out of reach, only where some did, so that document 01's texts stay. Every byte is fixed by specs/Report.antt, for
 // every input and a room of any length (crate text says what a room that is too short holds). A NaN
 // is printed 7ff8000000000000, whichever bits it came with. Used by `answer`.
 ghost use mathlib.Core.Path.{_≡_};
 ghost use mathlib.Core.List.{[], _∷_};
 ghost use lib.ListN.{take};
 ghost use Rattle.text.specs.Text.{text, appended};
-ghost use Rattle.report.specs.Report.{lineOf, refusedText, headText, countText, countsText, wordOf, tupleText, tuplesText, ranText};
+ghost use Rattle.report.specs.Report.{lineOf, refusedText, headText, reachText, countText, countsText, metIn, wordOf, tupleText, tuplesText, ranText};
 
 // ----- lines of names and numbers -----------------------------------------------------------
 
@@ -48,9 +49,30 @@ fn put_head(room: &mut [u8], at: usize, steps: usize, tuples: usize) -> usize
     )
 }
 
-fn put_count(room: &mut [u8], at: usize, step: usize, count: usize) -> usize
-    ensures { λ r. ⌜ text (now (room .exit)) r ≡ appended (text (now (room .entry)) at) (countText step count) ⌝ }
+fn put_reach(room: &mut [u8], at: usize, step: u64, count: u64, met: u64) -> usize
+    ensures { λ r. ⌜ text (now (room .exit)) r ≡ appended (text (now (room .entry)) at) (reachText step count met) ⌝ }
 {
+    let p = text::put_bytes(room, at, b"step ");
+    let q = text::put_decimal(room, p, step);
+    let r = text::put_bytes(room, q, b" counted ");
+    let s = text::put_decimal(room, r, count);
+    let u = text::put_bytes(room, s, b" out of reach ");
+    let v = text::put_decimal(room, u, met);
+    text::put_byte(room, v, b'\n')
+}
+
+fn put_count(room: &mut [u8], at: usize, step: usize, count: usize, met: usize) -> usize
+    ensures { λ r. ⌜ text (now (room .exit)) r ≡ appended (text (now (room .entry)) at) (countText step count met) ⌝ }
+{
+    if met != 0 {
+        return put_reach(
+            room,
+            at,
+            words::long(step),
+            words::long(count),
+            words::long(met),
+        );
+    }
     put_line(
         room,
         at,
@@ -61,9 +83,19 @@ fn put_count(room: &mut [u8], at: usize, step: usize, count: usize) -> usize
     )
 }
 
+// The number at an index, 0 past the end.
+fn met_at(mets: &[usize], i: usize) -> usize
+    ensures { λ r. ⌜ r ≡ metIn (now (mets .entry)) i ⌝ }
+{
+    if i < mets.len() {
+        return mets[i];
+    }
+    0
+}
+
 // A line for each step's count, no more than there are.
-fn put_counts(room: &mut [u8], at: usize, steps: usize, counts: &[usize]) -> usize
-    ensures { λ r. ⌜ text (now (room .exit)) r ≡ appended (text (now (room .entry)) at) (countsText 0 (take steps (now (counts .entry)))) ⌝ }
+fn put_counts(room: &mut [u8], at: usize, steps: usize, counts: &[usize], mets: &[usize]) -> usize
+    ensures { λ r. ⌜ text (now (room .exit)) r ≡ appended (text (now (room .entry)) at) (countsText (metIn (now (mets .entry))) 0 (take steps (now (counts .entry)))) ⌝ }
 {
     let mut p = text::put_bytes(room, at, b"");
     let mut i = 0;
@@ -71,7 +103,8 @@ fn put_counts(room: &mut [u8], at: usize, steps: usize, counts: &[usize]) -> usi
         if steps <= i {
             return p;
         }
-        p = put_count(room, p, i + 1, counts[i]);
+        let met = met_at(mets, i);
+        p = put_count(room, p, i + 1, counts[i], met);
         i += 1;
     }
     p
@@ -107,11 +140,18 @@ fn put_tuples(room: &mut [u8], at: usize, list: &[f64]) -> usize
     p
 }
 
-// What a run did: steps and tuples, each step's count, each tuple.
-pub fn ran(room: &mut [u8], at: usize, steps: usize, counts: &[usize], list: &[f64]) -> usize
-    ensures { λ r. ⌜ text (now (room .exit)) r ≡ appended (text (now (room .entry)) at) (ranText steps (now (counts .entry)) (now (list .entry))) ⌝ }
+// What a run did: steps and tuples, each step's numbers, each tuple.
+pub fn ran(
+    room: &mut [u8],
+    at: usize,
+    steps: usize,
+    counts: &[usize],
+    mets: &[usize],
+    list: &[f64],
+) -> usize
+    ensures { λ r. ⌜ text (now (room .exit)) r ≡ appended (text (now (room .entry)) at) (ranText steps (now (counts .entry)) (now (mets .entry)) (now (list .entry))) ⌝ }
 {
     let p = put_head(room, at, steps, list.len() / 4);
-    let q = put_counts(room, p, steps, counts);
+    let q = put_counts(room, p, steps, counts, mets);
     put_tuples(room, q, list)
 }

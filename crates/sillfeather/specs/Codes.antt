@@ -3,6 +3,7 @@ use Prim.Native.Nat.{ℕ}
 use mathlib.Core.List.{List}
 use lib.Ieee.{Float}
 use Rattle.codes.specs.Codes.{codeOf}
+use Rattle.tally.specs.Tallies.{countsOf}
 use Rattle.chain.specs.Rules.{Outcome}
 use Rattle.stretch.specs.Kept.{Kept}
 use Rattle.kept.specs.Entries.{CorrectOutcome}
@@ -19,7 +20,7 @@ abbrev pub handed : ℕ → List ℕ → List Float → Handed
 handed code counts list = record { code = code; counts = counts; list = list }
 
 abbrev pub handedOf : Outcome → Handed
-handedOf o = handed (codeOf (o .answer .refusal)) (o .answer .counts) (o .list)
+handedOf o = handed (codeOf (o .answer .refusal)) (countsOf (o .answer .tallies)) (o .list)
 
 -- what a correction leaves: the code, how many fixes were redone, and the three lists
 pub record Corrected : Type 0 where

@@ -54,7 +54,7 @@ pub extern "C" fn sillfeather_cos(x: f64) -> f64
 pub extern "C" fn sillfeather_sin_cos(x: f64, s: &mut f64, c: &mut f64)
     ensures { λ r. ⌜ (now (s .exit) ≡ sinOf x) × (now (c .exit) ≡ cosOf x) ⌝ }
 {
-    let pair = trig::sin_cos(x);
+    let pair = trig::sin_cos_numbers(x);
     *s = pair.s;
     *c = pair.c;
 }
@@ -96,8 +96,8 @@ pub extern "C" fn sillfeather_shift(
 {
     let answer = chain::shift(inverse != 0, s, list, velocities, marks);
     let refusal = answer.refusal;
-    let c = answer.counts;
-    *counts = codes::narrow(c);
+    let tallies = answer.tallies;
+    *counts = codes::narrow(tally::counts(tallies));
     codes::code(refusal)
 }
 

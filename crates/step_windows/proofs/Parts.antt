@@ -10,6 +10,9 @@ use lib.Ieee.{Float}
 use Rattle.lists.specs.Run.{Turns, ranOf, countOf, stateAfterOf}
 use Rattle.lists.proofs.Laws.{ran-length, ran-short, count-short}
 use Rattle.columns.specs.Passed.{Passed}
+use Rattle.helmert.specs.declared.State.{State}
+use Rattle.reach.proofs.Laws.{meeting-ran, meeting-state}
+use Rattle.plans.specs.Passes.{Pass, meets}
 use Rattle.plans.proofs.Windows.{ran-append, count-append, state-append, count-few}
 
 -- as many rows of a room as a window has
@@ -77,6 +80,17 @@ module _ {S : Type 0} {f : Turns S} {i : ℕ} {state state′ : S} {l l′ w′ 
         counts = rw (d, es, ec) (sym counts);
         few = omega (arith, ec, count-few f i state w, wide);
       }
+
+-- the same of the tuples that meet an angle out of reach
+module _ (p : Pass) {i : ℕ} {state state′ : State} {l l′ w′ : List Float} {c : ℕ} (m : ℕ) where
+  pub passed-met : 4 * (i + m) ≤ length l → l′ ≡ take (4 * i) l ++ w′ ++ drop (4 * (i + m)) l
+      → w′ ≡ ranOf (p .turns) i state (take (4 * m) (drop (4 * i) l))
+      → state′ ≡ stateAfterOf (p .turns) i state (take (4 * m) (drop (4 * i) l))
+      → c ≡ countOf (meets p) i state (take (4 * m) (drop (4 * i) l))
+      → Passed (meets p) i state l (i + m) state′ l′ c
+  passed-met fits el ew es ec =
+      let w = take (4 * m) (drop (4 * i) l) in
+      passed-window m fits el (ew ∙ sym (meeting-ran (p .met) (p .turns) i state w)) (es ∙ sym (meeting-state (p .met) (p .turns) i state w)) ec
 
 -- a window's count is at most its rows
 pub part-few : {S : Type 0} (f : Turns S) (k : ℕ) (state : S) (l : List Float) (i m : ℕ) {c : ℕ} → 4 * (i + m) ≤ length l → c ≡ countOf f k state (partOf l i m) → c ≤ m

@@ -26,16 +26,21 @@ use Rattle.sheet.specs.declared.Refusal.{Refusal}
 use Rattle.sheet.specs.Layout.{stepCountOf, kindAt, entryAt}
 use Rattle.sheet.specs.Rules.{accepted, ofCall, firstBroken, hasDeformation, refusalOf}
 use Rattle.sheet.proofs.Order.{not-zero, accepted-count}
+use Rattle.plans.specs.Lent.{lentOf}
 use Rattle.chain.specs.declared.Answer.{Answer}
-use Rattle.chain.specs.Chain.{turnsOf, stateOf, stepListOf, tuplesCountedOf, chainForwardOf, chainInverseOf, chainOf, placesOf, entriesOf}
+use Rattle.tally.specs.declared.Tally.{Tally}
+use Rattle.tally.specs.Tallies.{noTally, plusOf}
+use Rattle.tally.proofs.Laws.{plus-assoc, plus-none, none-plus}
+use Rattle.plans.specs.Passes.{Pass, meets, tallyOf}
+use Rattle.chain.specs.Chain.{turnsOf, metOf, passOf, stateOf, stepListOf, tuplesCountedOf, tuplesMetOf, stepTallyOf, chainForwardOf, chainInverseOf, chainOf, placesOf, entriesOf}
 use Rattle.chain.specs.Rules.{refusal9, refusal10, shiftRefusalOf, outcome, refusedAnswer, ranOutcome, outcomeOf, shiftOf}
 use Rattle.chain.proofs.Laws.{Forward, Backward, forward-start, forward-again, forward-end, backward-start, backward-again, backward-end}
 use Rattle.thin.specs.declared.Plan.{Plan}
 use Rattle.thin.specs.declared.Carried.{Carried}
 use Rattle.thin.specs.declared.Turned.{Turned}
 use Rattle.thin.specs.declared.Todo.{Todo}
-use Rattle.thin.specs.Tuples.{tuplesOf, tallyOf, flatOf}
-use Rattle.thin.specs.Plans.{planOf, planTurnsOf, startsOf, tallied, turnOf}
+use Rattle.thin.specs.Tuples.{tuplesOf, countedAmong, tuplesTallyOf, flatOf}
+use Rattle.thin.specs.Plans.{planOf, planTurnsOf, planMetOf, planPassOf, startsOf, tallied, turnOf}
 use Rattle.thin.specs.Sheets.{stepIndexOf, todoOf, thinRefusalOf, stepsOf, notedOf}
 
 -- ---- the same numbers as a flat list
@@ -45,10 +50,16 @@ flat-tuples f k state [] = refl
 flat-tuples f k state (u ∷ us) =
     ap (λ (more : List Float). numbersOf (f k state u .tuple) ++ more) (flat-tuples f (suc k) (f k state u .state) us)
 
-pub flat-tally : {S : Type 0} (f : Turns S) (k : ℕ) (state : S) (us : List Tuple) → tallyOf f k state us ≡ countOf f k state (flatOf us)
-flat-tally f k state [] = refl
-flat-tally f k state (u ∷ us) =
-    ap (λ (more : ℕ). cond (f k state u .counted) 1 0 + more) (flat-tally f (suc k) (f k state u .state) us)
+flat-counted : {S : Type 0} (f : Turns S) (k : ℕ) (state : S) (us : List Tuple) → countedAmong f k state us ≡ countOf f k state (flatOf us)
+flat-counted f k state [] = refl
+flat-counted f k state (u ∷ us) =
+    ap (λ (more : ℕ). cond (f k state u .counted) 1 0 + more) (flat-counted f (suc k) (f k state u .state) us)
+
+pub flat-tally : (p : Pass) (k : ℕ) (state : State) (us : List Tuple) → tuplesTallyOf p k state us ≡ tallyOf p k state (flatOf us)
+flat-tally p k state us =
+    let ec = flat-counted (p .turns) k state us in
+    let em = flat-counted (meets p) k state us in
+    λ j. record { count = ec j; met = em j }
 
 -- two lists with the same numbers are the same list
 abbrev tuplesIn : List Float → List Tuple
@@ -67,7 +78,7 @@ flat-injective us ws e = sym (tuples-in-flat us) ∙ ap tuplesIn e ∙ tuples-in
 
 -- ---- a plan makes of every tuple what its step makes of it
 
-pub plan-turns : (velocities : List Float) (marks : List ℕ) (inverse : Bool) (step : Step) → planTurnsOf velocities marks (planOf inverse step) ≡ turnsOf inverse velocities marks step
+pub plan-turns : (velocities : List Float) (marks : List ℕ) (inverse : Bool) (step : Step) → planTurnsOf velocities marks (planOf inverse step) ≡ turnsOf inverse (lentOf velocities marks []) step
 unfolding planOf
 plan-turns velocities marks true (Cart r) = refl
 plan-turns velocities marks false (Cart r) = refl
@@ -76,6 +87,22 @@ plan-turns velocities marks false (Permtide r) = refl
 plan-turns velocities marks inverse (Deformation r) = refl
 plan-turns velocities marks inverse (Molodensky r) = refl
 plan-turns velocities marks inverse (Helmert h) = refl
+
+pub plan-met : (velocities : List Float) (marks : List ℕ) (inverse : Bool) (step : Step) → planMetOf marks (planOf inverse step) ≡ metOf inverse (lentOf velocities marks []) step
+unfolding planOf
+plan-met velocities marks true (Cart r) = refl
+plan-met velocities marks false (Cart r) = refl
+plan-met velocities marks true (Permtide r) = refl
+plan-met velocities marks false (Permtide r) = refl
+plan-met velocities marks inverse (Deformation r) = refl
+plan-met velocities marks inverse (Molodensky r) = refl
+plan-met velocities marks inverse (Helmert h) = refl
+
+pub plan-pass : (velocities : List Float) (marks : List ℕ) (inverse : Bool) (step : Step) → planPassOf velocities marks (planOf inverse step) ≡ passOf inverse (lentOf velocities marks []) step
+plan-pass velocities marks inverse step =
+    let et = plan-turns velocities marks inverse step in
+    let em = plan-met velocities marks inverse step in
+    λ j. record { turns = et j; met = em j }
 
 pub plan-starts : (inverse : Bool) (step : Step) → startsOf (planOf inverse step) ≡ stateOf step
 unfolding planOf
@@ -88,41 +115,55 @@ plan-starts inverse (Molodensky r) = refl
 plan-starts inverse (Helmert h) = refl
 
 pub turn-is : (velocities : List Float) (marks : List ℕ) (plan : Plan) (k : ℕ) (at : Carried) (u : Tuple)
-    → turnOf velocities marks plan k at u ≡ tallied at (planTurnsOf velocities marks plan k (at .state) u)
+    → turnOf velocities marks plan k at u ≡ tallied at (planTurnsOf velocities marks plan k (at .state) u) (planMetOf marks plan k (at .state) u)
 unfolding turnOf
 turn-is velocities marks plan k at u = refl
 
 -- ---- the loop over the records
 
 -- the invariant at index i: what stands before it and what the run makes from there on are the run
--- of the whole list, and so are the counts
-pub record Walked (f : Turns State) (start : State) (ys : List Tuple) (i : ℕ) (at : Carried) (zs : List Tuple) : Type 0 where
+-- of the whole list, and so are the tallies
+pub record Walked (p : Pass) (start : State) (ys : List Tuple) (i : ℕ) (at : Carried) (zs : List Tuple) : Type 0 where
   pub within : i ≤ length ys
   pub long : length zs ≡ length ys
-  pub run : take i zs ++ tuplesOf f i (at .state) (drop i zs) ≡ tuplesOf f 0 start ys
-  pub total : at .counted + tallyOf f i (at .state) (drop i zs) ≡ tallyOf f 0 start ys
-  pub few : at .counted ≤ i
+  pub run : take i zs ++ tuplesOf (p .turns) i (at .state) (drop i zs) ≡ tuplesOf (p .turns) 0 start ys
+  pub counted : at .tally .count + countedAmong (p .turns) i (at .state) (drop i zs) ≡ countedAmong (p .turns) 0 start ys
+  pub met : at .tally .met + countedAmong (meets p) i (at .state) (drop i zs) ≡ countedAmong (meets p) 0 start ys
+  pub few : (at .tally .count ≤ i) × (at .tally .met ≤ i)
 
-pub walk-start : (f : Turns State) (start : State) (ys : List Tuple) → Walked f start ys 0 (record { state = start; counted = 0 }) ys
-walk-start f start ys = record { within = omega arith; long = refl; run = refl; total = zero-add (tallyOf f 0 start ys); few = omega arith }
+pub walk-start : (p : Pass) (start : State) (ys : List Tuple) → Walked p start ys 0 (record { state = start; tally = noTally }) ys
+walk-start p start ys =
+    record {
+      within = omega arith;
+      long = refl;
+      run = refl;
+      counted = zero-add (countedAmong (p .turns) 0 start ys);
+      met = zero-add (countedAmong (meets p) 0 start ys);
+      few = (omega arith, omega arith);
+    }
 
-pub walk-again : {f : Turns State} {start : State} {ys : List Tuple} {i : ℕ} {at : Carried} {zs : List Tuple} {r : Turned} → i < length zs
-    → r ≡ tallied at (f i (at .state) (getD zs i nanTuple)) → Walked f start ys i at zs → Walked f start ys (i + 1) (r .carried) (set zs i (r .tuple))
-walk-again {f} {start} {ys} {i} {at} {zs} {r} h e now =
+pub walk-again : {p : Pass} {start : State} {ys : List Tuple} {i : ℕ} {at : Carried} {zs : List Tuple} {r : Turned} → i < length zs
+    → r ≡ tallied at (p .turns i (at .state) (getD zs i nanTuple)) (p .met i (at .state) (getD zs i nanTuple))
+    → Walked p start ys i at zs → Walked p start ys (i + 1) (r .carried) (set zs i (r .tuple))
+walk-again {p} {start} {ys} {i} {at} {zs} {r} h e now =
+    let u = getD zs i nanTuple in
     let after : drop (suc i) (set zs i (r .tuple)) ≡ drop (suc i) zs = drop-set-lt (suc i) zs i (r .tuple) (omega arith) in
     record {
       within = omega (arith, h, now .long);
       long = length-set zs i (r .tuple) ∙ now .long;
       run = rw (add-one, take-suc-set zs i (r .tuple) h, after, e, append-assoc) (rw (drop-cons zs i nanTuple h) at (now .run));
-      total = rw (add-one, after, e, add-assoc (at .counted)) (rw (drop-cons zs i nanTuple h) at (now .total));
-      few = rw e (omega (arith, at-most-one (f i (at .state) (getD zs i nanTuple) .counted), now .few));
+      counted = rw (add-one, after, e, add-assoc (at .tally .count)) (rw (drop-cons zs i nanTuple h) at (now .counted));
+      met = rw (add-one, after, e, add-assoc (at .tally .met)) (rw (drop-cons zs i nanTuple h) at (now .met));
+      few = rw e (omega (arith, at-most-one (p .turns i (at .state) u .counted), now .few .0), omega (arith, at-most-one (p .met i (at .state) u), now .few .1));
     }
 
-pub walk-end : {f : Turns State} {start : State} {ys : List Tuple} {i : ℕ} {at : Carried} {zs : List Tuple} → length zs ≤ i → Walked f start ys i at zs
-    → (zs ≡ tuplesOf f 0 start ys) × (at .counted ≡ tallyOf f 0 start ys)
-walk-end {f} {start} {ys} {i} {at} {zs} h now =
+pub walk-end : {p : Pass} {start : State} {ys : List Tuple} {i : ℕ} {at : Carried} {zs : List Tuple} → length zs ≤ i → Walked p start ys i at zs
+    → (zs ≡ tuplesOf (p .turns) 0 start ys) × (at .tally ≡ tuplesTallyOf p 0 start ys)
+walk-end {p} {start} {ys} {i} {at} {zs} h now =
     let none : drop i zs ≡ [] = drop-of-length-le zs h in
-    (rw (take-all i zs h, none, append-nil) at (now .run), rw (none, add-zero (at .counted)) at (now .total))
+    let ec : at .tally .count ≡ countedAmong (p .turns) 0 start ys = rw (none, add-zero (at .tally .count)) at (now .counted) in
+    let em : at .tally .met ≡ countedAmong (meets p) 0 start ys = rw (none, add-zero (at .tally .met)) at (now .met) in
+    (rw (take-all i zs h, none, append-nil) at (now .run), λ j. record { count = ec j; met = em j })
 
 -- ---- a sheet's steps over the records: the flat entry's laws, of the same numbers
 
@@ -207,47 +248,47 @@ steps-few s tuples velocities marks =
 
 -- ---- the loop over the steps, either way: `chain`'s invariants, of the same numbers
 
-abbrev pub Ahead : Bool → List Float → List ℕ → (ℕ → Entry) → ℕ → List Float → ℕ → List Float → List ℕ → Type 0
-Ahead false velocities marks entry n l₀ i l counts = Forward velocities marks entry n l₀ i l counts
-Ahead true velocities marks entry n l₀ i l counts = Backward velocities marks entry n l₀ (n - i) l counts
+abbrev pub Ahead : Bool → List Float → List ℕ → (ℕ → Entry) → ℕ → List Float → ℕ → List Float → List Tally → Type 0
+Ahead false velocities marks entry n l₀ i l tallies = Forward (lentOf velocities marks []) entry n l₀ i l tallies
+Ahead true velocities marks entry n l₀ i l tallies = Backward (lentOf velocities marks []) entry n l₀ (n - i) l tallies
 
 module _ (velocities : List Float) (marks : List ℕ) (entry : ℕ → Entry) (n : ℕ) (l₀ : List Float) (most : n ≤ 16) where
-  pub ahead-start : (inverse : Bool) → Ahead inverse velocities marks entry n l₀ 0 l₀ (replicate 16 0)
-  ahead-start false = forward-start velocities marks entry n l₀ most
-  ahead-start true = let z : n - 0 ≡ n = omega arith in rw z (backward-start velocities marks entry n l₀ most)
+  pub ahead-start : (inverse : Bool) → Ahead inverse velocities marks entry n l₀ 0 l₀ (replicate 16 noTally)
+  ahead-start false = forward-start (lentOf velocities marks []) entry n l₀ most
+  ahead-start true = let z : n - 0 ≡ n = omega arith in rw z (backward-start (lentOf velocities marks []) entry n l₀ most)
 
-  module _ (i : ℕ) (l : List Float) (counts : List ℕ) where
-    pub ahead-again : (inverse : Bool) {l′ : List Float} {count : ℕ} → i < n
-        → l′ ≡ stepListOf inverse velocities marks (entry (stepIndexOf inverse n i)) l → count ≡ tuplesCountedOf inverse velocities marks (entry (stepIndexOf inverse n i)) l
-        → Ahead inverse velocities marks entry n l₀ i l counts → Ahead inverse velocities marks entry n l₀ (i + 1) l′ (set counts (stepIndexOf inverse n i) count)
+  module _ (i : ℕ) (l : List Float) (tallies : List Tally) where
+    pub ahead-again : (inverse : Bool) {l′ : List Float} {tally : Tally} → i < n
+        → l′ ≡ stepListOf inverse (lentOf velocities marks []) (entry (stepIndexOf inverse n i)) l → tally ≡ stepTallyOf inverse (lentOf velocities marks []) (entry (stepIndexOf inverse n i)) l
+        → Ahead inverse velocities marks entry n l₀ i l tallies → Ahead inverse velocities marks entry n l₀ (i + 1) l′ (set tallies (stepIndexOf inverse n i) tally)
     ahead-again false h el ec now = forward-again most h refl el ec now
     ahead-again true h el ec now =
         let z : n - (i + 1) ≡ n - 1 - i = omega arith in
         rw z (backward-again most (n - 1 - i) (omega (arith, h)) refl el ec now)
 
-    pub ahead-end : (inverse : Bool) → n ≤ i → Ahead inverse velocities marks entry n l₀ i l counts
-        → (l ≡ chainOf inverse velocities marks (entriesOf entry n 0) l₀ .list) × (counts ≡ placesOf (chainOf inverse velocities marks (entriesOf entry n 0) l₀ .counts))
+    pub ahead-end : (inverse : Bool) → n ≤ i → Ahead inverse velocities marks entry n l₀ i l tallies
+        → (l ≡ chainOf inverse (lentOf velocities marks []) (entriesOf entry n 0) l₀ .list) × (tallies ≡ placesOf (chainOf inverse (lentOf velocities marks []) (entriesOf entry n 0) l₀ .tallies))
     ahead-end false h now = forward-end most h now
     ahead-end true h now = backward-end most (omega (arith, h)) now
 
 -- one step over the records is the chain's step over the same numbers
-module _ (inverse : Bool) (s : List ℕ) (velocities : List Float) (marks : List ℕ) (n i : ℕ) (todo : Todo) (zs zs′ : List Tuple) (count : ℕ) (et : todo ≡ todoOf inverse s n i)
-    (ez : zs′ ≡ tuplesOf (turnsOf (todo .inverse) velocities marks (todo .step)) 0 (stateOf (todo .step)) zs) (ec : count ≡ tallyOf (turnsOf (todo .inverse) velocities marks (todo .step)) 0 (stateOf (todo .step)) zs) where
-  pub todo-list : flatOf zs′ ≡ stepListOf inverse velocities marks (entryAt s (stepIndexOf inverse n i)) (flatOf zs)
+module _ (inverse : Bool) (s : List ℕ) (velocities : List Float) (marks : List ℕ) (n i : ℕ) (todo : Todo) (zs zs′ : List Tuple) (tally : Tally) (et : todo ≡ todoOf inverse s n i)
+    (ez : zs′ ≡ tuplesOf (turnsOf (todo .inverse) (lentOf velocities marks []) (todo .step)) 0 (stateOf (todo .step)) zs) (ec : tally ≡ tuplesTallyOf (passOf (todo .inverse) (lentOf velocities marks []) (todo .step)) 0 (stateOf (todo .step)) zs) where
+  pub todo-list : flatOf zs′ ≡ stepListOf inverse (lentOf velocities marks []) (entryAt s (stepIndexOf inverse n i)) (flatOf zs)
   unfolding todoOf stepListOf
-  todo-list = ap flatOf ez ∙ flat-tuples (turnsOf (todo .inverse) velocities marks (todo .step)) 0 (stateOf (todo .step)) zs ∙ rw et
+  todo-list = ap flatOf ez ∙ flat-tuples (turnsOf (todo .inverse) (lentOf velocities marks []) (todo .step)) 0 (stateOf (todo .step)) zs ∙ rw et
 
-  pub todo-count : count ≡ tuplesCountedOf inverse velocities marks (entryAt s (stepIndexOf inverse n i)) (flatOf zs)
-  unfolding todoOf tuplesCountedOf
-  todo-count = ec ∙ flat-tally (turnsOf (todo .inverse) velocities marks (todo .step)) 0 (stateOf (todo .step)) zs ∙ rw et
+  pub todo-tally : tally ≡ stepTallyOf inverse (lentOf velocities marks []) (entryAt s (stepIndexOf inverse n i)) (flatOf zs)
+  unfolding todoOf tuplesCountedOf tuplesMetOf
+  todo-tally = ec ∙ flat-tally (passOf (todo .inverse) (lentOf velocities marks []) (todo .step)) 0 (stateOf (todo .step)) zs ∙ ap (λ (t : Todo). tallyOf (passOf (t .inverse) (lentOf velocities marks []) (t .step)) 0 (stateOf (t .step)) (flatOf zs)) et
 
--- no step: the list as it was, and no counts
-no-counts : (inverse : Bool) (velocities : List Float) (marks : List ℕ) (l : List Float) → placesOf (chainOf inverse velocities marks [] l .counts) ≡ replicate 16 0
+-- no step: the list as it was, and no tallies
+no-tallies : (inverse : Bool) (velocities : List Float) (marks : List ℕ) (l : List Float) → placesOf (chainOf inverse (lentOf velocities marks []) [] l .tallies) ≡ replicate 16 noTally
 unfolding chainForwardOf chainInverseOf
-no-counts true velocities marks l = refl
-no-counts false velocities marks l = refl
+no-tallies true velocities marks l = refl
+no-tallies false velocities marks l = refl
 
-same-list : (inverse : Bool) (velocities : List Float) (marks : List ℕ) (l : List Float) → chainOf inverse velocities marks [] l .list ≡ l
+same-list : (inverse : Bool) (velocities : List Float) (marks : List ℕ) (l : List Float) → chainOf inverse (lentOf velocities marks []) [] l .list ≡ l
 unfolding chainForwardOf chainInverseOf
 same-list true velocities marks l = refl
 same-list false velocities marks l = refl
@@ -258,20 +299,20 @@ module _ (inverse : Bool) (s : List ℕ) (velocities : List Float) (marks : List
   flat-refusal = shiftRefusalOf (refusalOf s) (hasDeformation (kindAt s) (stepCountOf s)) (flatOf ys) velocities marks
 
   by-refusal : (t : Bool) → eqb (flat-refusal .number) 0 ≡ t → answer .refusal ≡ flat-refusal
-      → (flatOf zs ≡ chainOf inverse velocities marks (entriesOf (entryAt s) (cond t (stepCountOf s) 0) 0) (flatOf ys) .list)
-      → (answer .counts ≡ placesOf (chainOf inverse velocities marks (entriesOf (entryAt s) (cond t (stepCountOf s) 0) 0) (flatOf ys) .counts))
-      → outcome answer (flatOf zs) ≡ cond t (ranOutcome (chainOf inverse velocities marks (entriesOf (entryAt s) (stepCountOf s) 0) (flatOf ys))) (outcome (refusedAnswer flat-refusal) (flatOf ys))
+      → (flatOf zs ≡ chainOf inverse (lentOf velocities marks []) (entriesOf (entryAt s) (cond t (stepCountOf s) 0) 0) (flatOf ys) .list)
+      → (answer .tallies ≡ placesOf (chainOf inverse (lentOf velocities marks []) (entriesOf (entryAt s) (cond t (stepCountOf s) 0) 0) (flatOf ys) .tallies))
+      → outcome answer (flatOf zs) ≡ cond t (ranOutcome (chainOf inverse (lentOf velocities marks []) (entriesOf (entryAt s) (stepCountOf s) 0) (flatOf ys))) (outcome (refusedAnswer flat-refusal) (flatOf ys))
   unfolding entriesOf
-  by-refusal true e er el ec = λ j. outcome (record { refusal = (er ∙ refusal-none _ _ _ velocities marks (eqb-true (flat-refusal .number) 0 e)) j; counts = ec j }) (el j)
-  by-refusal false e er el ec = λ j. outcome (record { refusal = er j; counts = (ec ∙ no-counts inverse velocities marks (flatOf ys)) j }) ((el ∙ same-list inverse velocities marks (flatOf ys)) j)
+  by-refusal true e er el ec = λ j. outcome (record { refusal = (er ∙ refusal-none _ _ _ velocities marks (eqb-true (flat-refusal .number) 0 e)) j; tallies = ec j }) (el j)
+  by-refusal false e er el ec = λ j. outcome (record { refusal = er j; tallies = (ec ∙ no-tallies inverse velocities marks (flatOf ys)) j }) ((el ∙ same-list inverse velocities marks (flatOf ys)) j)
 
   pub shift-end : {refusal : Refusal} {n i : ℕ} → refusal ≡ thinRefusalOf s (length ys) velocities marks → n ≡ stepsOf s refusal → answer .refusal ≡ refusal → n ≤ i
-      → Ahead inverse velocities marks (entryAt s) n (flatOf ys) i (flatOf zs) (answer .counts) → outcome answer (flatOf zs) ≡ shiftOf inverse s (flatOf ys) velocities marks
+      → Ahead inverse velocities marks (entryAt s) n (flatOf ys) i (flatOf zs) (answer .tallies) → outcome answer (flatOf zs) ≡ shiftOf inverse s (flatOf ys) velocities marks
   unfolding shiftOf outcomeOf stepsOf
   shift-end {refusal} {n} {i} er en ea past now =
       let e : refusal ≡ flat-refusal = er ∙ refusal-is-flat s ys velocities marks in
       let m : n ≡ cond (eqb (flat-refusal .number) 0) (stepCountOf s) 0 = en ∙ rw e in
-      let end = rw m at (ahead-end velocities marks (entryAt s) n (flatOf ys) (rw (en, er) (steps-few s (length ys) velocities marks)) i (flatOf zs) (answer .counts) inverse past now) in
+      let end = rw m at (ahead-end velocities marks (entryAt s) n (flatOf ys) (rw (en, er) (steps-few s (length ys) velocities marks)) i (flatOf zs) (answer .tallies) inverse past now) in
       by-refusal (eqb (flat-refusal .number) 0) refl (ea ∙ e) (end .0) (end .1)
 
 -- ---- the loop over the steps as the walk has it
@@ -287,7 +328,7 @@ todo-place inverse s n i todo et = ap (λ (t : Todo). t .place) et
 pub record Going (inverse : Bool) (s : List ℕ) (velocities : List Float) (marks : List ℕ) (ys : List Tuple) (refusal : Refusal) (n i : ℕ) (zs : List Tuple) (answer : Answer) : Type 0 where
   pub told : answer .refusal ≡ refusal
   pub long : length zs ≡ length ys
-  pub ahead : Ahead inverse velocities marks (entryAt s) n (flatOf ys) i (flatOf zs) (answer .counts)
+  pub ahead : Ahead inverse velocities marks (entryAt s) n (flatOf ys) i (flatOf zs) (answer .tallies)
 
 pub going-few : (s : List ℕ) (velocities : List Float) (marks : List ℕ) (ys : List Tuple) (refusal : Refusal) (n : ℕ) → refusal ≡ thinRefusalOf s (length ys) velocities marks → n ≡ stepsOf s refusal → n ≤ 16
 going-few s velocities marks ys refusal n er en = rw (en, er) (steps-few s (length ys) velocities marks)
@@ -301,17 +342,17 @@ module _ (inverse : Bool) (s : List ℕ) (velocities : List Float) (marks : List
         ahead = rw e (ahead-start velocities marks (entryAt s) n (flatOf ys) most inverse);
       }
 
-  pub going-again : (i : ℕ) (zs zs′ : List Tuple) (answer answer′ : Answer) (todo : Todo) (count : ℕ) → i < n → todo ≡ todoOf inverse s n i → length zs′ ≡ length zs
-      → (zs′ ≡ tuplesOf (turnsOf (todo .inverse) velocities marks (todo .step)) 0 (stateOf (todo .step)) zs) × (count ≡ tallyOf (turnsOf (todo .inverse) velocities marks (todo .step)) 0 (stateOf (todo .step)) zs)
-      → answer′ ≡ notedOf answer (todo .place) count → Going inverse s velocities marks ys refusal n i zs answer → Going inverse s velocities marks ys refusal n (i + 1) zs′ answer′
+  pub going-again : (i : ℕ) (zs zs′ : List Tuple) (answer answer′ : Answer) (todo : Todo) (tally : Tally) → i < n → todo ≡ todoOf inverse s n i → length zs′ ≡ length zs
+      → (zs′ ≡ tuplesOf (turnsOf (todo .inverse) (lentOf velocities marks []) (todo .step)) 0 (stateOf (todo .step)) zs) × (tally ≡ tuplesTallyOf (passOf (todo .inverse) (lentOf velocities marks []) (todo .step)) 0 (stateOf (todo .step)) zs)
+      → answer′ ≡ notedOf answer (todo .place) tally → Going inverse s velocities marks ys refusal n i zs answer → Going inverse s velocities marks ys refusal n (i + 1) zs′ answer′
   unfolding notedOf
-  going-again i zs zs′ answer answer′ todo count h et el ran ea now =
-      let el′ = todo-list inverse s velocities marks n i todo zs zs′ count et (ran .0) (ran .1) in
-      let ec = todo-count inverse s velocities marks n i todo zs zs′ count et (ran .0) (ran .1) in
+  going-again i zs zs′ answer answer′ todo tally h et el ran ea now =
+      let el′ = todo-list inverse s velocities marks n i todo zs zs′ tally et (ran .0) (ran .1) in
+      let ec = todo-tally inverse s velocities marks n i todo zs zs′ tally et (ran .0) (ran .1) in
       record {
         told = ap (λ (r : Answer). r .refusal) ea ∙ now .told;
         long = el ∙ now .long;
-        ahead = rw (ea, todo-place inverse s n i todo et) (ahead-again velocities marks (entryAt s) n (flatOf ys) most i (flatOf zs) (answer .counts) inverse h el′ ec (now .ahead));
+        ahead = rw (ea, todo-place inverse s n i todo et) (ahead-again velocities marks (entryAt s) n (flatOf ys) most i (flatOf zs) (answer .tallies) inverse h el′ ec (now .ahead));
       }
 
 pub going-end : (inverse : Bool) (s : List ℕ) (velocities : List Float) (marks : List ℕ) (ys : List Tuple) (refusal : Refusal) (n : ℕ) → refusal ≡ thinRefusalOf s (length ys) velocities marks → n ≡ stepsOf s refusal

@@ -1,7 +1,7 @@
 -- A step made ready: what depends on the record alone is worked out once a list, and the direction
 -- is in the plan.
-use Prim.Native.Nat.{ℕ, _+_}
-use mathlib.Core.Bool.{Bool, cond}
+use Prim.Native.Nat.{ℕ}
+use mathlib.Core.Bool.{Bool, true, false, cond}
 use mathlib.Core.List.{List}
 use lib.Ieee.{Float}
 use Rattle.tuple.specs.declared.Tuple.{Tuple}
@@ -18,6 +18,10 @@ use Rattle.bodies.specs.declared.Step.the-variants.{Cart, Permtide, Deformation
 use Rattle.lists.specs.Run.{Turn, Turns}
 use Rattle.helmert.specs.Turns.{noState, allTurns, helmertTurns}
 use Rattle.turns.specs.Turns.{plainTurns, movedTurns}
+use Rattle.reach.specs.Met.{Met, cartMet, permtideMet, molodenskyMet, deformationMet, helmertMet}
+use Rattle.tally.specs.declared.Tally.{Tally}
+use Rattle.tally.specs.Tallies.{noTally, plusOf}
+use Rattle.plans.specs.Passes.{Pass}
 use Rattle.thin.specs.declared.Plan.{Plan}
 use Rattle.thin.specs.declared.Plan.the-variants.{CartForward, CartInverse, PermtideForward, PermtideInverse, MolodenskyEither, DeformationEither, HelmertEither}
 use Rattle.thin.specs.declared.Carried.{Carried}
@@ -41,6 +45,20 @@ planTurnsOf velocities marks (MolodenskyEither op inverse) = allTurns (commonOf 
 planTurnsOf velocities marks (DeformationEither op inverse) = movedTurns op inverse velocities marks
 planTurnsOf velocities marks (HelmertEither shift inverse) = helmertTurns inverse shift
 
+-- whether a tuple meets an angle out of reach of sine and cosine in it
+abbrev pub planMetOf : List ℕ → Plan → Met State
+planMetOf marks (CartForward ellps) = cartMet false
+planMetOf marks (CartInverse k) = cartMet true
+planMetOf marks (PermtideForward op) = permtideMet
+planMetOf marks (PermtideInverse op) = permtideMet
+planMetOf marks (MolodenskyEither op inverse) = molodenskyMet op
+planMetOf marks (DeformationEither op inverse) = deformationMet op marks
+planMetOf marks (HelmertEither shift inverse) = helmertMet shift
+
+-- both together
+abbrev pub planPassOf : List Float → List ℕ → Plan → Pass
+planPassOf velocities marks plan = record { turns = planTurnsOf velocities marks plan; met = planMetOf marks plan }
+
 -- the state that a plan starts each list in
 abbrev pub startsOf : Plan → State
 startsOf (CartForward ellps) = noState
@@ -51,13 +69,15 @@ startsOf (MolodenskyEither op inverse) = noState
 startsOf (DeformationEither op inverse) = noState
 startsOf (HelmertEither shift inverse) = startOf shift
 
--- ---- what a loop carries from one tuple to the next: the state, and how many tuples counted
+-- ---- what a loop carries from one tuple to the next: the state, and the tally so far
 
 abbrev pub beginOf : Plan → Carried
-beginOf plan = record { state = startsOf plan; counted = 0 }
+beginOf plan = record { state = startsOf plan; tally = noTally }
 
-abbrev pub tallied : Carried → Turn State → Turned
-tallied at turn = record { carried = record { state = turn .state; counted = at .counted + cond (turn .counted) 1 0 }; tuple = turn .tuple }
+abbrev pub tallied : Carried → Turn State → Bool → Turned
+tallied at turn met =
+    let one : Tally = record { count = cond (turn .counted) 1 0; met = cond met 1 0 } in
+    record { carried = record { state = turn .state; tally = plusOf (at .tally) one }; tuple = turn .tuple }
 
 unfoldable pub turnOf : List Float → List ℕ → Plan → ℕ → Carried → Tuple → Turned
-turnOf velocities marks plan k at u = tallied at (planTurnsOf velocities marks plan k (at .state) u)
+turnOf velocities marks plan k at u = tallied at (planTurnsOf velocities marks plan k (at .state) u) (planMetOf marks plan k (at .state) u)

@@ -1,5 +1,5 @@
 -- What the loop over a sheet's steps goes by: the rules, how many steps are run, which comes next
--- and in which direction, and where its count stands.
+-- and in which direction, and where its tally stands.
 use Prim.Native.Nat.{ℕ, _*_, _-_}
 use mathlib.Core.Bool.{Bool, cond}
 use mathlib.Core.List.{List}
@@ -9,6 +9,7 @@ use lib.Ieee.{Float, nan}
 use Rattle.sheet.specs.declared.Refusal.{Refusal}
 use Rattle.sheet.specs.Layout.{stepCountOf, kindAt, entryAt}
 use Rattle.sheet.specs.Rules.{hasDeformation, refusalOf}
+use Rattle.tally.specs.declared.Tally.{Tally}
 use Rattle.chain.specs.declared.Answer.{Answer}
 use Rattle.chain.specs.Chain.{reversedOf}
 use Rattle.chain.specs.Rules.{shiftRefusalOf}
@@ -34,6 +35,6 @@ todoOf inverse s n i =
     let entry = entryAt s (stepIndexOf inverse n i) in
     record { place = stepIndexOf inverse n i; inverse = reversedOf inverse entry; step = entry .step }
 
--- a step's count in its place
-unfoldable pub notedOf : Answer → ℕ → ℕ → Answer
-notedOf answer place count = record { refusal = answer .refusal; counts = set (answer .counts) place count }
+-- a step's tally in its place
+unfoldable pub notedOf : Answer → ℕ → Tally → Answer
+notedOf answer place tally = record { refusal = answer .refusal; tallies = set (answer .tallies) place tally }

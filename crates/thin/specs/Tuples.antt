@@ -8,8 +8,12 @@ use lib.Ieee.{Float}
 use Rattle.tuple.specs.declared.Tuple.{Tuple}
 use Rattle.lists.specs.Flat.{numbersOf}
 use Rattle.bodies.specs.declared.Step.{Step}
+use Rattle.helmert.specs.declared.State.{State}
 use Rattle.lists.specs.Run.{Turns}
-use Rattle.chain.specs.Chain.{turnsOf, stateOf}
+use Rattle.tally.specs.declared.Tally.{Tally}
+use Rattle.plans.specs.Passes.{Pass, meets}
+use Rattle.plans.specs.Lent.{lentOf}
+use Rattle.chain.specs.Chain.{turnsOf, passOf, stateOf}
 
 -- the list afterwards, the first fix having index k
 abbrev pub tuplesOf : {S : Type 0} → Turns S → ℕ → S → List Tuple → List Tuple
@@ -17,17 +21,21 @@ tuplesOf f k state [] = []
 tuplesOf f k state (u ∷ us) = f k state u .tuple ∷ tuplesOf f (suc k) (f k state u .state) us
 
 -- how many tuples counted
-abbrev pub tallyOf : {S : Type 0} → Turns S → ℕ → S → List Tuple → ℕ
-tallyOf f k state [] = 0
-tallyOf f k state (u ∷ us) = cond (f k state u .counted) 1 0 + tallyOf f (suc k) (f k state u .state) us
+abbrev pub countedAmong : {S : Type 0} → Turns S → ℕ → S → List Tuple → ℕ
+countedAmong f k state [] = 0
+countedAmong f k state (u ∷ us) = cond (f k state u .counted) 1 0 + countedAmong f (suc k) (f k state u .state) us
 
--- ---- a step of a sheet over a list of tuple records: the list afterwards, and how many tuples counted
+-- and how many met an angle out of reach
+abbrev pub tuplesTallyOf : Pass → ℕ → State → List Tuple → Tally
+tuplesTallyOf p k state us = record { count = countedAmong (p .turns) k state us; met = countedAmong (meets p) k state us }
+
+-- ---- a step of a sheet over a list of tuple records: the list afterwards, and the step's tally
 
 abbrev pub stepTuplesOf : Bool → List Float → List ℕ → Step → List Tuple → List Tuple
-stepTuplesOf inverse velocities marks step us = tuplesOf (turnsOf inverse velocities marks step) 0 (stateOf step) us
+stepTuplesOf inverse velocities marks step us = tuplesOf (turnsOf inverse (lentOf velocities marks []) step) 0 (stateOf step) us
 
-abbrev pub stepTallyOf : Bool → List Float → List ℕ → Step → List Tuple → ℕ
-stepTallyOf inverse velocities marks step us = tallyOf (turnsOf inverse velocities marks step) 0 (stateOf step) us
+abbrev pub stepTuplesTallyOf : Bool → List Float → List ℕ → Step → List Tuple → Tally
+stepTuplesTallyOf inverse velocities marks step us = tuplesTallyOf (passOf inverse (lentOf velocities marks []) step) 0 (stateOf step) us
 
 -- ---- the same numbers as a flat list, four a tuple
 abbrev pub flatOf : List Tuple → List Float

@@ -6,7 +6,7 @@
 // step that the core is made of: `run_step` has the one loop over tuples, for all five kinds,
 // either way, Helmert in every mode with its carried state; `shift` runs a sheet's steps one after
 // another by it, with `chain::shift`'s refusals in their order, 2,048 tuples at most. Proved for
-// every input: the list and the count of `run_step` are the step's own definition from tuple to
+// every input: the list and the tally of `run_step` are the step's own definition from tuple to
 // tuple, and what `shift` answers and leaves are, number for number, what `chain::shift` answers
 // and leaves on the same numbers as a flat list (proofs/Flat.antt). No rounding but the steps' own.
 // The two walks are proved by hand; a further kind of step is a case of Plan, with a line each in
@@ -16,7 +16,7 @@ ghost use mathlib.Core.Bool.{true, false};
 ghost use Prim.Native.Nat.{_<_};
 ghost use Rattle.helmert.specs.Turns.{noState};
 ghost use Rattle.chain.specs.Rules.{refusedAnswer, outcome, shiftOf};
-ghost use Rattle.thin.specs.Tuples.{stepTuplesOf, stepTallyOf, flatOf};
+ghost use Rattle.thin.specs.Tuples.{stepTuplesOf, stepTuplesTallyOf, flatOf};
 ghost use Rattle.thin.specs.Plans.{planOf, startsOf, beginOf, tallied, turnOf};
 ghost use Rattle.thin.specs.Sheets.{stepIndexOf, todoOf, thinRefusalOf, stepsOf, notedOf};
 use blocks::one_if;
@@ -31,6 +31,7 @@ use molodensky::Moped;
 use permtide::Tide;
 use rotation::Vec3;
 use sheet::Refusal;
+use tally::Tally;
 use tuple::Tuple;
 
 // A step made ready: what depends on the record alone is worked out once a list.
@@ -44,10 +45,11 @@ pub enum Plan {
     HelmertEither(Shift, bool),
 }
 
-// What a loop carries from one tuple to the next: Helmert's state, and how many tuples counted.
+// What a loop carries from one tuple to the next: Helmert's state, how many tuples counted and how
+// many met an angle out of reach.
 pub struct Carried {
     pub state: State,
-    pub counted: usize,
+    pub tally: Tally,
 }
 
 pub struct Turned {
@@ -119,22 +121,27 @@ fn begin(plan: Plan) -> Carried
     ensures { λ r. ⌜ r ≡ beginOf plan ⌝ }
 {
     let state = start_of(plan);
+    let tally = tally::none();
     Carried {
         state: state,
-        counted: 0,
+        tally: tally,
     }
 }
 
 // ----- one tuple -------------------------------------------------------------------------
 
-fn carried_on(at: Carried, state: State, tuple: Tuple, counted: bool) -> Turned
-    requires { ⌜ at .counted < 18446744073709551615 ⌝ }
-    ensures { λ r. ⌜ r ≡ tallied at (record { state = state; tuple = tuple; counted = counted }) ⌝ }
+fn carried_on(at: Carried, state: State, tuple: Tuple, counted: bool, met: bool) -> Turned
+    requires { ⌜ (at .tally .count < 18446744073709551615) × (at .tally .met < 18446744073709551615) ⌝ }
+    ensures { λ r. ⌜ r ≡ tallied at (record { state = state; tuple = tuple; counted = counted }) met ⌝ }
 {
-    let n = at.counted + one_if(counted);
+    let before = at.tally;
+    let tally = Tally {
+        count: before.count + one_if(counted),
+        met: before.met + one_if(met),
+    };
     let carried = Carried {
         state: state,
-        counted: n,
+        tally: tally,
     };
     Turned {
         carried: carried,
@@ -143,39 +150,53 @@ fn carried_on(at: Carried, state: State, tuple: Tuple, counted: bool) -> Turned
 }
 
 fn turn(plan: Plan, at: Carried, k: usize, u: Tuple, velocities: &[f64], marks: &[u8]) -> Turned
-    requires { ⌜ at .counted < 18446744073709551615 ⌝ }
+    requires { ⌜ (at .tally .count < 18446744073709551615) × (at .tally .met < 18446744073709551615) ⌝ }
     ensures { λ r. ⌜ r ≡ turnOf (now (velocities .entry)) (now (marks .entry)) plan k at u ⌝ }
 {
     let state = at.state;
     match plan {
         Plan::CartForward(ellps) => {
             let r = cart::cart_fwd(ellps, u);
-            return carried_on(at, state, r.tuple, r.counted);
+            return carried_on(at, state, r.tuple, r.counted, reach::place_out(u.x, u.y));
         }
         Plan::CartInverse(c) => {
             let r = cart::cart_inv(c, u);
-            return carried_on(at, state, r.tuple, r.counted);
+            return carried_on(at, state, r.tuple, r.counted, false); // it takes no sine
         }
         Plan::PermtideForward(op) => {
             let v = permtide::fwd(op, u);
-            return carried_on(at, state, v, true);
+            return carried_on(at, state, v, true, reach::out_of_reach(u.y));
         }
         Plan::PermtideInverse(op) => {
             let v = permtide::inv(op, u);
-            return carried_on(at, state, v, true);
+            return carried_on(at, state, v, true, reach::out_of_reach(u.y));
         }
         Plan::MolodenskyEither(op, inverse) => {
             let v = molodensky::common(op, inverse, u);
-            return carried_on(at, state, v, true);
+            return carried_on(
+                at,
+                state,
+                v,
+                true,
+                reach::offsets_out(op.abridged, u.x, u.y),
+            );
         }
         Plan::DeformationEither(op, inverse) => {
             let v = turns::velocity_at(velocities, k);
-            let r = deformation::common(op, inverse, v, turns::mark_at(marks, k), u);
-            return carried_on(at, state, r.tuple, r.counted);
+            let mark = turns::mark_at(marks, k);
+            let r = deformation::common(op, inverse, v, mark, u);
+            return carried_on(at, state, r.tuple, r.counted, reach::moved_met(op, mark, u));
         }
         Plan::HelmertEither(shift, inverse) => {
             let r = helmert::step(shift, inverse, state, u);
-            return carried_on(at, r.state, r.tuple, helmert::counted(shift, u));
+            let counted = helmert::counted(shift, u);
+            return carried_on(
+                at,
+                r.state,
+                r.tuple,
+                counted,
+                reach::helmert_met(shift, state, u),
+            );
         }
     }
 }
@@ -190,9 +211,9 @@ pub fn run_step(
     step: Step,
     velocities: &[f64],
     marks: &[u8],
-) -> usize
+) -> Tally
     ensures { λ r. ⌜ (now (list .exit) ≡ stepTuplesOf inverse (now (velocities .entry)) (now (marks .entry)) step (now (list .entry)))
-        × (r ≡ stepTallyOf inverse (now (velocities .entry)) (now (marks .entry)) step (now (list .entry))) ⌝ }
+        × (r ≡ stepTuplesTallyOf inverse (now (velocities .entry)) (now (marks .entry)) step (now (list .entry))) ⌝ }
 {
     let plan = plan_of(inverse, step);
     let mut at = begin(plan);
@@ -203,7 +224,7 @@ pub fn run_step(
         at = r.carried;
         i += 1;
     }
-    at.counted
+    at.tally
 }
 
 // ----- a sheet over the list -------------------------------------------------------------
@@ -266,26 +287,27 @@ fn steps_of(s: &[u8], refusal: Refusal) -> usize
     0
 }
 
-// No counts yet.
+// No tallies yet.
 fn answer_of(refusal: Refusal) -> Answer
     ensures { λ r. ⌜ r ≡ refusedAnswer refusal ⌝ }
 {
+    let tallies = [tally::none(); 16];
     Answer {
         refusal: refusal,
-        counts: [0usize; 16],
+        tallies: tallies,
     }
 }
 
-fn noted(answer: Answer, place: usize, count: usize) -> Answer
+fn noted(answer: Answer, place: usize, tally: Tally) -> Answer
     requires { ⌜ place < 16 ⌝ }
-    ensures { λ r. ⌜ r ≡ notedOf answer place count ⌝ }
+    ensures { λ r. ⌜ r ≡ notedOf answer place tally ⌝ }
 {
-    let mut counts = answer.counts;
+    let mut tallies = answer.tallies;
     let refusal = answer.refusal;
-    counts[place] = count;
+    tallies[place] = tally;
     Answer {
         refusal: refusal,
-        counts: counts,
+        tallies: tallies,
     }
 }
 
@@ -305,8 +327,8 @@ pub fn shift(
     let mut i = 0;
     while i < n {
         let e = next_step(inverse, s, n, i);
-        let count = run_step(list, e.inverse, e.step, velocities, marks);
-        answer = noted(answer, e.place, count);
+        let tally = run_step(list, e.inverse, e.step, velocities, marks);
+        answer = noted(answer, e.place, tally);
         i += 1;
     }
     answer

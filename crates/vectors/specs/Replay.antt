@@ -10,6 +10,7 @@ use Rattle.words.specs.Words.{word32, word64, numberAt}
 use Rattle.tuple.specs.declared.Tuple.{Tuple}
 use Rattle.ellipsoid.specs.Figure.{namedOf}
 use Rattle.geocart.specs.Geocart.{geographicOf}
+use Rattle.tally.specs.Tallies.{countsOf}
 use Rattle.chain.specs.Rules.{Outcome, shiftOf}
 
 -- ---- words told and words found
@@ -83,7 +84,7 @@ unfoldable pub comparedOf : List ℕ → Outcome → ℕ
 comparedOf told o =
     differ (o .answer .refusal .number) (word32 told 0)
     + differ (o .answer .refusal .step) (word32 told 4)
-    + differingCounts told 8 (o .answer .counts)
+    + differingCounts told 8 (countsOf (o .answer .tallies))
     + differingNumbers told 72 (o .list)
 
 -- a record that is not laid out so is one difference

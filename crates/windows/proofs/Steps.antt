@@ -7,17 +7,18 @@ use mathlib.Core.List.{List, [], _∷_, _++_, append-assoc, append-nil}
 use lib.ListN.{length, take, drop, getD, set, replicate, length-set, length-take, length-drop, length-append, take-append-drop, drop-of-length-le}
 use lib.Seq.{take-suc-set, drop-set-lt, take-set-le, drop-cons, drop-drop, getD-set-same, getD-take, getD-drop, take-take, take-add, take-all, length-take-le, take-at, drop-at, drop-append-le}
 use lib.Ieee.{Float, nan}
-use Rattle.helmert.specs.declared.State.{State}
-use Rattle.lists.specs.Flat.{fourOf}
 use Rattle.lists.specs.Run.{Turns, ranOf, countOf}
 use Rattle.lists.proofs.Laws.{ran-length}
 use Rattle.columns.specs.Columns.{Level, flatOf}
 use Rattle.columns.proofs.Laws.{flat-length}
+use Rattle.tally.specs.declared.Tally.{Tally}
+use Rattle.tally.specs.Tallies.{noTally}
 use Rattle.plans.specs.declared.Plan.{Plan}
 use Rattle.plans.specs.declared.Standing.{Standing}
+use Rattle.plans.specs.Passes.{Pass}
 use Rattle.plans.specs.Windows.{movedOn, Gone, goneOf}
-use Rattle.plans.proofs.Windows.{in-parts, in-no-part, gone-length, gone-standings, count-few}
-use Rattle.windows.specs.Steps.{turnsFrom, atStart, noStanding, startsFrom, startsOf, countsOf, Few}
+use Rattle.plans.proofs.Windows.{in-parts, in-no-part, gone-length, gone-standings, count-few, tally-few}
+use Rattle.windows.specs.Steps.{passesFrom, atStart, noStanding, startsFrom, startsOf, talliesOf, FewIn, Few}
 
 -- ---- one standing filled: what stood before it stays, and what stands after it
 
@@ -48,7 +49,7 @@ before-alike a b i j h e = sym (getD-take i a j noStanding h) ∙ ap (λ (l : Li
 
 -- what an array is read as past its end
 abbrev pub absentStanding : Standing
-absentStanding = record { state = record { last = nan; t = record { x = nan; y = nan; z = nan } }; count = 0 }
+absentStanding = record { state = record { last = nan; t = record { x = nan; y = nan; z = nan } }; tally = noTally }
 
 -- a standing that is there, whatever stands for one that is not
 pub same-there : (standings : List Standing) (i : ℕ) (d : Standing) → i < length standings → getD standings i d ≡ getD standings i noStanding
@@ -58,96 +59,96 @@ same-there (standing ∷ standings) (suc i) d h = same-there standings i d (omeg
 
 -- ---- steps that are left
 
-abbrev pub turnsLeft : (ℕ → Turns State) → ℕ → ℕ → List (Turns State)
-turnsLeft f n i = turnsFrom f (n - i) i
+abbrev pub passesLeft : (ℕ → Pass) → ℕ → ℕ → List Pass
+passesLeft f n i = passesFrom f (n - i) i
 
-turns-open : (f : ℕ → Turns State) (n i : ℕ) → i < n → turnsLeft f n i ≡ f i ∷ turnsLeft f n (i + 1)
-unfolding turnsFrom
-turns-open f n i h =
+passes-open : (f : ℕ → Pass) (n i : ℕ) → i < n → passesLeft f n i ≡ f i ∷ passesLeft f n (i + 1)
+unfolding passesFrom
+passes-open f n i h =
     let s : n - i ≡ suc (n - (i + 1)) = omega arith in
     let e : i + 1 ≡ suc i = omega arith in
     rw (s, e)
 
-turns-none : (f : ℕ → Turns State) (n : ℕ) → turnsLeft f n n ≡ []
-unfolding turnsFrom
-turns-none f n = let s : n - n ≡ 0 = omega arith in rw s
+passes-none : (f : ℕ → Pass) (n : ℕ) → passesLeft f n n ≡ []
+unfolding passesFrom
+passes-none f n = let s : n - n ≡ 0 = omega arith in rw s
 
 -- ---- forward: what the steps that are left make of the window, and of their standings, is what all
 -- make of the window at the start
 
-pub record Forward (f : ℕ → Turns State) (n k : ℕ) (standings₀ : List Standing) (l₀ : List Float) (i : ℕ) (standings : List Standing) (l : List Float) : Type 0 where
+pub record Forward (f : ℕ → Pass) (n k : ℕ) (standings₀ : List Standing) (l₀ : List Float) (i : ℕ) (standings : List Standing) (l : List Float) : Type 0 where
   pub within : i ≤ n
   pub sixteen₀ : length standings₀ ≡ 16
   pub sixteen : length standings ≡ 16
-  pub list : goneOf false k (turnsLeft f n i) (drop i standings₀) l .list ≡ goneOf false k (turnsFrom f n 0) standings₀ l₀ .list
-  pub gone : take i standings ++ goneOf false k (turnsLeft f n i) (drop i standings₀) l .standings ≡ goneOf false k (turnsFrom f n 0) standings₀ l₀ .standings
+  pub list : goneOf false k (passesLeft f n i) (drop i standings₀) l .list ≡ goneOf false k (passesFrom f n 0) standings₀ l₀ .list
+  pub gone : take i standings ++ goneOf false k (passesLeft f n i) (drop i standings₀) l .standings ≡ goneOf false k (passesFrom f n 0) standings₀ l₀ .standings
   pub rest : drop i standings ≡ drop i standings₀
 
-pub forward-start : (f : ℕ → Turns State) (n k : ℕ) (standings₀ : List Standing) (l₀ : List Float) → length standings₀ ≡ 16 → Forward f n k standings₀ l₀ 0 standings₀ l₀
+pub forward-start : (f : ℕ → Pass) (n k : ℕ) (standings₀ : List Standing) (l₀ : List Float) → length standings₀ ≡ 16 → Forward f n k standings₀ l₀ 0 standings₀ l₀
 forward-start f n k standings₀ l₀ h =
     let s : n - 0 ≡ n = omega arith in
     record { within = omega arith; sixteen₀ = h; sixteen = h; list = rw s; gone = rw s; rest = refl }
 
-module _ {f : ℕ → Turns State} {n k : ℕ} {standings₀ : List Standing} {l₀ : List Float} {i : ℕ} {standings : List Standing} {l : List Float} (most : n ≤ 16) where
+module _ {f : ℕ → Pass} {n k : ℕ} {standings₀ : List Standing} {l₀ : List Float} {i : ℕ} {standings : List Standing} {l : List Float} (most : n ≤ 16) where
   -- a step's standing is as it was
   pub forward-there : Forward f n k standings₀ l₀ i standings l → getD standings i noStanding ≡ getD standings₀ i noStanding
   forward-there now = there-alike standings standings₀ i (now .rest)
 
-  pub forward-few : (d : Standing) → i < n → Few k standings₀ → Forward f n k standings₀ l₀ i standings l → getD standings i d .count ≤ k
+  pub forward-few : (d : Standing) → i < n → Few k standings₀ → Forward f n k standings₀ l₀ i standings l → FewIn k (getD standings i d .tally)
   forward-few d h few now = rw (same-there standings i d (omega (arith, now .sixteen)), forward-there now) (few i)
 
-  pub forward-again : {g : Turns State} {standing : Standing} {l′ : List Float} (d : Standing) → i < n → g ≡ f i
-      → l′ ≡ ranOf g k (getD standings i d .state) l → standing ≡ movedOn g k (getD standings i d) l
+  pub forward-again : {g : Pass} {standing : Standing} {l′ : List Float} (d : Standing) → i < n → g ≡ f i
+      → l′ ≡ ranOf (g .turns) k (getD standings i d .state) l → standing ≡ movedOn g k (getD standings i d) l
       → Forward f n k standings₀ l₀ i standings l → Forward f n k standings₀ l₀ (i + 1) (set standings i standing) l′
   unfolding goneOf
   forward-again {standing = standing} {l′ = l′} d h eg el ep now =
       let g : i < length standings = omega (arith, now .sixteen) in
       let g₀ : i < length standings₀ = omega (arith, now .sixteen₀) in
       let same = same-there standings i d g ∙ forward-there now in
-      let el′ : l′ ≡ ranOf (f i) k (getD standings₀ i noStanding .state) l = rw (same, eg) at el in
+      let el′ : l′ ≡ ranOf (f i .turns) k (getD standings₀ i noStanding .state) l = rw (same, eg) at el in
       let ep′ : standing ≡ movedOn (f i) k (getD standings₀ i noStanding) l = rw (same, eg) at ep in
       record {
         within = omega arith;
         sixteen₀ = now .sixteen₀;
         sixteen = length-set standings i standing ∙ now .sixteen;
-        list = rw el′ (rw (turns-open f n i h, opened standings₀ i g₀) at (now .list));
-        gone = rw (filled standings i standing g, append-assoc, ep′, el′) (rw (turns-open f n i h, opened standings₀ i g₀) at (now .gone));
+        list = rw el′ (rw (passes-open f n i h, opened standings₀ i g₀) at (now .list));
+        gone = rw (filled standings i standing g, append-assoc, ep′, el′) (rw (passes-open f n i h, opened standings₀ i g₀) at (now .gone));
         rest = left standings i standing g ∙ sym (drop-drop 1 i standings) ∙ ap (drop 1) (now .rest) ∙ drop-drop 1 i standings₀;
       }
 
   pub forward-end : n ≤ i → Forward f n k standings₀ l₀ i standings l
-      → (l ≡ goneOf false k (turnsFrom f n 0) standings₀ l₀ .list) × (standings ≡ goneOf false k (turnsFrom f n 0) standings₀ l₀ .standings)
+      → (l ≡ goneOf false k (passesFrom f n 0) standings₀ l₀ .list) × (standings ≡ goneOf false k (passesFrom f n 0) standings₀ l₀ .standings)
   unfolding goneOf
   forward-end h now =
       let s : i ≡ n = omega (arith, now .within) in
-      let none : turnsLeft f n i ≡ [] = rw s (turns-none f n) in
+      let none : passesLeft f n i ≡ [] = rw s (passes-none f n) in
       (rw none at (now .list), sym (take-append-drop i standings) ∙ rw (now .rest) (rw none at (now .gone)))
 
 -- ---- inverse: the window is what the steps from index i on have made of it, last first, and the
 -- standings from there on are theirs
 
-pub record Backward (f : ℕ → Turns State) (n k : ℕ) (standings₀ : List Standing) (l₀ : List Float) (i : ℕ) (standings : List Standing) (l : List Float) : Type 0 where
+pub record Backward (f : ℕ → Pass) (n k : ℕ) (standings₀ : List Standing) (l₀ : List Float) (i : ℕ) (standings : List Standing) (l : List Float) : Type 0 where
   pub within : i ≤ n
   pub sixteen₀ : length standings₀ ≡ 16
   pub sixteen : length standings ≡ 16
-  pub list : l ≡ goneOf true k (turnsLeft f n i) (drop i standings₀) l₀ .list
-  pub gone : drop i standings ≡ goneOf true k (turnsLeft f n i) (drop i standings₀) l₀ .standings
+  pub list : l ≡ goneOf true k (passesLeft f n i) (drop i standings₀) l₀ .list
+  pub gone : drop i standings ≡ goneOf true k (passesLeft f n i) (drop i standings₀) l₀ .standings
   pub before : take i standings ≡ take i standings₀
 
-pub backward-start : (f : ℕ → Turns State) (n k : ℕ) (standings₀ : List Standing) (l₀ : List Float) → length standings₀ ≡ 16 → Backward f n k standings₀ l₀ n standings₀ l₀
+pub backward-start : (f : ℕ → Pass) (n k : ℕ) (standings₀ : List Standing) (l₀ : List Float) → length standings₀ ≡ 16 → Backward f n k standings₀ l₀ n standings₀ l₀
 unfolding goneOf
 backward-start f n k standings₀ l₀ h =
-    record { within = omega arith; sixteen₀ = h; sixteen = h; list = rw (turns-none f n); gone = rw (turns-none f n); before = refl }
+    record { within = omega arith; sixteen₀ = h; sixteen = h; list = rw (passes-none f n); gone = rw (passes-none f n); before = refl }
 
-module _ {f : ℕ → Turns State} {n k : ℕ} {standings₀ : List Standing} {l₀ : List Float} {i : ℕ} {standings : List Standing} {l : List Float} (most : n ≤ 16) where
+module _ {f : ℕ → Pass} {n k : ℕ} {standings₀ : List Standing} {l₀ : List Float} {i : ℕ} {standings : List Standing} {l : List Float} (most : n ≤ 16) where
   pub backward-there : (j : ℕ) → j + 1 ≡ i → Backward f n k standings₀ l₀ i standings l → getD standings j noStanding ≡ getD standings₀ j noStanding
   backward-there j s now = before-alike standings standings₀ i j (omega arith) (now .before)
 
-  pub backward-few : (d : Standing) (j : ℕ) → j + 1 ≡ i → Few k standings₀ → Backward f n k standings₀ l₀ i standings l → getD standings j d .count ≤ k
+  pub backward-few : (d : Standing) (j : ℕ) → j + 1 ≡ i → Few k standings₀ → Backward f n k standings₀ l₀ i standings l → FewIn k (getD standings j d .tally)
   backward-few d j s few now = rw (same-there standings j d (omega (arith, now .sixteen, now .within)), backward-there j s now) (few j)
 
-  pub backward-again : {g : Turns State} {standing : Standing} {l′ : List Float} (d : Standing) (j : ℕ) → j + 1 ≡ i → g ≡ f j
-      → l′ ≡ ranOf g k (getD standings j d .state) l → standing ≡ movedOn g k (getD standings j d) l
+  pub backward-again : {g : Pass} {standing : Standing} {l′ : List Float} (d : Standing) (j : ℕ) → j + 1 ≡ i → g ≡ f j
+      → l′ ≡ ranOf (g .turns) k (getD standings j d .state) l → standing ≡ movedOn g k (getD standings j d) l
       → Backward f n k standings₀ l₀ i standings l → Backward f n k standings₀ l₀ j (set standings j standing) l′
   unfolding goneOf
   backward-again {standing = standing} {l′ = l′} d j s eg el ep now =
@@ -155,20 +156,20 @@ module _ {f : ℕ → Turns State} {n k : ℕ} {standings₀ : List Standing} {l
       let g : j < length standings = omega (arith, now .sixteen, now .within) in
       let g₀ : j < length standings₀ = omega (arith, now .sixteen₀, now .within) in
       let same = same-there standings j d g ∙ backward-there j s now in
-      let el′ : l′ ≡ ranOf (f j) k (getD standings₀ j noStanding .state) l = rw (same, eg) at el in
+      let el′ : l′ ≡ ranOf (f j .turns) k (getD standings₀ j noStanding .state) l = rw (same, eg) at el in
       let ep′ : standing ≡ movedOn (f j) k (getD standings₀ j noStanding) l = rw (same, eg) at ep in
       let few : take j standings ≡ take j standings₀ = sym (take-take j i standings (omega arith)) ∙ ap (take j) (now .before) ∙ take-take j i standings₀ (omega arith) in
       record {
         within = omega (arith, now .within);
         sixteen₀ = now .sixteen₀;
         sixteen = length-set standings j standing ∙ now .sixteen;
-        list = rw (turns-open f n j h, opened standings₀ j g₀, s, el′) (ap (ranOf (f j) k (getD standings₀ j noStanding .state)) (now .list));
-        gone = from-there standings j standing g ∙ rw (turns-open f n j h, opened standings₀ j g₀, s, ep′, now .gone, ← now .list);
+        list = rw (passes-open f n j h, opened standings₀ j g₀, s, el′) (ap (ranOf (f j .turns) k (getD standings₀ j noStanding .state)) (now .list));
+        gone = from-there standings j standing g ∙ rw (passes-open f n j h, opened standings₀ j g₀, s, ep′, now .gone, ← now .list);
         before = take-set-le j standings j standing (omega arith) ∙ few;
       }
 
   pub backward-end : i ≡ 0 → Backward f n k standings₀ l₀ i standings l
-      → (l ≡ goneOf true k (turnsFrom f n 0) standings₀ l₀ .list) × (standings ≡ goneOf true k (turnsFrom f n 0) standings₀ l₀ .standings)
+      → (l ≡ goneOf true k (passesFrom f n 0) standings₀ l₀ .list) × (standings ≡ goneOf true k (passesFrom f n 0) standings₀ l₀ .standings)
   backward-end s now = let z : n - 0 ≡ n = omega arith in (rw (s, z) at (now .list), rw (s, z) at (now .gone))
 
 -- ---- the starts
@@ -213,112 +214,119 @@ module _ {plan : ℕ → Plan} {n i : ℕ} {standings : List Standing} (most : n
       let b : take i standings ≡ startsFrom plan n 0 = rw (z, append-nil) at (now .begun) in
       sym (take-append-drop i standings) ∙ rw (b, now .rest, s)
 
--- ---- the counts
+-- ---- the tallies
 
-pub record Read (standings : List Standing) (i : ℕ) (counts : List ℕ) : Type 0 where
-  pub sixteen : length counts ≡ 16
-  pub run : take i counts ++ countsOf (drop i standings) ≡ countsOf standings
+-- a tally filled
+tally-filled : (tallies : List Tally) (i : ℕ) (tally : Tally) → i < length tallies → take (i + 1) (set tallies i tally) ≡ take i tallies ++ (tally ∷ [])
+tally-filled tallies i tally h = let e : i + 1 ≡ suc i = omega arith in rw e (take-suc-set tallies i tally h)
 
-pub read-start : (standings : List Standing) → Read standings 0 (replicate 16 0)
+pub record Read (standings : List Standing) (i : ℕ) (tallies : List Tally) : Type 0 where
+  pub sixteen : length tallies ≡ 16
+  pub run : take i tallies ++ talliesOf (drop i standings) ≡ talliesOf standings
+
+pub read-start : (standings : List Standing) → Read standings 0 (replicate 16 noTally)
 read-start standings = record { sixteen = refl; run = refl }
 
-pub read-again : {standings : List Standing} {i : ℕ} {counts : List ℕ} (d : Standing) → i < 16 → length standings ≡ 16
-    → Read standings i counts → Read standings (i + 1) (set counts i (getD standings i d .count))
-unfolding countsOf
-read-again {standings} {i} {counts} d h long now =
-    let count = getD standings i d .count in
-    let e : count ≡ getD standings i noStanding .count = ap (λ (standing : Standing). standing .count) (same-there standings i d (omega (arith, long))) in
-    let one : i + 1 ≡ suc i = omega arith in
-    let g : i < length counts = omega (arith, now .sixteen) in
+pub read-again : {standings : List Standing} {i : ℕ} {tallies : List Tally} {standing : Standing} (d : Standing) → i < 16 → length standings ≡ 16
+    → standing ≡ getD standings i d → Read standings i tallies → Read standings (i + 1) (set tallies i (standing .tally))
+unfolding talliesOf
+read-again {standings} {i} {tallies} {standing} d h long es now =
+    let tally = standing .tally in
+    let e : tally ≡ getD standings i noStanding .tally = ap (λ (standing : Standing). standing .tally) (es ∙ same-there standings i d (omega (arith, long))) in
+    let g : i < length tallies = omega (arith, now .sixteen) in
     record {
-      sixteen = length-set counts i count ∙ now .sixteen;
-      run = rw (one, take-suc-set counts i count g, append-assoc, e, ← one) (rw (opened standings i (omega (arith, long))) at (now .run));
+      sixteen = length-set tallies i tally ∙ now .sixteen;
+      run = rw (tally-filled tallies i tally g, append-assoc, e) (rw (opened standings i (omega (arith, long))) at (now .run));
     }
 
-pub read-end : {standings : List Standing} {i : ℕ} {counts : List ℕ} → 16 ≤ i → length standings ≡ 16 → Read standings i counts → counts ≡ countsOf standings
-unfolding countsOf
-read-end {standings} {i} {counts} h long now =
-    rw (drop-of-length-le standings {i = i} (omega (arith, long)), append-nil, take-all i counts (omega (arith, now .sixteen))) at (now .run)
+pub read-end : {standings : List Standing} {i : ℕ} {tallies : List Tally} → 16 ≤ i → length standings ≡ 16 → Read standings i tallies → tallies ≡ talliesOf standings
+unfolding talliesOf
+read-end {standings} {i} {tallies} h long now =
+    rw (drop-of-length-le standings {i = i} (omega (arith, long)), append-nil, take-all i tallies (omega (arith, now .sixteen))) at (now .run)
 
--- ---- no count over the number of rows that have passed
+-- ---- neither number of a tally over the number of rows that have passed
 
 few-starts : (plan : ℕ → Plan) (n i m : ℕ) → Few 0 (startsFrom plan n i ++ replicate m noStanding)
 unfolding startsFrom
-few-starts plan zero i zero j = omega arith
-few-starts plan zero i (suc m) zero = omega arith
+few-starts plan zero i zero j = (omega arith, omega arith)
+few-starts plan zero i (suc m) zero = (omega arith, omega arith)
 few-starts plan zero i (suc m) (suc j) = few-starts plan zero i m j
-few-starts plan (suc n) i m zero = omega arith
+few-starts plan (suc n) i m zero = (omega arith, omega arith)
 few-starts plan (suc n) i m (suc j) = few-starts plan n (suc i) m j
 
 pub starts-few : (plan : ℕ → Plan) (n : ℕ) → Few 0 (startsOf plan n)
 starts-few plan n = few-starts plan n 0 (16 - n)
 
-pub gone-few : (inverse : Bool) (k n : ℕ) (fs : List (Turns State)) (standings : List Standing) (l : List Float) → length l ≡ 4 * n → Few k standings
-    → Few (k + n) (goneOf inverse k fs standings l .standings)
+pub gone-few : (inverse : Bool) (k n : ℕ) (ps : List Pass) (standings : List Standing) (l : List Float) → length l ≡ 4 * n → Few k standings
+    → Few (k + n) (goneOf inverse k ps standings l .standings)
 unfolding goneOf
-gone-few inverse k n [] standings l e h i = omega (arith, h i)
-gone-few inverse k n (f ∷ fs) [] l e h i = omega (arith, h i)
-gone-few false k n (f ∷ fs) (standing ∷ standings) l e h zero = omega (arith, h 0, e, count-few f k (standing .state) l)
-gone-few false k n (f ∷ fs) (standing ∷ standings) l e h (suc i) =
-    gone-few false k n fs standings (ranOf f k (standing .state) l) (ran-length f k (standing .state) l ∙ e) (λ j. h (suc j)) i
-gone-few true k n (f ∷ fs) (standing ∷ standings) l e h zero =
-    omega (arith, h 0, e, gone-length true k fs standings l, count-few f k (standing .state) (goneOf true k fs standings l .list))
-gone-few true k n (f ∷ fs) (standing ∷ standings) l e h (suc i) = gone-few true k n fs standings l e (λ j. h (suc j)) i
+gone-few inverse k n [] standings l e h i = (omega (arith, h i .0), omega (arith, h i .1))
+gone-few inverse k n (p ∷ ps) [] l e h i = (omega (arith, h i .0), omega (arith, h i .1))
+gone-few false k n (p ∷ ps) (standing ∷ standings) l e h zero =
+    let few = tally-few p k (standing .state) l in
+    (omega (arith, h 0 .0, e, few .0), omega (arith, h 0 .1, e, few .1))
+gone-few false k n (p ∷ ps) (standing ∷ standings) l e h (suc i) =
+    gone-few false k n ps standings (ranOf (p .turns) k (standing .state) l) (ran-length (p .turns) k (standing .state) l ∙ e) (λ j. h (suc j)) i
+gone-few true k n (p ∷ ps) (standing ∷ standings) l e h zero =
+    let few = tally-few p k (standing .state) (goneOf true k ps standings l .list) in
+    let long = gone-length true k ps standings l in
+    (omega (arith, h 0 .0, e, long, few .0), omega (arith, h 0 .1, e, long, few .1))
+gone-few true k n (p ∷ ps) (standing ∷ standings) l e h (suc i) = gone-few true k n ps standings l e (λ j. h (suc j)) i
 
 -- a step over columns counts no more tuples than there are rows
 pub rows-few : {S : Type 0} (f : Turns S) (k : ℕ) (state : S) (x y z t : List Float) {n : ℕ} → Level x y z t → n ≡ countOf f k state (flatOf x y z t) → n ≤ length x
 rows-few f k state x y z t level e = omega (arith, e, count-few f k state (flatOf x y z t), flat-length x y z t level)
 
-pub turns-length : (f : ℕ → Turns State) (n i : ℕ) → length (turnsFrom f n i) ≡ n
-unfolding turnsFrom
-turns-length f zero i = refl
-turns-length f (suc n) i = ap suc (turns-length f n (suc i))
+pub passes-length : (f : ℕ → Pass) (n i : ℕ) → length (passesFrom f n i) ≡ n
+unfolding passesFrom
+passes-length f zero i = refl
+passes-length f (suc n) i = ap suc (passes-length f n (suc i))
 
-pub turns-few : (f : ℕ → Turns State) (n : ℕ) → n ≤ 16 → length (turnsFrom f n 0) ≤ 16
-turns-few f n h = rw (turns-length f n 0) h
+pub passes-few : (f : ℕ → Pass) (n : ℕ) → n ≤ 16 → length (passesFrom f n 0) ≤ 16
+passes-few f n h = rw (passes-length f n 0) h
 
 -- ---- window after window: what the steps make of the rows that are left, going on from their
 -- standings, is what they make of the whole list
 
-pub record Going (inverse : Bool) (fs : List (Turns State)) (standings₀ : List Standing) (l₀ : List Float) (i : ℕ) (standings : List Standing) (l : List Float) : Type 0 where
+pub record Going (inverse : Bool) (ps : List Pass) (standings₀ : List Standing) (l₀ : List Float) (i : ℕ) (standings : List Standing) (l : List Float) : Type 0 where
   pub sixteen : length standings ≡ 16
   pub long : length l ≡ length l₀
-  pub list : take (4 * i) l ++ goneOf inverse i fs standings (drop (4 * i) l) .list ≡ goneOf inverse 0 fs standings₀ l₀ .list
-  pub gone : goneOf inverse i fs standings (drop (4 * i) l) .standings ≡ goneOf inverse 0 fs standings₀ l₀ .standings
+  pub list : take (4 * i) l ++ goneOf inverse i ps standings (drop (4 * i) l) .list ≡ goneOf inverse 0 ps standings₀ l₀ .list
+  pub gone : goneOf inverse i ps standings (drop (4 * i) l) .standings ≡ goneOf inverse 0 ps standings₀ l₀ .standings
   pub few : Few i standings
 
-pub going-start : (inverse : Bool) (fs : List (Turns State)) (standings₀ : List Standing) (l₀ : List Float) → length standings₀ ≡ 16 → Few 0 standings₀
-    → Going inverse fs standings₀ l₀ 0 standings₀ l₀
-going-start inverse fs standings₀ l₀ h few = record { sixteen = h; long = refl; list = refl; gone = refl; few = few }
+pub going-start : (inverse : Bool) (ps : List Pass) (standings₀ : List Standing) (l₀ : List Float) → length standings₀ ≡ 16 → Few 0 standings₀
+    → Going inverse ps standings₀ l₀ 0 standings₀ l₀
+going-start inverse ps standings₀ l₀ h few = record { sixteen = h; long = refl; list = refl; gone = refl; few = few }
 
-module _ {inverse : Bool} {fs : List (Turns State)} {standings₀ : List Standing} {l₀ : List Float} {i : ℕ} {standings : List Standing} {l : List Float} where
-  pub going-again : {standings′ : List Standing} {l′ w′ : List Float} (m : ℕ) → length fs ≤ 16 → 4 * (i + m) ≤ length l
+module _ {inverse : Bool} {ps : List Pass} {standings₀ : List Standing} {l₀ : List Float} {i : ℕ} {standings : List Standing} {l : List Float} where
+  pub going-again : {standings′ : List Standing} {l′ w′ : List Float} (m : ℕ) → length ps ≤ 16 → 4 * (i + m) ≤ length l
       → l′ ≡ take (4 * i) l ++ w′ ++ drop (4 * (i + m)) l
-      → w′ ≡ goneOf inverse i fs standings (take (4 * m) (drop (4 * i) l)) .list
-      → standings′ ≡ goneOf inverse i fs standings (take (4 * m) (drop (4 * i) l)) .standings
-      → Going inverse fs standings₀ l₀ i standings l → Going inverse fs standings₀ l₀ (i + m) standings′ l′
+      → w′ ≡ goneOf inverse i ps standings (take (4 * m) (drop (4 * i) l)) .list
+      → standings′ ≡ goneOf inverse i ps standings (take (4 * m) (drop (4 * i) l)) .standings
+      → Going inverse ps standings₀ l₀ i standings l → Going inverse ps standings₀ l₀ (i + m) standings′ l′
   going-again {standings′} {l′} {w′} m most fits el ew ep now =
       let w = take (4 * m) (drop (4 * i) l) in
       let more = drop (4 * (i + m)) l in
       let four : 4 * (i + m) ≡ 4 * i + 4 * m = omega arith in
       let wide : length w ≡ 4 * m = length-take-le (4 * m) (drop (4 * i) l) (rw (length-drop (4 * i) l) (omega (arith, fits))) in
-      let wide′ : length w′ ≡ 4 * m = ap length ew ∙ gone-length inverse i fs standings w ∙ wide in
+      let wide′ : length w′ ≡ 4 * m = ap length ew ∙ gone-length inverse i ps standings w ∙ wide in
       let front : length (take (4 * i) l) ≡ 4 * i = length-take-le (4 * i) l (omega (arith, fits)) in
       let head : length (take (4 * i) l ++ w′) ≡ 4 * (i + m) = length-append (take (4 * i) l) w′ ∙ rw (front, wide′) (omega arith) in
       let cut : drop (4 * i) l ≡ w ++ more = sym (take-append-drop (4 * m) (drop (4 * i) l)) ∙ ap (λ (u : List Float). w ++ u) (drop-drop (4 * m) (4 * i) l ∙ ap (λ (k : ℕ). drop k l) (sym four)) in
-      let both = in-parts inverse i fs standings m w more wide in
+      let both = in-parts inverse i ps standings m w more wide in
       let t : take (4 * (i + m)) l′ ≡ take (4 * i) l ++ w′ = ap (take (4 * (i + m))) el ∙ take-at (take (4 * i) l ++ w′) more (4 * (i + m)) head in
       let d : drop (4 * (i + m)) l′ ≡ more = ap (drop (4 * (i + m))) el ∙ drop-at (take (4 * i) l ++ w′) more (4 * (i + m)) head in
       record {
-        sixteen = ap length ep ∙ gone-standings inverse i fs standings w (omega (arith, most, now .sixteen)) ∙ now .sixteen;
+        sixteen = ap length ep ∙ gone-standings inverse i ps standings w (omega (arith, most, now .sixteen)) ∙ now .sixteen;
         long = ap length el ∙ length-append (take (4 * i) l ++ w′) more ∙ rw (head, length-drop (4 * (i + m)) l) (omega (arith, fits, now .long));
         list = rw (t, d, ep, append-assoc, ew) (rw (cut, both) at (now .list));
         gone = rw (d, ep) (rw (cut, both) at (now .gone));
-        few = rw ep (gone-few inverse i m fs standings w wide (now .few));
+        few = rw ep (gone-few inverse i m ps standings w wide (now .few));
       }
 
-  pub going-end : length l < 4 * i + 4 → Going inverse fs standings₀ l₀ i standings l
-      → (l ≡ goneOf inverse 0 fs standings₀ l₀ .list) × (standings ≡ goneOf inverse 0 fs standings₀ l₀ .standings)
+  pub going-end : length l < 4 * i + 4 → Going inverse ps standings₀ l₀ i standings l
+      → (l ≡ goneOf inverse 0 ps standings₀ l₀ .list) × (standings ≡ goneOf inverse 0 ps standings₀ l₀ .standings)
   going-end h now =
-      let none = in-no-part inverse i fs standings (drop (4 * i) l) (rw (length-drop (4 * i) l) (omega (arith, h))) in
+      let none = in-no-part inverse i ps standings (drop (4 * i) l) (rw (length-drop (4 * i) l) (omega (arith, h))) in
       (sym (take-append-drop (4 * i) l) ∙ rw none at (now .list), rw none at (now .gone))

@@ -2,10 +2,10 @@
 //
 // Each window is put into columns, passes through all steps, and is put back, so that a number is
 // moved twice however many steps there are. Between two windows each step keeps its standing: the
-// state that it goes on from, and its count so far. Plans are made by the caller and the columns'
+// state that it goes on from, and its tally so far. Plans are made by the caller and the columns'
 // room here, once a call. Proved for every list and plans, in both directions: the list and the
-// counts are those of all steps over the whole list (plans, specs/Windows.antt); a rest shorter than
-// a tuple stays as it is. No rounding but the steps' own. Used by the chain's flat entry and by what
+// tallies are those of all steps over the whole list (plans, specs/Windows.antt); a rest shorter
+// than a tuple stays as it is. No rounding but the steps' own. Used by the chain's flat entry and by what
 // runs a record.
 ghost use mathlib.Core.Path.{_≡_};
 ghost use mathlib.Core.Bool.{true, false};
@@ -13,12 +13,14 @@ ghost use Prim.Native.Nat.{_+_, _*_, _≤_, _<_};
 ghost use lib.ListN.{length};
 ghost use Rattle.lists.specs.Run.{ranOf};
 ghost use Rattle.columns.specs.Columns.{Level, flatOf};
-ghost use Rattle.plans.specs.Plans.{planIn, planTurnsOf};
+ghost use Rattle.plans.specs.Lent.{lentOf};
+ghost use Rattle.plans.specs.Plans.{planIn, planTurnsOf, planPassOf};
 ghost use Rattle.plans.specs.Windows.{movedOn, goneOf};
-ghost use Rattle.windows.specs.Steps.{turnsIn, turnsFrom, atStart, noStanding, startsOf, countsOf, Few, goneOver};
+ghost use Rattle.windows.specs.Steps.{passIn, passesFrom, atStart, noStanding, startsOf, talliesOf, FewIn, Few, goneOver};
 use plans::Plan;
 use plans::Standing;
 use step_windows::ROWS;
+use tally::Tally;
 
 // ----- standings ------------------------------------------------------------------------------
 
@@ -26,9 +28,10 @@ fn no_standing() -> Standing
     ensures { λ r. ⌜ r ≡ noStanding ⌝ }
 {
     let state = plans::no_state();
+    let tally = tally::none();
     Standing {
         state: state,
-        count: 0,
+        tally: tally,
     }
 }
 
@@ -37,9 +40,10 @@ fn at_start(plan: Plan) -> Standing
     ensures { λ r. ⌜ r ≡ atStart plan ⌝ }
 {
     let state = plans::start(plan);
+    let tally = tally::none();
     Standing {
         state: state,
-        count: 0,
+        tally: tally,
     }
 }
 
@@ -57,17 +61,19 @@ fn starts(plans: [Plan; 16], n: usize) -> [Standing; 16]
     standings
 }
 
-// Each step's count.
-fn counts_of(standings: [Standing; 16]) -> [usize; 16]
-    ensures { λ r. ⌜ r ≡ countsOf standings ⌝ }
+// Each step's tally.
+fn tallies_of(standings: [Standing; 16]) -> [Tally; 16]
+    ensures { λ r. ⌜ r ≡ talliesOf standings ⌝ }
 {
-    let mut counts = [0usize; 16];
+    let mut tallies = [tally::none(); 16];
     let mut i = 0;
     while i < 16 {
-        counts[i] = standings[i].count;
+        let standing = standings[i];
+        let tally = standing.tally;
+        tallies[i] = tally;
         i += 1;
     }
-    counts
+    tallies
 }
 
 // ----- a window -------------------------------------------------------------------------------
@@ -83,17 +89,23 @@ fn moved_on(
     t: &mut [f64],
     velocities: &[f64],
     marks: &[u8],
+    grid: &[u8],
 ) -> Standing
-    requires { ⌜ Level (now x) (now y) (now z) (now t) × (first + length (now x) < 4611686018427387904) × (standing .count ≤ first) ⌝ }
+    requires { ⌜ Level (now x) (now y) (now z) (now t) × (first + length (now x) < 4611686018427387904) × FewIn first (standing .tally) ⌝ }
     ensures { λ r. ⌜ (flatOf (now (x .exit)) (now (y .exit)) (now (z .exit)) (now (t .exit))
-        ≡ ranOf (planTurnsOf (now (velocities .entry)) (now (marks .entry)) plan) first (standing .state) (flatOf (now (x .entry)) (now (y .entry)) (now (z .entry)) (now (t .entry))))
-        × (r ≡ movedOn (planTurnsOf (now (velocities .entry)) (now (marks .entry)) plan) first standing (flatOf (now (x .entry)) (now (y .entry)) (now (z .entry)) (now (t .entry)))) ⌝ }
+        ≡ ranOf (planTurnsOf (lentOf (now (velocities .entry)) (now (marks .entry)) (now (grid .entry))) plan) first (standing .state) (flatOf (now (x .entry)) (now (y .entry)) (now (z .entry)) (now (t .entry))))
+        × (r ≡ movedOn (planPassOf (lentOf (now (velocities .entry)) (now (marks .entry)) (now (grid .entry))) plan) first standing (flatOf (now (x .entry)) (now (y .entry)) (now (z .entry)) (now (t .entry)))) ⌝ }
 {
-    let went = plan_columns::run(plan, first, standing.state, x, y, z, t, velocities, marks);
-    let state = went.state;
+    let part = plan_columns::run(plan, first, standing.state, x, y, z, t, velocities, marks, grid);
+    let before = standing.tally;
+    let state = part.state;
+    let tally = Tally {
+        count: before.count + part.count,
+        met: before.met + part.met,
+    };
     Standing {
         state: state,
-        count: standing.count + went.count,
+        tally: tally,
     }
 }
 
@@ -110,18 +122,19 @@ fn forward(
     t: &mut [f64],
     velocities: &[f64],
     marks: &[u8],
+    grid: &[u8],
 ) -> [Standing; 16]
     requires { ⌜ (n ≤ 16) × Level (now x) (now y) (now z) (now t) × (first + length (now x) < 4611686018427387904) × Few first before ⌝ }
     ensures { λ r. ⌜ (flatOf (now (x .exit)) (now (y .exit)) (now (z .exit)) (now (t .exit))
-        ≡ goneOf false first (turnsFrom (turnsIn (now (velocities .entry)) (now (marks .entry)) plans) n 0) before (flatOf (now (x .entry)) (now (y .entry)) (now (z .entry)) (now (t .entry))) .list)
-        × (r ≡ goneOf false first (turnsFrom (turnsIn (now (velocities .entry)) (now (marks .entry)) plans) n 0) before (flatOf (now (x .entry)) (now (y .entry)) (now (z .entry)) (now (t .entry))) .standings) ⌝ }
+        ≡ goneOf false first (passesFrom (passIn (lentOf (now (velocities .entry)) (now (marks .entry)) (now (grid .entry))) plans) n 0) before (flatOf (now (x .entry)) (now (y .entry)) (now (z .entry)) (now (t .entry))) .list)
+        × (r ≡ goneOf false first (passesFrom (passIn (lentOf (now (velocities .entry)) (now (marks .entry)) (now (grid .entry))) plans) n 0) before (flatOf (now (x .entry)) (now (y .entry)) (now (z .entry)) (now (t .entry))) .standings) ⌝ }
 {
     let mut standings = before;
     let mut i = 0;
     while i < n {
         let plan = plans[i]; // the first step first
         let standing = standings[i];
-        let next = moved_on(plan, first, standing, x, y, z, t, velocities, marks);
+        let next = moved_on(plan, first, standing, x, y, z, t, velocities, marks, grid);
         standings[i] = next; // from there the next window goes on
         i += 1;
     }
@@ -140,11 +153,12 @@ fn backward(
     t: &mut [f64],
     velocities: &[f64],
     marks: &[u8],
+    grid: &[u8],
 ) -> [Standing; 16]
     requires { ⌜ (n ≤ 16) × Level (now x) (now y) (now z) (now t) × (first + length (now x) < 4611686018427387904) × Few first before ⌝ }
     ensures { λ r. ⌜ (flatOf (now (x .exit)) (now (y .exit)) (now (z .exit)) (now (t .exit))
-        ≡ goneOf true first (turnsFrom (turnsIn (now (velocities .entry)) (now (marks .entry)) plans) n 0) before (flatOf (now (x .entry)) (now (y .entry)) (now (z .entry)) (now (t .entry))) .list)
-        × (r ≡ goneOf true first (turnsFrom (turnsIn (now (velocities .entry)) (now (marks .entry)) plans) n 0) before (flatOf (now (x .entry)) (now (y .entry)) (now (z .entry)) (now (t .entry))) .standings) ⌝ }
+        ≡ goneOf true first (passesFrom (passIn (lentOf (now (velocities .entry)) (now (marks .entry)) (now (grid .entry))) plans) n 0) before (flatOf (now (x .entry)) (now (y .entry)) (now (z .entry)) (now (t .entry))) .list)
+        × (r ≡ goneOf true first (passesFrom (passIn (lentOf (now (velocities .entry)) (now (marks .entry)) (now (grid .entry))) plans) n 0) before (flatOf (now (x .entry)) (now (y .entry)) (now (z .entry)) (now (t .entry))) .standings) ⌝ }
 {
     let mut standings = before;
     let mut i = n;
@@ -152,7 +166,7 @@ fn backward(
         i -= 1;
         let plan = plans[i]; // the last step first
         let standing = standings[i];
-        let next = moved_on(plan, first, standing, x, y, z, t, velocities, marks);
+        let next = moved_on(plan, first, standing, x, y, z, t, velocities, marks, grid);
         standings[i] = next;
     }
     standings
@@ -171,16 +185,17 @@ fn all_steps(
     t: &mut [f64],
     velocities: &[f64],
     marks: &[u8],
+    grid: &[u8],
 ) -> [Standing; 16]
     requires { ⌜ (n ≤ 16) × Level (now x) (now y) (now z) (now t) × (first + length (now x) < 4611686018427387904) × Few first before ⌝ }
     ensures { λ r. ⌜ (flatOf (now (x .exit)) (now (y .exit)) (now (z .exit)) (now (t .exit))
-        ≡ goneOf inverse first (turnsFrom (turnsIn (now (velocities .entry)) (now (marks .entry)) plans) n 0) before (flatOf (now (x .entry)) (now (y .entry)) (now (z .entry)) (now (t .entry))) .list)
-        × (r ≡ goneOf inverse first (turnsFrom (turnsIn (now (velocities .entry)) (now (marks .entry)) plans) n 0) before (flatOf (now (x .entry)) (now (y .entry)) (now (z .entry)) (now (t .entry))) .standings) ⌝ }
+        ≡ goneOf inverse first (passesFrom (passIn (lentOf (now (velocities .entry)) (now (marks .entry)) (now (grid .entry))) plans) n 0) before (flatOf (now (x .entry)) (now (y .entry)) (now (z .entry)) (now (t .entry))) .list)
+        × (r ≡ goneOf inverse first (passesFrom (passIn (lentOf (now (velocities .entry)) (now (marks .entry)) (now (grid .entry))) plans) n 0) before (flatOf (now (x .entry)) (now (y .entry)) (now (z .entry)) (now (t .entry))) .standings) ⌝ }
 {
     if inverse {
-        return backward(plans, n, first, before, x, y, z, t, velocities, marks);
+        return backward(plans, n, first, before, x, y, z, t, velocities, marks, grid);
     }
-    forward(plans, n, first, before, x, y, z, t, velocities, marks)
+    forward(plans, n, first, before, x, y, z, t, velocities, marks, grid)
 }
 
 // A window of a flat list, through columns that have its rows.
@@ -197,10 +212,11 @@ fn window(
     t: &mut [f64],
     velocities: &[f64],
     marks: &[u8],
+    grid: &[u8],
 ) -> [Standing; 16]
     requires { ⌜ (n ≤ 16) × Level (now x) (now y) (now z) (now t) × (length (now list) ≡ 4 * length (now x)) × (first + length (now x) < 4611686018427387904) × Few first before ⌝ }
-    ensures { λ r. ⌜ (now (list .exit) ≡ goneOf inverse first (turnsFrom (turnsIn (now (velocities .entry)) (now (marks .entry)) plans) n 0) before (now (list .entry)) .list)
-        × (r ≡ goneOf inverse first (turnsFrom (turnsIn (now (velocities .entry)) (now (marks .entry)) plans) n 0) before (now (list .entry)) .standings) ⌝ }
+    ensures { λ r. ⌜ (now (list .exit) ≡ goneOf inverse first (passesFrom (passIn (lentOf (now (velocities .entry)) (now (marks .entry)) (now (grid .entry))) plans) n 0) before (now (list .entry)) .list)
+        × (r ≡ goneOf inverse first (passesFrom (passIn (lentOf (now (velocities .entry)) (now (marks .entry)) (now (grid .entry))) plans) n 0) before (now (list .entry)) .standings) ⌝ }
 {
     columns::to_columns(list, x, y, z, t);
     let standings = all_steps(
@@ -215,6 +231,7 @@ fn window(
         t,
         velocities,
         marks,
+        grid,
     );
     columns::to_flat(x, y, z, t, list);
     standings
@@ -222,7 +239,7 @@ fn window(
 
 // ----- window after window ---------------------------------------------------------------------
 
-// The first n plans, sixteen at most, over a flat list: the count of each, and 0 in the other
+// The first n plans, sixteen at most, over a flat list: the tally of each, and zeros in the other
 // places.
 pub fn over(
     inverse: bool,
@@ -231,9 +248,10 @@ pub fn over(
     list: &mut [f64],
     velocities: &[f64],
     marks: &[u8],
-) -> [usize; 16]
-    ensures { λ r. ⌜ (now (list .exit) ≡ goneOver inverse (now (velocities .entry)) (now (marks .entry)) plans n (now (list .entry)) .list)
-        × (r ≡ countsOf (goneOver inverse (now (velocities .entry)) (now (marks .entry)) plans n (now (list .entry)) .standings)) ⌝ }
+    grid: &[u8],
+) -> [Tally; 16]
+    ensures { λ r. ⌜ (now (list .exit) ≡ goneOver inverse (lentOf (now (velocities .entry)) (now (marks .entry)) (now (grid .entry))) plans n (now (list .entry)) .list)
+        × (r ≡ talliesOf (goneOver inverse (lentOf (now (velocities .entry)) (now (marks .entry)) (now (grid .entry))) plans n (now (list .entry)) .standings)) ⌝ }
 {
     let mut x = step_windows::room();
     let mut y = step_windows::room();
@@ -260,9 +278,10 @@ pub fn over(
             &mut t[..m],
             velocities,
             marks,
+            grid,
         );
         standings = after;
         i += m;
     }
-    counts_of(standings)
+    tallies_of(standings)
 }

@@ -22,11 +22,20 @@ returns : tie.Need-returns
 unfolding toldOf
 returns c = rw (← c .before .before .before .before .before .before .before .before .before .shift .ensures, ne-eqb _ _ (c .before .before .before .before .if1 .taken)) (c .before .before .refused .ensures)
 
+counts-requires : tie.Need-counts-requires
+counts-requires c κs = search needs
+
+mets-requires : tie.Need-mets-requires
+mets-requires c κs = search needs
+
 step-count-requires : tie.Need-step-count-requires
 step-count-requires c κs = search needs
 
 slice-aggregate-ran : tie.Need-slice-aggregate-ran
 slice-aggregate-ran c = search needs
+
+slice-aggregate-ran-2 : tie.Need-slice-aggregate-ran-2
+slice-aggregate-ran-2 c = search needs
 
 ran-requires : tie.Need-ran-requires
 ran-requires c κs = search needs
@@ -39,7 +48,7 @@ same-length-4 c = search needs
 
 returns-2 : tie.Need-returns-2
 unfolding toldOf
-returns-2 c = rw (← c .before .before .before .before .before .before .before .before .before .before .before .before .before .shift .ensures, eq-eqb _ _ (c .before .before .before .before .before .before .before .before .if1 .left), ← c .before .before .before .before .before .step-count .ensures .0) (c .before .before .ran .ensures)
+returns-2 c = rw (← c .before .before .before .before .before .before .before .before .before .before .before .before .before .before .before .before .shift .ensures, eq-eqb _ _ (c .before .before .before .before .before .before .before .before .before .before .before .if1 .left), ← c .before .before .before .before .before .before .before .before .before .counts .ensures, ← c .before .before .before .before .before .before .before .before .mets .ensures, ← c .before .before .before .before .before .before .step-count .ensures .0) (c .before .before .ran .ensures)
 
 pub told-spec : {M : Type 1} → statement M
 told-spec =
@@ -50,8 +59,11 @@ told-spec =
     same-length
     same-length-2
     returns
+    counts-requires
+    mets-requires
     step-count-requires
     slice-aggregate-ran
+    slice-aggregate-ran-2
     ran-requires
     same-length-3
     same-length-4

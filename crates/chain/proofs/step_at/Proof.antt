@@ -1,8 +1,8 @@
 -- Calls are replaced by what they ensure, and the plan from its start by the sheet's step
--- (`list-at`, `count-at`). Assumes nothing.
+-- (`list-at`, `tally-told`). Assumes nothing.
 use native.Mathlib.Omega.{arith}
 use mathlib.Core.Path.{_∙_}
-use Rattle.chain.proofs.Windows.{list-at, count-at}
+use Rattle.chain.proofs.Windows.{list-at, tally-told}
 use borrow.Author.Needs.{needs}
 use Rattle.chain.proofs.step_at.Statement.{statement}
 use Rattle.chain.proofs.step_at.Tie as tie
@@ -30,10 +30,10 @@ same-length-4 c = search needs
 
 returns : tie.Need-returns
 returns c =
-    let below = c .before .before .before .before .before .before .before .before .before .before .before .before .before .before .before .before .before .before .before .before .before .before .pre .0 in
+    let below = c .before .before .before .before .before .before .before .before .before .before .before .before .before .before .before .before .before .before .before .before .before .before .before .pre .0 in
     let there = c .before .before .before .before .before .before .before .before .before .before .before .before .before .before .plan-at .ensures in
     let e = rw (c .before .before .before .before .before .before .before .before .before .before .before .before .before .start .ensures) at (c .before .before .before .before .before .before .before .before .run .ensures) in
-    (e .0 ∙ list-at _ _ _ _ _ below there _, e .2 ∙ count-at _ _ _ _ _ below there _)
+    (e .0 ∙ list-at _ _ _ _ below there _, tally-told _ _ _ _ below there _ (e .2) (e .3))
 
 pub step-at-spec : {M : Type 1} → statement M
 step-at-spec =

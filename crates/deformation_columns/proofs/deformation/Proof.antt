@@ -42,7 +42,7 @@ returns c =
     let from = c .before .before .before .before .before .before .before .before .before .before .before .before .before .lent-from .ensures in
     let e = rw from at (c .before .before .before .before .before .before .before .before .deformation-level .ensures) in
     let same = lent-alike (a .op) (a .inverse) (a .velocities .now) (a .marks .now) (omega (arith, lent .0 .1)) (omega (arith, lent .1 .0 .1)) (a .first) (flatOf (a .x .now) (a .y .now) (a .z .now) (a .t .now)) in
-    (e .0 ∙ same .0, e .1 ∙ same .1)
+    (e .0 ∙ same .0, e .1 ∙ same .1, e .2 ∙ same .2)
 
 same-length-5 : tie.Need-same-length-5
 same-length-5 c = search needs
@@ -57,7 +57,7 @@ same-length-8 : tie.Need-same-length-8
 same-length-8 c = search needs
 
 returns-2 : tie.Need-returns-2
-returns-2 c = let e = flat-uneven _ _ _ _ (sym (c .before .level .ensures) ∙ c .if1 .left) in (rw e, rw e)
+returns-2 c = let e = flat-uneven _ _ _ _ (sym (c .before .level .ensures) ∙ c .if1 .left) in (rw e, rw e, rw e)
 
 pub deformation-spec : {M : Type 1} → statement M
 deformation-spec =

@@ -21,6 +21,9 @@ moved-block-requires c κs = search needs
 store-block-requires : tie.Need-store-block-requires
 store-block-requires c κs = search needs
 
+met-block-requires : tie.Need-met-block-requires
+met-block-requires c κs = search needs
+
 same-length : tie.Need-same-length
 same-length c = search needs
 
@@ -35,12 +38,12 @@ same-length-4 c = search needs
 
 returns : tie.Need-returns
 returns c =
-    let o = c .before .before .before .before .before .before .before .before .before .before .before .before .before .before .before .before .before .before .before .before .before .before .before .before .before .before .before .before .before .before .before .before .before .before .before .before .before .before in
+    let o = c .before .before .before .before .before .before .before .before .before .before .before .before .before .before .before .before .before .before .before .before .before .before .before .before .before .before .before .before .before .before .before .before .before .before .before .before .before .before .before .before in
     let a = o .args in
     let p = o .pre in
-    moved-passed (a .velocities .now) (a .marks .now) (a .first) (a .i) (c .before .before .before .before .before .before .before .before .before .before .before .before .before .before .before .before .before .before .before .before .before .before .before .before .before .before .before .before .velocity-block .ensures) (c .before .before .before .before .before .before .before .before .before .before .before .before .before .before .before .before .before .before .before .before .before .before .before .before .before .before .mark-block .ensures) (a .op) (a .inverse) (a .bx .now) (a .by .now) (a .bz .now) (a .bt .now) (p .7) (p .8)
+    moved-passed (a .velocities .now) (a .marks .now) (a .first) (a .i) (c .before .before .before .before .before .before .before .before .before .before .before .before .before .before .before .before .before .before .before .before .before .before .before .before .before .before .before .before .before .before .velocity-block .ensures) (c .before .before .before .before .before .before .before .before .before .before .before .before .before .before .before .before .before .before .before .before .before .before .before .before .before .before .before .before .mark-block .ensures) (a .op) (a .inverse) (a .bx .now) (a .by .now) (a .bz .now) (a .bt .now) (p .7) (p .8)
     (flatOf (a .x .now) (a .y .now) (a .z .now) (a .t .now)) (block-room _ _ _ _ (p .0) (a .i) (p .1))
-    (p .3) (p .4) (p .5) (p .6) (c .before .before .before .before .before .before .before .before .before .before .before .before .before .before .before .before .before .moved-block .ensures) (c .before .before .before .before .before .before .before .before .store-block .ensures)
+    (p .3) (p .4) (p .5) (p .6) (c .before .before .before .before .before .before .before .before .before .before .before .before .before .before .before .before .before .before .before .moved-block .ensures) (c .before .before .before .before .before .before .before .before .before .before .store-block .ensures) (c .met-block .ensures)
 
 pub moved-sixteen-spec : {M : Type 1} → statement M
 moved-sixteen-spec =
@@ -51,6 +54,7 @@ moved-sixteen-spec =
     mark-block-requires
     moved-block-requires
     store-block-requires
+    met-block-requires
     same-length
     same-length-2
     same-length-3

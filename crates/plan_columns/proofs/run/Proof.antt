@@ -1,5 +1,5 @@
 -- Columns of one length go through the step's loop. Unequal columns stand for no tuple
--- (`flat-uneven`), of which the list, the state and the count are none, the state before and 0.
+-- (`flat-uneven`), of which the list, the state and both numbers are none, the state before and 0.
 -- Assumes nothing.
 use borrow.Author.Needs.{needs}
 use mathlib.Core.Path.{refl, sym, _∙_}
@@ -41,7 +41,7 @@ same-length-8 : tie.Need-same-length-8
 same-length-8 c = search needs
 
 returns-2 : tie.Need-returns-2
-returns-2 c = rw (flat-uneven _ _ _ _ (sym (c .before .level .ensures) ∙ c .if1 .left)) (refl, refl, refl)
+returns-2 c = rw (flat-uneven _ _ _ _ (sym (c .before .level .ensures) ∙ c .if1 .left)) (refl, refl, refl, refl)
 
 pub run-spec : {M : Type 1} → statement M
 run-spec =

@@ -1,24 +1,25 @@
--- Invariant (`Passed`): the rows before i have passed through the step, and `count` of them counted;
--- the four rooms have 128 rows. A window is one more piece (`passed-window`). The measure is how many
--- rows are left. Assumes nothing.
+-- Invariant (`Passed`): the rows before i have passed through the step, `count` of them counted, and
+-- `met` of them met an angle out of reach; the four rooms have 128 rows. A window is one more piece
+-- (`passed-window`, `passed-met`). The measure is how many rows are left. Assumes nothing.
 use Prim.Native.Nat.{_+_, _*_, _-_, _≤_, _<_}
 use native.Mathlib.Omega.{arith}
 use mathlib.Core.Path.{_≡_, refl, sym, _∙_}
 use lib.ListN.{length}
 use Rattle.columns.specs.Passed.{Passed}
 use Rattle.columns.proofs.Passed.{passed-none, passed-on}
-use Rattle.plans.specs.Plans.{planTurnsOf}
-use Rattle.step_windows.proofs.Parts.{room-rows, room-back, fits-list, last-left, part-taken, part-length, part-put, passed-window, part-few, passed-list, passed-count}
+use Rattle.plans.specs.Plans.{planTurnsOf, planReachOf, planPassOf}
+use Rattle.step_windows.proofs.Parts.{room-rows, room-back, fits-list, last-left, part-taken, part-length, part-put, passed-window, passed-met, part-few, passed-list, passed-count}
+use Rattle.plans.specs.Lent.{lentOf}
 use borrow.Author.Needs.{needs}
 use Rattle.step_windows.proofs.over.Statement.{statement}
 use Rattle.step_windows.proofs.over.Tie as tie
 
 abbrev Inv-loop : tie.InvT-loop
-Inv-loop plan list₀ velocities marks x₀ y₀ z₀ t₀ rows state₀ count₀ i₀ list x y z t state count i =
-    (i ≤ rows) × (128 ≡ length x) × (128 ≡ length y) × (128 ≡ length z) × (128 ≡ length t) × (length list ≡ length list₀) × Passed (planTurnsOf velocities marks plan) 0 state₀ list₀ i state list count × (rows < 4611686018427387904)
+Inv-loop plan list₀ velocities marks grid x₀ y₀ z₀ t₀ rows state₀ count₀ met₀ i₀ list x y z t state count met i =
+    (i ≤ rows) × (128 ≡ length x) × (128 ≡ length y) × (128 ≡ length z) × (128 ≡ length t) × (length list ≡ length list₀) × Passed (planTurnsOf (lentOf velocities marks grid) plan) 0 state₀ list₀ i state list count × (rows < 4611686018427387904) × Passed (planReachOf (lentOf velocities marks grid) plan) 0 state₀ list₀ i state list met
 
 abbrev μ-loop : tie.MeasureT-loop
-μ-loop plan list₀ velocities marks x₀ y₀ z₀ t₀ rows state₀ count₀ i₀ list x y z t state count i = rows - i
+μ-loop plan list₀ velocities marks grid x₀ y₀ z₀ t₀ rows state₀ count₀ met₀ i₀ list x y z t state count met i = rows - i
 
 room-requires : tie.Need-room-requires Inv-loop μ-loop
 room-requires c κs = search needs
@@ -36,7 +37,7 @@ start-requires : tie.Need-start-requires Inv-loop μ-loop
 start-requires c κs = search needs
 
 loop-holds : tie.Need-loop-holds Inv-loop μ-loop
-loop-holds c = (omega arith, c .before .before .before .before .room .ensures, c .before .before .before .room2 .ensures, c .before .before .room3 .ensures, c .before .room4 .ensures, refl, passed-none _ _ _ _, search needs)
+loop-holds c = (omega arith, c .before .before .before .before .room .ensures, c .before .before .before .room2 .ensures, c .before .before .room3 .ensures, c .before .room4 .ensures, refl, passed-none _ _ _ _, search needs, passed-none _ _ _ _)
 
 sub-rows-of : tie.Need-sub-rows-of Inv-loop μ-loop
 sub-rows-of c = search needs
@@ -111,30 +112,42 @@ add-count c =
     let fits = fits-list (l .i) m (l .inv .0) (l .inv .5) (r .0) more in
     search (needs, l .inv .0, l .inv .7, l .inv .6 .few, part-few _ _ _ (l .list) (l .i) m fits (e .2), r .0, more)
 
+add-met : tie.Need-add-met Inv-loop μ-loop
+add-met c =
+    let l = c .before .before .before .before .before .before .before .before .before .before .before .before .before .before .before .before .before .loop in
+    let r = c .before .before .before .before .before .before .before .before .before .before .before .before .before .before .before .rows-of .ensures in
+    let m = c .before .before .before .before .before .before .before .before .before .before .before .before .before .before .before .rows-of .result in
+    let e = c .before .before .before .before .before .before .before .before .before .window .ensures in
+    let more = c .before .before .before .before .before .before .before .before .before .before .before .before .before .before .before .before .loop-test .taken in
+    let fits = fits-list (l .i) m (l .inv .0) (l .inv .5) (r .0) more in
+    search (needs, l .inv .0, l .inv .7, l .inv .8 .few, part-few _ _ _ (l .list) (l .i) m fits (e .3), r .0, more)
+
 add-i : tie.Need-add-i Inv-loop μ-loop
-add-i c = search (needs, c .before .before .before .before .before .before .before .before .before .before .before .before .before .before .before .before .loop .inv .0, c .before .before .before .before .before .before .before .before .before .before .before .before .before .before .before .before .loop .inv .7, c .before .before .before .before .before .before .before .before .before .before .before .before .before .before .rows-of .ensures .0, c .before .before .before .before .before .before .before .before .before .before .before .before .before .before .before .loop-test .taken)
+add-i c = search (needs, c .before .before .before .before .before .before .before .before .before .before .before .before .before .before .before .before .before .loop .inv .0, c .before .before .before .before .before .before .before .before .before .before .before .before .before .before .before .before .before .loop .inv .7, c .before .before .before .before .before .before .before .before .before .before .before .before .before .before .before .rows-of .ensures .0, c .before .before .before .before .before .before .before .before .before .before .before .before .before .before .before .before .loop-test .taken)
 
 loop-less : tie.Need-loop-less Inv-loop μ-loop
-loop-less c = let l = c .before .before .before .before .before .before .before .before .before .before .before .before .before .before .before .before .loop in let r = c .before .before .before .before .before .before .before .before .before .before .before .before .before .before .rows-of .ensures in let more = c .before .before .before .before .before .before .before .before .before .before .before .before .before .before .before .loop-test .taken in omega (arith, l .inv .0, r .0, r .2 (omega (arith, more)), more)
+loop-less c = let l = c .before .before .before .before .before .before .before .before .before .before .before .before .before .before .before .before .before .loop in let r = c .before .before .before .before .before .before .before .before .before .before .before .before .before .before .before .rows-of .ensures in let more = c .before .before .before .before .before .before .before .before .before .before .before .before .before .before .before .before .loop-test .taken in omega (arith, l .inv .0, r .0, r .2 (omega (arith, more)), more)
 
 loop-again : tie.Need-loop-again Inv-loop μ-loop
 loop-again c =
-    let l = c .before .before .before .before .before .before .before .before .before .before .before .before .before .before .before .before .loop in
-    let r = c .before .before .before .before .before .before .before .before .before .before .before .before .before .before .rows-of .ensures in
-    let m = c .before .before .before .before .before .before .before .before .before .before .before .before .before .before .rows-of .result in
-    let e = c .before .before .before .before .before .before .before .before .window .ensures in
-    let more = c .before .before .before .before .before .before .before .before .before .before .before .before .before .before .before .loop-test .taken in
+    let l = c .before .before .before .before .before .before .before .before .before .before .before .before .before .before .before .before .before .loop in
+    let r = c .before .before .before .before .before .before .before .before .before .before .before .before .before .before .before .rows-of .ensures in
+    let m = c .before .before .before .before .before .before .before .before .before .before .before .before .before .before .before .rows-of .result in
+    let e = c .before .before .before .before .before .before .before .before .before .window .ensures in
+    let more = c .before .before .before .before .before .before .before .before .before .before .before .before .before .before .before .before .loop-test .taken in
     let fits = fits-list (l .i) m (l .inv .0) (l .inv .5) (r .0) more in
+    let a = c .before .before .before .before .before .before .before .before .before .before .before .before .before .before .before .before .before .before .before .before .before .before .before .before .before .before .before .args in
     let k = part-taken (l .list) (l .i) m in
-    let w = c .before .before .before .before .before .before .before .before .window .last in (
+    let w = c .before .before .before .before .before .before .before .before .before .window .last in (
       omega (arith, l .inv .0, r .0, more),
-      room-back (l .x) (w .1 .1 .1 .1 .0) m (l .inv .1) (c .before .before .before .before .before .x2 .given),
-      room-back (l .y) (w .1 .1 .1 .1 .1 .0) m (l .inv .2) (c .before .before .before .before .y2 .given),
-      room-back (l .z) (w .1 .1 .1 .1 .1 .1 .0) m (l .inv .3) (c .before .before .before .z2 .given),
-      room-back (l .t) (w .1 .1 .1 .1 .1 .1 .1 .0) m (l .inv .4) (c .before .before .t2 .given),
-      search (needs, l .inv .5, c .before .before .before .before .before .before .before .list .given),
+      room-back (l .x) (w .1 .1 .1 .1 .0) m (l .inv .1) (c .before .before .before .before .before .before .x2 .given),
+      room-back (l .y) (w .1 .1 .1 .1 .1 .0) m (l .inv .2) (c .before .before .before .before .before .y2 .given),
+      room-back (l .z) (w .1 .1 .1 .1 .1 .1 .0) m (l .inv .3) (c .before .before .before .before .z2 .given),
+      room-back (l .t) (w .1 .1 .1 .1 .1 .1 .1 .0) m (l .inv .4) (c .before .before .before .t2 .given),
+      search (needs, l .inv .5, c .before .before .before .before .before .before .before .before .list .given),
       passed-on (l .inv .6) (passed-window m fits (part-put (l .list) (l .i) m _) (rw k at (e .0)) (rw k at (e .1)) (rw k at (e .2))),
       l .inv .7,
+      passed-on (l .inv .8) (passed-met (planPassOf (lentOf (a .velocities .now) (a .marks .now) (a .grid .now)) (a .plan)) m fits (part-put (l .list) (l .i) m _) (rw k at (e .0)) (rw k at (e .1)) (rw k at (e .3))),
     )
 
 same-length : tie.Need-same-length Inv-loop μ-loop
@@ -145,7 +158,9 @@ returns c =
     let l = c .before .loop in
     let st = c .before .before .start .ensures in
     let end = last-left (l .i) (l .inv .5) (c .loop-test .left) in
-    (rw st at (passed-list (l .i) end (l .inv .6)), rw st at (passed-count (l .i) end (l .inv .6)))
+    let counted = passed-count (l .i) end (l .inv .6) in
+    let met = passed-count (l .i) end (l .inv .8) in
+    (rw st at (passed-list (l .i) end (l .inv .6)), rw (← st) (λ j. record { count = counted j; met = met j }))
 
 pub over-spec : {M : Type 1} → statement M
 over-spec =
@@ -178,6 +193,7 @@ over-spec =
     slice-aggregate-window-4
     window-requires
     add-count
+    add-met
     add-i
     loop-less
     loop-again

@@ -31,7 +31,7 @@ same-length-5 c = search needs
 
 returns : tie.Need-returns
 returns c =
-    let p = c .before .before .before .before .before .before .before .before .before .before .before .before .before .before .before .before .before .before .before .before .before .before .before .before .before .before .before .before .before .before .before .before .before .before .before .before .before .before .before .before .before .before .pre in
+    let p = c .before .before .before .before .before .before .before .before .before .before .before .before .before .before .before .before .before .before .before .before .before .before .before .before .before .before .before .before .before .before .before .before .before .before .before .before .before .before .before .before .before .before .before .pre in
     let there = to-rows _ _ _ _ _ (c .before .before .before .before .before .before .before .before .before .before .before .before .before .before .before .before .before .before .before .before .before .before .before .before .before .before .before .before .before .to-columns .ensures) (p .0) (p .1) in
     let e = c .before .before .before .before .before .before .before .before .before .before .before .before .before .before .before .before .run .ensures in
     let back = from-rows _ _ _ _ _ (c .before .before .to-flat .ensures) (
@@ -39,7 +39,7 @@ returns c =
       search (needs, c .before .before .before .before .before .before .before .before .before .before .before .before .before .before .before .before .before .before .before .before .before .before .before .before .before .before .before .before .x .given, c .before .before .before .before .before .before .before .before .before .before .before .before .before .before .before .x2 .given, c .before .before .before .before .before .before .before .before .before .before .before .before .before .before .before .before .before .before .before .before .before .before .before .before .z .given, c .before .before .before .before .before .before .before .before .before .before .before .z2 .given, p .0 .1),
       search (needs, c .before .before .before .before .before .before .before .before .before .before .before .before .before .before .before .before .before .before .before .before .before .before .before .before .before .before .before .before .x .given, c .before .before .before .before .before .before .before .before .before .before .before .before .before .before .before .x2 .given, c .before .before .before .before .before .before .before .before .before .before .before .before .before .before .before .before .before .before .before .before .before .before .t .given, c .before .before .before .before .before .before .before .before .before .t2 .given, p .0 .2),
     ) (search (needs, c .before .before .before .before .before .before .before .before .before .before .before .before .before .before .before .before .before .before .before .before .before .before .before .before .before .before .before .before .x .given, c .before .before .before .before .before .before .before .before .before .before .before .before .before .before .before .x2 .given, p .1)) in
-    rw (← there) (back ∙ e .0, e .1, e .2)
+    rw (← there) (back ∙ e .0, e .1, e .2, e .3)
 
 pub window-spec : {M : Type 1} → statement M
 window-spec =

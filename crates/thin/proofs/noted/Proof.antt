@@ -5,15 +5,15 @@ use borrow.Author.Needs.{needs}
 use Rattle.thin.proofs.noted.Statement.{statement}
 use Rattle.thin.proofs.noted.Tie as tie
 
-mul-counts : tie.Need-mul-counts
-mul-counts c = search needs
+mul-tallies : tie.Need-mul-tallies
+mul-tallies c = search needs
 
-array-write-counts : tie.Need-array-write-counts
-array-write-counts c = search needs
+array-set-from-tallies : tie.Need-array-set-from-tallies
+array-set-from-tallies c = search needs
 
 returns : tie.Need-returns
 unfolding notedOf
 returns c = refl
 
 pub noted-spec : {M : Type 1} → statement M
-noted-spec = tie.close (tie.spec mul-counts array-write-counts returns)
+noted-spec = tie.close (tie.spec mul-tallies array-set-from-tallies returns)

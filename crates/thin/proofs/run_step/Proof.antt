@@ -63,15 +63,19 @@ use Rattle.bodies.proofs.Step as S
 use Rattle.bodies.proofs.Step.Laws as S′
 use Rattle.helmert.specs.declared.State.{State}
 use Rattle.helmert.proofs.State.Laws as St′
-use Rattle.lists.specs.Run.{Turns}
-use Rattle.chain.specs.Chain.{turnsOf, stateOf}
+use Rattle.tally.specs.declared.Tally.{Tally}
+use Rattle.tally.proofs.Tally as Ta
+use Rattle.tally.proofs.Tally.Laws as Ta′
+use Rattle.plans.specs.Passes.{Pass}
+use Rattle.plans.specs.Lent.{lentOf}
+use Rattle.chain.specs.Chain.{turnsOf, passOf, stateOf}
 use Rattle.thin.specs.declared.Plan.{Plan}
 use Rattle.thin.specs.declared.Carried.{Carried}
 use Rattle.thin.specs.declared.Turned.{Turned}
-use Rattle.thin.specs.Tuples.{tuplesOf, tallyOf}
-use Rattle.thin.specs.Plans.{planOf, planTurnsOf, startsOf, beginOf, tallied, turnOf}
+use Rattle.thin.specs.Tuples.{tuplesOf, tuplesTallyOf}
+use Rattle.thin.specs.Plans.{planOf, planPassOf, startsOf, beginOf, tallied, turnOf}
 use Rattle.thin.proofs.Answers.{holds, fails, either, answers}
-use Rattle.thin.proofs.Laws.{plan-turns, plan-starts, turn-is, Walked, walk-start, walk-again, walk-end}
+use Rattle.thin.proofs.Laws.{plan-pass, plan-starts, turn-is, Walked, walk-start, walk-again, walk-end}
 use Rattle.thin.proofs.Plan as P
 use Rattle.thin.proofs.Plan.Laws as P′
 use Rattle.thin.proofs.Carried as C
@@ -125,6 +129,9 @@ unfoldable τP : Ty
 unfoldable τSt : Ty
 τSt = St′.mir
 
+unfoldable τTa : Ty
+τTa = Ta′.mir
+
 abbrev τL : Ty
 τL = sliceTy (tyRef (named 0) mut (pointee (T.the-row .written)))
 
@@ -135,7 +142,7 @@ abbrev τM : Ty
 τM = sliceTy (tyRef (named 2) imm (tyInt w8))
 
 abbrev τC : Ty
-τC = tyStruct (C.struct .name) (tcons τSt (tcons (tyInt w64) tnil))
+τC = tyStruct (C.struct .name) (tcons τSt (tcons τTa tnil))
 
 abbrev τR : Ty
 τR = tyStruct (R.struct .name) (tcons τC (tcons T′.mir tnil))
@@ -146,8 +153,11 @@ tuple-val = T′.lowered
 unfoldable state-val : State → Val
 state-val = St′.lowered
 
+unfoldable tally-val : Tally → Val
+tally-val = Ta′.lowered
+
 abbrev carried-val : Carried → Val
-carried-val at = vstruct (vcons (state-val (at .state)) (vcons (vint w64 (at .counted)) vnil))
+carried-val at = vstruct (vcons (state-val (at .state)) (vcons (tally-val (at .tally)) vnil))
 
 abbrev turned-val : Turned → Val
 turned-val r = vstruct (vcons (carried-val (r .carried)) (vcons (tuple-val (r .tuple)) vnil))
@@ -161,35 +171,39 @@ function = record {
   lifetimes = 3;
   outlives = [];
   params = 5;
-  locals = its (tyInt w64) ∷ its τL ∷ its tyBool ∷ its τS ∷ its τV ∷ its τM ∷ its τP ∷ its τC ∷ its (tyInt w64) ∷ its τR ∷ its (tyInt w64) ∷ its tyBool ∷ its tyPtr ∷ its T′.mir ∷ its tyPtr ∷ [];
+  locals = its τTa ∷ its τL ∷ its tyBool ∷ its τS ∷ its τV ∷ its τM ∷ its τP ∷ its τC ∷ its (tyInt w64) ∷ its τR ∷ its (tyInt w64) ∷ its tyBool ∷ its tyPtr ∷ its T′.mir ∷ its tyPtr ∷ [];
   body = code-mir.t-1;
 }
 
 function-is : code.function ≡ function
-unfolding τS τP τSt
+unfolding τS τP τSt τTa
 function-is = refl
 
 -- where the fields lie
-count-at : fieldAt 0 (tcons τSt (tcons (tyInt w64) tnil)) 1 ≡ some (tyInt w64, 32)
-unfolding τSt
-count-at = refl
+tally-at : fieldAt 0 (tcons τSt (tcons τTa tnil)) 1 ≡ some (τTa, 32)
+unfolding τSt τTa
+tally-at = refl
 
-tuple-at : fieldAt 0 (tcons τC (tcons T′.mir tnil)) 1 ≡ some (T′.mir, 40)
-unfolding τSt
+tuple-at : fieldAt 0 (tcons τC (tcons T′.mir tnil)) 1 ≡ some (T′.mir, 48)
+unfolding τSt τTa
 tuple-at = refl
 
 -- whoever holds a record knows its machine value, and its fields' relations
 carried-told : (at : Carried) (v : Val) → Is C.the-row at (v ∷ []) → v ≡ carried-val at
-unfolding state-val
+unfolding state-val tally-val
 carried-told at v is = ap only (C′.lowers .val-is at (v ∷ []) is)
 
 turned-told : (r : Turned) (v : Val) → Is R.the-row r (v ∷ []) → v ≡ turned-val r
-unfolding state-val
+unfolding state-val tally-val
 turned-told r v is = ap only (R′.lowers .val-is r (v ∷ []) is)
 
 carried-of : (r : Turned) (v : Val) → Is R.the-row r (v ∷ []) → Is C.the-row (r .carried) (carried-val (r .carried) ∷ [])
-unfolding state-val
+unfolding state-val tally-val
 carried-of r v is = LL.owed R.the-type R′.the-laws r (v ∷ []) is .0
+
+tally-of : (at : Carried) (v : Val) → Is C.the-row at (v ∷ []) → Is Ta.the-row (at .tally) (tally-val (at .tally) ∷ [])
+unfolding tally-val
+tally-of at v is = LL.owed C.the-type C′.the-laws at (v ∷ []) is .1 .0
 
 tuple-of : (r : Turned) (v : Val) → Is R.the-row r (v ∷ []) → Is T.the-row (r .tuple) (tuple-val (r .tuple) ∷ [])
 tuple-of r v is = LL.owed R.the-type R′.the-laws r (v ∷ []) is .1 .0
@@ -206,12 +220,16 @@ module _ {M : Type 1} (𝓤 : URA M) (H : Heap 𝓤) (A : Atoms 𝓤) (W : Given
   tuple-typed : (u : Tuple) (v : Val) → Is T.the-row u (v ∷ []) → T (hasTy T′.mir v) × WT v
   tuple-typed u v is = LL.lawful T.the-type T′.the-laws 𝓤 H A W .typed u _ is .0
 
+  tally-typed : (tally : Tally) (v : Val) → Is Ta.the-row tally (v ∷ []) → T (hasTy τTa v) × WT v
+  unfolding τTa
+  tally-typed tally v is = LL.lawful Ta.the-type Ta′.the-laws 𝓤 H A W .typed tally _ is .0
+
   carried-typed : (at : Carried) (v : Val) → Is C.the-row at (v ∷ []) → T (hasTy τC v) × WT v
-  unfolding τSt
+  unfolding τSt τTa
   carried-typed at v is = LL.lawful C.the-type C′.the-laws 𝓤 H A W .typed at _ is .0
 
   turned-typed : (r : Turned) (v : Val) → Is R.the-row r (v ∷ []) → T (hasTy τR v) × WT v
-  unfolding τSt
+  unfolding τSt τTa
   turned-typed r v is = LL.lawful R.the-type R′.the-laws 𝓤 H A W .typed r _ is .0
 
 -- ---- the contracts that the proof cites
@@ -289,7 +307,7 @@ module _ {M : Type 1} (𝓤 : URA M) (H : Heap 𝓤) (A : Atoms 𝓤) (W : Given
     said-turn r = exE 𝓤 _ (λ ws. snd∗ 𝓤 (sem 𝓤 H A (lasts turn.ended (κ₁, (κ₂, tt)) (plan, (at, (i, (u, (velocities, (marks, tt)))))) ws)) (fact 𝓤 (Made r)))
 
     -- what `turn` asks is had of what is lent, and what the two slices own is kept
-    asks-turn : Is C.the-row at (carried-val at ∷ []) → i < 2 ^ 64 → Is T.the-row u (tuple-val u ∷ []) → at .counted < 18446744073709551615
+    asks-turn : Is C.the-row at (carried-val at ∷ []) → i < 2 ^ 64 → Is T.the-row u (tuple-val u ∷ []) → (at .tally .count < 18446744073709551615) × (at .tally .met < 18446744073709551615)
         → ent 𝓤 (mean 𝓤 H A Lent) (sep 𝓤 (TurnOf 𝓤 H A mem run .pre to-turn) (mean 𝓤 H A LentLists))
     asks-turn c-is i-fits u-is few =
         qed W (Lent ∷ []) ∵ split ! $ move ! (1 ∷ []) $ split ! $
@@ -347,25 +365,25 @@ module _ {M : Type 1} (𝓤 : URA M) (H : Heap 𝓤) (A : Atoms 𝓤) (W : Given
   abbrev Post : Val → SProp 𝓤
   Post = walkOf 𝓤 H A f.ended stayed (f.clauses 𝓤 H A mem run) .post (((κ, (κ₁, (κ₂, tt))), (q, (q₁, (q₂, tt))), tt, a, vals), tt)
 
-  abbrev Ran : List Tuple → ℕ → Type 0
-  Ran zs count = (zs ≡ tuplesOf (turnsOf inverse (velocities .now) (marks .now) step) 0 (stateOf step) ys) × (count ≡ tallyOf (turnsOf inverse (velocities .now) (marks .now) step) 0 (stateOf step) ys)
+  abbrev Ran : List Tuple → Tally → Type 0
+  Ran zs tally = (zs ≡ tuplesOf (turnsOf inverse (lentOf (velocities .now) (marks .now) []) step) 0 (stateOf step) ys) × (tally ≡ tuplesTallyOf (passOf inverse (lentOf (velocities .now) (marks .now) []) step) 0 (stateOf step) ys)
 
-  exits : (zs : List Tuple) (count : ℕ) → length zs ≡ n → count < 2 ^ 64 → Ran zs count
-      → ent 𝓤 (⋆ 𝓤 H A (‵ (fobs γ (codedHoleys T.the-row .code (heres T.the-row zs))) ∷ ‵ (fbor κ (Held T.the-row (length zs) b o γ)) ∷ ‵ (flft κ q) ∷ lent ∷ [])) (Post (vint w64 count))
-  exits zs count e fits ran =
+  exits : (zs : List Tuple) (tally : Tally) → length zs ≡ n → Is Ta.the-row tally (tally-val tally ∷ []) → Ran zs tally
+      → ent 𝓤 (⋆ 𝓤 H A (‵ (fobs γ (codedHoleys T.the-row .code (heres T.the-row zs))) ∷ ‵ (fbor κ (Held T.the-row (length zs) b o γ)) ∷ ‵ (flft κ q) ∷ lent ∷ [])) (Post (tally-val tally))
+  exits zs tally e t-is ran =
       qed W (‵ (fobs γ (codedHoleys T.the-row .code (heres T.the-row zs))) ∷ ‵ (fbor κ (Held T.the-row (length zs) b o γ)) ∷ ‵ (flft κ q) ∷ lent ∷ []) ∵
-      suffices ! _ (ends-at 𝓤 H A f.ended stayed (f.clauses 𝓤 H A mem run) W (((κ, (κ₁, (κ₂, tt))), (q, (q₁, (q₂, tt))), tt, a, vals), tt) (vint w64 count) count (zs, (tt, (tt, (tt, (tt, tt))))) (e, (tt, (tt, (tt, (tt, tt)))))) $ says ! ran $
+      suffices ! _ (ends-at 𝓤 H A f.ended stayed (f.clauses 𝓤 H A mem run) W (((κ, (κ₁, (κ₂, tt))), (q, (q₁, (q₂, tt))), tt, a, vals), tt) (tally-val tally) tally (zs, (tt, (tt, (tt, (tt, tt))))) (e, (tt, (tt, (tt, (tt, tt)))))) $ says ! ran $
       move ! (3 ∷ []) $ split ! $ move ! (4 ∷ 0 ∷ []) $ join ! $ frame ! $
       -- [what velocities and marks own; obs; the borrow]
       split ! $ nothing ! $ move ! (2 ∷ 0 ∷ []) $ fjoin ! $ move ! (1 ∷ 0 ∷ []) $ fjoin ! $
       owned ! S.the-row (Is S.the-row) (EL.makes S.the-type S′.the-plain 𝓤 H A) step _ s-is $ fjoin ! $
       owned ! bool (Is bool) (bool-makes 𝓤 H A W) inverse _ refl $ fjoin ! $ move ! (1 ∷ 2 ∷ []) $ fjoin ! $
       pureI ! (at-slice T.the-row (x zs) (sl ∷ [])) (tt, (tt, tt)) (ap (λ (m : ℕ). sliceVal (b, o) m ∷ []) (sym e), subst (Room T.the-row) (sym e) room) $ fjoin ! $ fjoin ! $
-      owned ! usize (Is usize) (uint-makes 𝓤 H A W w64) count _ (refl, fits) $ move ! (1 ∷ 0 ∷ []) $ done !
+      owned ! Ta.the-row (Is Ta.the-row) (LL.makes Ta.the-type Ta′.the-plain 𝓤 H A) tally _ t-is $ move ! (1 ∷ 0 ∷ []) $ done !
 
   module _ (plan : Plan) (pv : Val) (p-is : Is P.the-row plan (pv ∷ [])) (ep : plan ≡ planOf inverse step) where
-    abbrev turns : Turns State
-    turns = planTurnsOf (velocities .now) (marks .now) plan
+    abbrev pass : Pass
+    pass = planPassOf (velocities .now) (marks .now) plan
 
     -- the loop at its test: the index, the list, what is carried
     record Turn : Type 0 where
@@ -373,7 +391,7 @@ module _ {M : Type 1} (𝓤 : URA M) (H : Heap 𝓤) (A : Atoms 𝓤) (W : Given
       zs : List Tuple
       at : Carried
       is : Is C.the-row at (carried-val at ∷ [])
-      inv : Walked turns (startsOf plan) ys i at zs
+      inv : Walked pass (startsOf plan) ys i at zs
 
     abbrev Nearer : Turn → Turn → Type 0
     Nearer t′ t = n - t′ .i < n - t .i
@@ -382,12 +400,12 @@ module _ {M : Type 1} (𝓤 : URA M) (H : Heap 𝓤) (A : Atoms 𝓤) (W : Given
     Nearer-wf = InvImage·wf (λ (t : Turn). n - t .i) (Nat·lt-wfRel .wf)
 
     -- the plan's run is the step's
-    ran : (t : Turn) → n ≤ t .i → Ran (t .zs) (t .at .counted)
+    ran : (t : Turn) → n ≤ t .i → Ran (t .zs) (t .at .tally)
     ran t past =
         let end = walk-end (omega (arith, t .inv .long)) (t .inv) in
-        let same = ap (planTurnsOf (velocities .now) (marks .now)) ep ∙ plan-turns (velocities .now) (marks .now) inverse step in
+        let same = ap (planPassOf (velocities .now) (marks .now)) ep ∙ plan-pass (velocities .now) (marks .now) inverse step in
         let from-start = ap startsOf ep ∙ plan-starts inverse step in
-        (end .0 ∙ (λ j. tuplesOf (same j) 0 (from-start j) ys), end .1 ∙ (λ j. tallyOf (same j) 0 (from-start j) ys))
+        (end .0 ∙ (λ j. tuplesOf (same j .turns) 0 (from-start j) ys), end .1 ∙ (λ j. tuplesTallyOf (same j) 0 (from-start j) ys))
 
     module _ (𝓣 : Tables 𝓤 H) (fm : FmC 𝓤 H (W .laws) (𝓣 .C)) (known : Triple 𝓤 (𝓣 .C #thin·turn) (TurnOf 𝓤 H A mem run)) (l₀ l₁ l₂ l₃ l₄ l₅ l₆ l₇ l₈ l₉ l₁₀ l₁₁ l₁₂ l₁₃ l₁₄ : ℕ) where
       abbrev Cs : Calls 𝓤 H
@@ -397,19 +415,19 @@ module _ {M : Type 1} (𝓤 : URA M) (H : Heap 𝓤) (A : Atoms 𝓤) (W : Given
       Λ = 𝓣 .Λ
 
       abbrev En : Env 𝓤 H
-      En = (tyInt w64, l₀) ∷ (τL, l₁) ∷ (tyBool, l₂) ∷ (τS, l₃) ∷ (τV, l₄) ∷ (τM, l₅) ∷ (τP, l₆) ∷ (τC, l₇) ∷ (tyInt w64, l₈) ∷ (τR, l₉) ∷ (tyInt w64, l₁₀) ∷ (tyBool, l₁₁) ∷ (tyPtr, l₁₂) ∷ (T′.mir, l₁₃) ∷ (tyPtr, l₁₄) ∷ []
+      En = (τTa, l₀) ∷ (τL, l₁) ∷ (tyBool, l₂) ∷ (τS, l₃) ∷ (τV, l₄) ∷ (τM, l₅) ∷ (τP, l₆) ∷ (τC, l₇) ∷ (tyInt w64, l₈) ∷ (τR, l₉) ∷ (tyInt w64, l₁₀) ∷ (tyBool, l₁₁) ∷ (tyPtr, l₁₂) ∷ (T′.mir, l₁₃) ∷ (tyPtr, l₁₄) ∷ []
 
       abbrev At : Turn → List (Item 𝓤)
       At t = ‵ (row T.the-row fullShare (t .zs) b o) ∷ ‵ (fobor κ q (Held T.the-row n b o γ)) ∷ ‵ (fobs γ (codedHoleys T.the-row .code (heres T.the-row ys))) ∷ ‵ (fauth γ (codedHoleys T.the-row .code (heres T.the-row ys))) ∷ lent
           ∷ ‵ (froom tyPtr l₁₄ 0) ∷ ‵ (fdies tyPtr l₁₄) ∷ ‵ (froom T′.mir l₁₃ 0) ∷ ‵ (fdies T′.mir l₁₃) ∷ ‵ (froom tyPtr l₁₂ 0) ∷ ‵ (fdies tyPtr l₁₂) ∷ ‵ (froom tyBool l₁₁ 0) ∷ ‵ (fdies tyBool l₁₁)
           ∷ ‵ (froom (tyInt w64) l₁₀ 0) ∷ ‵ (fdies (tyInt w64) l₁₀) ∷ ‵ (froom τR l₉ 0) ∷ ‵ (fdies τR l₉) ∷ ‵ (fat fullShare (tyInt w64) l₈ 0 (vint w64 (t .i))) ∷ ‵ (fdies (tyInt w64) l₈)
           ∷ ‵ (fat fullShare τC l₇ 0 (carried-val (t .at))) ∷ ‵ (fdies τC l₇) ∷ ‵ (fat fullShare τP l₆ 0 pv) ∷ ‵ (fdies τP l₆) ∷ ‵ (fat fullShare τM l₅ 0 am) ∷ ‵ (fdies τM l₅) ∷ ‵ (fat fullShare τV l₄ 0 av) ∷ ‵ (fdies τV l₄)
-          ∷ ‵ (fat fullShare τS l₃ 0 sv) ∷ ‵ (fdies τS l₃) ∷ ‵ (fat fullShare tyBool l₂ 0 (vbool inverse)) ∷ ‵ (fdies tyBool l₂) ∷ ‵ (fat fullShare τL l₁ 0 sl) ∷ ‵ (fdies τL l₁) ∷ ‵ (froom (tyInt w64) l₀ 0) ∷ ‵ (fdies (tyInt w64) l₀) ∷ []
+          ∷ ‵ (fat fullShare τS l₃ 0 sv) ∷ ‵ (fdies τS l₃) ∷ ‵ (fat fullShare tyBool l₂ 0 (vbool inverse)) ∷ ‵ (fdies tyBool l₂) ∷ ‵ (fat fullShare τL l₁ 0 sl) ∷ ‵ (fdies τL l₁) ∷ ‵ (froom τTa l₀ 0) ∷ ‵ (fdies τTa l₀) ∷ []
 
       abbrev Turned-to : Turn → Out → SProp 𝓤
       Turned-to t = afterTurn 𝓤 H (Below 𝓤 H A Nearer At t) (afterBlock 𝓤 H (afterSeq 𝓤 H (Wp 𝓤 H Cs Λ En code-mir.t-5 (atReturn 𝓤 H En Post)) (atReturn 𝓤 H En Post)))
 
-      -- the test fails: the list is closed, and the count is the result
+      -- the test fails: the list is closed, and the tally is the result
       ends : (t : Turn) → T (not (ltb (t .i) n)) → Sq W (At t) (runs Cs Λ En code-mir.turn-1 (anyQ (Turned-to t)))
       unfolding afterTurn
       ends t past =
@@ -417,15 +435,12 @@ module _ {M : Type 1} (𝓤 : URA M) (H : Heap 𝓤) (A : Atoms 𝓤) (W : Given
           assigns ! (bin ! (load ! (from ! (stop !)) (look ! 17 refl)) (load ! (from ! (stop !)) (look ! 13 refl)) tt) (from ! (stop !)) (init ! 11 refl (tt, tt)) $
           rewrite ! 11 (λ (c : Bool). ‵ (fat fullShare tyBool l₁₁ 0 (vbool c))) (fails (ltb (t .i) n) past) refl $
           leaves-loop ! (load ! (from ! (stop !)) (look ! 11 refl)) $ exec ! Cs Λ En code-mir.t-5 (atRet En Post) $
-          assigns ! (of-opd ! (load ! (from ! (fld ! count-at (stop !))) (look-in ! 19 (sub ! 1 count-at (whole !))))) (from ! (stop !)) (init ! 33 refl (tt, record { fits = count-fits })) $
+          assigns ! (of-opd ! (load ! (from ! (fld ! tally-at (stop !))) (look-in ! 19 (sub ! 1 tally-at (whole !))))) (from ! (stop !)) (init ! 33 refl (tally-typed 𝓤 H A W (t .at .tally) _ (tally-of (t .at) _ (t .is)))) $
           closes-slice ! tt T.the-row ys (t .zs) (t .inv .long) b o $
           returns ! (look ! 32 refl) $ forget ! 10 refl $ forget ! 12 refl $ forget ! 16 refl $ forget ! 18 refl $ forget ! 20 refl $ forget ! 22 refl $ forget ! 24 refl $ forget ! 26 refl $ forget ! 28 refl $ forget ! 30 refl $ forget ! 32 refl $
           move ! (32 ∷ 33 ∷ []) $ free1 ! $ move ! (30 ∷ 31 ∷ []) $ free1 ! $ move ! (28 ∷ 29 ∷ []) $ free1 ! $ move ! (26 ∷ 27 ∷ []) $ free1 ! $ move ! (24 ∷ 25 ∷ []) $ free1 ! $ move ! (22 ∷ 23 ∷ []) $ free1 ! $ move ! (20 ∷ 21 ∷ []) $ free1 ! $
           move ! (18 ∷ 19 ∷ []) $ free1 ! $ move ! (16 ∷ 17 ∷ []) $ free1 ! $ move ! (14 ∷ 15 ∷ []) $ free1 ! $ move ! (12 ∷ 13 ∷ []) $ free1 ! $ move ! (10 ∷ 11 ∷ []) $ free1 ! $ move ! (8 ∷ 9 ∷ []) $ free1 ! $ move ! (6 ∷ 7 ∷ []) $ free1 ! $ move ! (4 ∷ 5 ∷ []) $ free1 ! $ free0 ! $
-          by ! (exits (t .zs) (t .at .counted) (t .inv .long) count-fits (ran t (nltb→le (t .i) n past)))
-        where
-          count-fits : t .at .counted < 2 ^ 64
-          count-fits = let h = t .inv .few in let w = t .inv .within in let k = room .0 in omega arith
+          by ! (exits (t .zs) (t .at .tally) (t .inv .long) (tally-of (t .at) _ (t .is)) (ran t (nltb→le (t .i) n past)))
 
       -- the test holds: one tuple is taken out, turned, and put back
       more : (t : Turn) → T (ltb (t .i) n) → Sq W (At t) (runs Cs Λ En code-mir.turn-1 (anyQ (Turned-to t)))
@@ -489,10 +504,10 @@ module _ {M : Type 1} (𝓤 : URA M) (H : Heap 𝓤) (A : Atoms 𝓤) (W : Given
           next-fits : t .i + 1 < 2 ^ 64
           next-fits = let h = below in let k = room .0 in omega arith
 
-          few : t .at .counted < 18446744073709551615
-          few = let h = below in let k = fit in let w = t .inv .few in omega arith
+          few : (t .at .tally .count < 18446744073709551615) × (t .at .tally .met < 18446744073709551615)
+          few = let h = below in let k = fit in let w = t .inv .few .0 in let v = t .inv .few .1 in (omega arith, omega arith)
 
-          made : (r : Turned) → r ≡ turnOf (velocities .now) (marks .now) plan (t .i) (t .at) u → r ≡ tallied (t .at) (turns (t .i) (t .at .state) u)
+          made : (r : Turned) → r ≡ turnOf (velocities .now) (marks .now) plan (t .i) (t .at) u → r ≡ tallied (t .at) (pass .turns (t .i) (t .at .state) u) (pass .met (t .i) (t .at .state) u)
           made r e = e ∙ turn-is (velocities .now) (marks .now) plan (t .i) (t .at) u
 
       each : (t : Turn) → Sq W (At t) (runs Cs Λ En code-mir.turn-1 (anyQ (Turned-to t)))
@@ -527,7 +542,7 @@ module _ {M : Type 1} (𝓤 : URA M) (H : Heap 𝓤) (A : Atoms 𝓤) (W : Given
       -- what velocities owns; _14 at 9; ..]
       move ! (8 ∷ 6 ∷ []) $ join ! $ move ! (5 ∷ 0 ∷ []) $ join ! $ keep ! (1 ∷ 2 ∷ 3 ∷ 4 ∷ 0 ∷ 7 ∷ 8 ∷ 9 ∷ 10 ∷ 11 ∷ 12 ∷ 13 ∷ 14 ∷ 15 ∷ 16 ∷ 17 ∷ 18 ∷ 19 ∷ 20 ∷ 21 ∷ 22 ∷ 23 ∷ 24 ∷ 25 ∷ 26 ∷ 27 ∷ 28 ∷ 29 ∷ 30 ∷ 31 ∷ 32 ∷ 33 ∷ 34 ∷ 35 ∷ 36 ∷ []) $
       by ! (looped plan pv p-is ep 𝓣 fm known-turn l₀ l₁ l₂ l₃ l₄ l₅ l₆ l₇ l₈ l₉ l₁₀ l₁₁ l₁₂ l₁₃ l₁₄
-      (record { i = 0; zs = ys; at = at; is = subst (λ (w : Val). Is C.the-row at (w ∷ [])) (carried-told at cv c-is) c-is; inv = subst (λ (c : Carried). Walked (planTurnsOf (velocities .now) (marks .now) plan) (startsOf plan) ys 0 c ys) (sym ea) (walk-start _ _ ys) })))))))))))))))))))))
+      (record { i = 0; zs = ys; at = at; is = subst (λ (w : Val). Is C.the-row at (w ∷ [])) (carried-told at cv c-is) c-is; inv = subst (λ (c : Carried). Walked (planPassOf (velocities .now) (marks .now) plan) (startsOf plan) ys 0 c ys) (sym ea) (walk-start _ _ ys) })))))))))))))))))))))
     where
       fm : FmC 𝓤 H (W .laws) (𝓣 .C)
       fm = fmOf 𝓤 H (W .laws) 𝓣

@@ -1,6 +1,6 @@
 -- A walk of its MIR, by hand. The refusal, the number of steps and the empty answer come from three
 -- calls; each turn of the loop asks for the next step, lends the list again to `run_step` for a
--- lifetime that is made for the call (`Again.antt`), and notes the count. The invariant is
+-- lifetime that is made for the call (`Again.antt`), and notes the tally. The invariant is
 -- `Laws.antt`'s `Going`, which is `chain`'s own over the same numbers. All that the proof knows of
 -- the functions it calls is that they meet their contracts. Assumes nothing.
 use mathlib.Core.Path.{_≡_, refl, sym, ap, subst}
@@ -59,13 +59,17 @@ use Rattle.bodies.proofs.Step.Laws as S′
 use Rattle.sheet.specs.declared.Refusal.{Refusal}
 use Rattle.sheet.proofs.Refusal as Rf
 use Rattle.sheet.proofs.Refusal.Laws as Rf′
+use Rattle.tally.specs.declared.Tally.{Tally}
+use Rattle.tally.proofs.Tally as Ta
+use Rattle.tally.proofs.Tally.Laws as Ta′
+use Rattle.plans.specs.Lent.{lentOf}
 use Rattle.chain.specs.declared.Answer.{Answer}
-use Rattle.chain.specs.Chain.{turnsOf, stateOf}
+use Rattle.chain.specs.Chain.{turnsOf, passOf, stateOf}
 use Rattle.chain.specs.Rules.{refusedAnswer, outcome, shiftOf}
 use Rattle.chain.proofs.Answer as An
 use Rattle.chain.proofs.Answer.Laws as An′
 use Rattle.thin.specs.declared.Todo.{Todo}
-use Rattle.thin.specs.Tuples.{tuplesOf, tallyOf, flatOf}
+use Rattle.thin.specs.Tuples.{tuplesOf, tuplesTallyOf, flatOf}
 use Rattle.thin.specs.Sheets.{todoOf, thinRefusalOf, stepsOf, notedOf}
 use Rattle.thin.proofs.Answers.{holds, fails, either, answers}
 use Rattle.thin.proofs.Again.{LentAgain, lends-at, comes-at}
@@ -128,6 +132,9 @@ unfoldable τS : Ty
 unfoldable τA : Ty
 τA = spell code-mir.table (pointee (An.the-row .written))
 
+unfoldable τTa : Ty
+τTa = spell code-mir.table (pointee (Ta.the-row .written))
+
 unfoldable τF : Ty
 τF = spell code-mir.table (pointee (Rf.the-row .written))
 
@@ -167,12 +174,12 @@ function = record {
   lifetimes = 4;
   outlives = [];
   params = 5;
-  locals = its τA ∷ its tyBool ∷ its τB ∷ its τL ∷ its τV ∷ its τM ∷ its τF ∷ its (tyInt w64) ∷ its τA ∷ its (tyInt w64) ∷ its τD ∷ its (tyInt w64) ∷ its (tyInt w64) ∷ its tyBool ∷ its τE ∷ its τG ∷ [];
+  locals = its τA ∷ its tyBool ∷ its τB ∷ its τL ∷ its τV ∷ its τM ∷ its τF ∷ its (tyInt w64) ∷ its τA ∷ its (tyInt w64) ∷ its τD ∷ its τTa ∷ its (tyInt w64) ∷ its tyBool ∷ its τE ∷ its τG ∷ [];
   body = code-mir.t-1;
 }
 
 function-is : code.function ≡ function
-unfolding τS τA τF
+unfolding τS τA τF τTa
 function-is = refl
 
 -- where the fields lie
@@ -204,6 +211,10 @@ module _ {M : Type 1} (𝓤 : URA M) (H : Heap 𝓤) (A : Atoms 𝓤) (W : Given
   refusal-typed : (r : Refusal) (v : Val) → Is Rf.the-row r (v ∷ []) → T (hasTy τF v) × WT v
   unfolding τF
   refusal-typed r v is = LL.lawful Rf.the-type Rf′.the-laws 𝓤 H A W .typed r _ is .0
+
+  tally-typed : (tally : Tally) (v : Val) → Is Ta.the-row tally (v ∷ []) → T (hasTy τTa v) × WT v
+  unfolding τTa
+  tally-typed tally v is = LL.lawful Ta.the-type Ta′.the-laws 𝓤 H A W .typed tally _ is .0
 
   answer-typed : (r : Answer) (v : Val) → Is An.the-row r (v ∷ []) → T (hasTy τA v) × WT v
   unfolding τA
@@ -250,20 +261,20 @@ module _ {M : Type 1} (𝓤 : URA M) (H : Heap 𝓤) (A : Atoms 𝓤) (W : Given
     said-answer : (r : Answer) → ent 𝓤 (Answer-ensured r) (fact 𝓤 (r ≡ refusedAnswer refusal))
     said-answer r = exE 𝓤 _ (λ ws. snd∗ 𝓤 (sem 𝓤 H A (lasts answer-of.ended tt (refusal, tt) ws)) (fact 𝓤 (r ≡ refusedAnswer refusal)))
 
-  module _ (answer : Answer) (av : Val) (place count : ℕ) where
+  module _ (answer : Answer) (av : Val) (place : ℕ) (tally : Tally) (tv : Val) where
     abbrev to-noted : Noted 𝓤 H A mem run .Ghost
-    to-noted = ((tt, tt, tt, (answer, (place, (count, tt))), (av ∷ [], (vint w64 place ∷ [], (vint w64 count ∷ [], tt)))), tt)
+    to-noted = ((tt, tt, tt, (answer, (place, (tally, tt))), (av ∷ [], (vint w64 place ∷ [], (tv ∷ [], tt)))), tt)
 
-    asks-noted : Is An.the-row answer (av ∷ []) → place < 2 ^ 64 → count < 2 ^ 64 → place < 16 → ent 𝓤 (sem 𝓤 H A ftrue) (Noted 𝓤 H A mem run .pre to-noted)
+    asks-noted : Is An.the-row answer (av ∷ []) → place < 2 ^ 64 → Is Ta.the-row tally (tv ∷ []) → place < 16 → ent 𝓤 (sem 𝓤 H A ftrue) (Noted 𝓤 H A mem run .pre to-noted)
     asks-noted is p-fits c-fits below =
-        qed W (‵ ftrue ∷ []) ∵ says ! below $ frame ! $ nothing ! $ owned ! usize (Is usize) (uint-makes 𝓤 H A W w64) count _ (refl, c-fits) $ fjoin ! $
+        qed W (‵ ftrue ∷ []) ∵ says ! below $ frame ! $ nothing ! $ owned ! Ta.the-row (Is Ta.the-row) (LL.makes Ta.the-type Ta′.the-plain 𝓤 H A) tally _ c-fits $ fjoin ! $
         owned ! usize (Is usize) (uint-makes 𝓤 H A W w64) place _ (refl, p-fits) $ fjoin ! $ owned ! An.the-row (Is An.the-row) (LL.makes An.the-type An′.the-plain 𝓤 H A) answer _ is $ fjoin ! $ done !
 
     abbrev Noted-ensured : Answer → SProp 𝓤
-    Noted-ensured r = ensured 𝓤 H A noted.ended (noted.clauses 𝓤 H A mem run) tt (answer, (place, (count, tt))) tt r
+    Noted-ensured r = ensured 𝓤 H A noted.ended (noted.clauses 𝓤 H A mem run) tt (answer, (place, (tally, tt))) tt r
 
-    said-noted : (r : Answer) → ent 𝓤 (Noted-ensured r) (fact 𝓤 (r ≡ notedOf answer place count))
-    said-noted r = exE 𝓤 _ (λ ws. snd∗ 𝓤 (sem 𝓤 H A (lasts noted.ended tt (answer, (place, (count, tt))) ws)) (fact 𝓤 (r ≡ notedOf answer place count)))
+    said-noted : (r : Answer) → ent 𝓤 (Noted-ensured r) (fact 𝓤 (r ≡ notedOf answer place tally))
+    said-noted r = exE 𝓤 _ (λ ws. snd∗ 𝓤 (sem 𝓤 H A (lasts noted.ended tt (answer, (place, (tally, tt))) ws)) (fact 𝓤 (r ≡ notedOf answer place tally)))
 
 -- ---- what is lent: the sheet's bytes; velocities and marks. What a `&` owns is had twice: a call is passed a copy, and its tokens come back
 
@@ -404,10 +415,10 @@ module _ {M : Type 1} (𝓤 : URA M) (H : Heap 𝓤) (A : Atoms 𝓤) (W : Given
         -- [marks; marks; velocities; velocities; two tokens; the call's token; the list]
         move ! (5 ∷ 4 ∷ []) $ join ! $ move ! (0 ∷ 5 ∷ 3 ∷ 1 ∷ []) $ group ! 4 $ use1 W (raw (RunStep 𝓤 H A mem run .pre to-run)) (passes-run is) $ frame ! $ move ! (1 ∷ 0 ∷ []) $ done !
 
-    abbrev Ran : List Tuple → ℕ → Type 0
-    Ran zs′ count = (zs′ ≡ tuplesOf (turnsOf (d .inverse) (velocities .now) (marks .now) (d .step)) 0 (stateOf (d .step)) zs) × (count ≡ tallyOf (turnsOf (d .inverse) (velocities .now) (marks .now) (d .step)) 0 (stateOf (d .step)) zs)
+    abbrev Ran : List Tuple → Tally → Type 0
+    Ran zs′ tally = (zs′ ≡ tuplesOf (turnsOf (d .inverse) (lentOf (velocities .now) (marks .now) []) (d .step)) 0 (stateOf (d .step)) zs) × (tally ≡ tuplesTallyOf (passOf (d .inverse) (lentOf (velocities .now) (marks .now) []) (d .step)) 0 (stateOf (d .step)) zs)
 
-    abbrev Run-ensured : ℕ → SProp 𝓤
+    abbrev Run-ensured : Tally → SProp 𝓤
     Run-ensured r = ensured 𝓤 H A run-step.ended (run-step.clauses 𝓤 H A mem run) (ν ∷ [], (κ₂, (κ₃, tt))) (lent, (d .inverse, (d .step, (velocities, (marks, tt))))) tt r
 
     abbrev Last : Type 0
@@ -515,10 +526,10 @@ module _ {M : Type 1} (𝓤 : URA M) (H : Heap 𝓤) (A : Atoms 𝓤) (W : Given
       Λ = 𝓣 .Λ
 
       abbrev En : Env 𝓤 H
-      En = (τA, l₀) ∷ (tyBool, l₁) ∷ (τB, l₂) ∷ (τL, l₃) ∷ (τV, l₄) ∷ (τM, l₅) ∷ (τF, l₆) ∷ (tyInt w64, l₇) ∷ (τA, l₈) ∷ (tyInt w64, l₉) ∷ (τD, l₁₀) ∷ (tyInt w64, l₁₁) ∷ (tyInt w64, l₁₂) ∷ (tyBool, l₁₃) ∷ (τE, l₁₄) ∷ (τG, l₁₅) ∷ []
+      En = (τA, l₀) ∷ (tyBool, l₁) ∷ (τB, l₂) ∷ (τL, l₃) ∷ (τV, l₄) ∷ (τM, l₅) ∷ (τF, l₆) ∷ (tyInt w64, l₇) ∷ (τA, l₈) ∷ (tyInt w64, l₉) ∷ (τD, l₁₀) ∷ (τTa, l₁₁) ∷ (tyInt w64, l₁₂) ∷ (tyBool, l₁₃) ∷ (τE, l₁₄) ∷ (τG, l₁₅) ∷ []
 
       abbrev At : Turn → List (Item 𝓤)
-      At t = listed (t .zs) ∷ sheet ∷ others ∷ ‵ (froom τG l₁₅ 0) ∷ ‵ (fdies τG l₁₅) ∷ ‵ (froom τE l₁₄ 0) ∷ ‵ (fdies τE l₁₄) ∷ ‵ (froom tyBool l₁₃ 0) ∷ ‵ (fdies tyBool l₁₃) ∷ ‵ (fat fullShare (tyInt w64) l₁₂ 0 (vint w64 m)) ∷ ‵ (fdies (tyInt w64) l₁₂) ∷ ‵ (froom (tyInt w64) l₁₁ 0) ∷ ‵ (fdies (tyInt w64) l₁₁) ∷ ‵ (froom τD l₁₀ 0) ∷ ‵ (fdies τD l₁₀) ∷ ‵ (fat fullShare (tyInt w64) l₉ 0 (vint w64 (t .i))) ∷ ‵ (fdies (tyInt w64) l₉) ∷ ‵ (fat fullShare τA l₈ 0 (t .av)) ∷ ‵ (fdies τA l₈) ∷ ‵ (fat fullShare (tyInt w64) l₇ 0 (vint w64 n)) ∷ ‵ (fdies (tyInt w64) l₇) ∷ ‵ (fat fullShare τF l₆ 0 rv) ∷ ‵ (fdies τF l₆) ∷ ‵ (fat fullShare τM l₅ 0 av₃) ∷ ‵ (fdies τM l₅) ∷ ‵ (fat fullShare τV l₄ 0 av₂) ∷ ‵ (fdies τV l₄) ∷ ‵ (fat fullShare τL l₃ 0 sl₀) ∷ ‵ (fdies τL l₃) ∷ ‵ (fat fullShare τB l₂ 0 av₀) ∷ ‵ (fdies τB l₂) ∷ ‵ (fat fullShare tyBool l₁ 0 (vbool inverse)) ∷ ‵ (fdies tyBool l₁) ∷ ‵ (froom τA l₀ 0) ∷ ‵ (fdies τA l₀) ∷ []
+      At t = listed (t .zs) ∷ sheet ∷ others ∷ ‵ (froom τG l₁₅ 0) ∷ ‵ (fdies τG l₁₅) ∷ ‵ (froom τE l₁₄ 0) ∷ ‵ (fdies τE l₁₄) ∷ ‵ (froom tyBool l₁₃ 0) ∷ ‵ (fdies tyBool l₁₃) ∷ ‵ (fat fullShare (tyInt w64) l₁₂ 0 (vint w64 m)) ∷ ‵ (fdies (tyInt w64) l₁₂) ∷ ‵ (froom τTa l₁₁ 0) ∷ ‵ (fdies τTa l₁₁) ∷ ‵ (froom τD l₁₀ 0) ∷ ‵ (fdies τD l₁₀) ∷ ‵ (fat fullShare (tyInt w64) l₉ 0 (vint w64 (t .i))) ∷ ‵ (fdies (tyInt w64) l₉) ∷ ‵ (fat fullShare τA l₈ 0 (t .av)) ∷ ‵ (fdies τA l₈) ∷ ‵ (fat fullShare (tyInt w64) l₇ 0 (vint w64 n)) ∷ ‵ (fdies (tyInt w64) l₇) ∷ ‵ (fat fullShare τF l₆ 0 rv) ∷ ‵ (fdies τF l₆) ∷ ‵ (fat fullShare τM l₅ 0 av₃) ∷ ‵ (fdies τM l₅) ∷ ‵ (fat fullShare τV l₄ 0 av₂) ∷ ‵ (fdies τV l₄) ∷ ‵ (fat fullShare τL l₃ 0 sl₀) ∷ ‵ (fdies τL l₃) ∷ ‵ (fat fullShare τB l₂ 0 av₀) ∷ ‵ (fdies τB l₂) ∷ ‵ (fat fullShare tyBool l₁ 0 (vbool inverse)) ∷ ‵ (fdies tyBool l₁) ∷ ‵ (froom τA l₀ 0) ∷ ‵ (fdies τA l₀) ∷ []
 
       abbrev Turned-to : Turn → Out → SProp 𝓤
       Turned-to t = afterTurn 𝓤 H (Below 𝓤 H A Nearer At t) (afterBlock 𝓤 H (afterSeq 𝓤 H (Wp 𝓤 H Cs Λ En code-mir.t-7 (atReturn 𝓤 H En Post)) (atReturn 𝓤 H En Post)))
@@ -535,7 +546,7 @@ module _ {M : Type 1} (𝓤 : URA M) (H : Heap 𝓤) (A : Atoms 𝓤) (W : Given
           move ! (33 ∷ 34 ∷ []) $ free1 ! $ move ! (31 ∷ 32 ∷ []) $ free1 ! $ move ! (29 ∷ 30 ∷ []) $ free1 ! $ move ! (27 ∷ 28 ∷ []) $ free1 ! $ move ! (25 ∷ 26 ∷ []) $ free1 ! $ move ! (23 ∷ 24 ∷ []) $ free1 ! $ move ! (21 ∷ 22 ∷ []) $ free1 ! $ move ! (19 ∷ 20 ∷ []) $ free1 ! $ move ! (17 ∷ 18 ∷ []) $ free1 ! $ move ! (15 ∷ 16 ∷ []) $ free1 ! $ move ! (13 ∷ 14 ∷ []) $ free1 ! $ move ! (11 ∷ 12 ∷ []) $ free1 ! $ move ! (9 ∷ 10 ∷ []) $ free1 ! $ move ! (7 ∷ 8 ∷ []) $ free1 ! $ move ! (5 ∷ 6 ∷ []) $ free1 ! $ move ! (3 ∷ 4 ∷ []) $ free1 ! $ free0 ! $
           by ! (exits (t .zs) (t .answer) (t .av) (t .is) (t .inv .long) (going-end inverse (s .now) (velocities .now) (marks .now) ys refusal n er en (t .i) (t .zs) (t .answer) (nltb→le (t .i) n past) (t .inv)))
 
-      -- the test holds: the next step is run over the list, lent again, and its count is noted
+      -- the test holds: the next step is run over the list, lent again, and its tally is noted
       more : (t : Turn) → T (ltb (t .i) n) → Sq W (At t) (runs Cs Λ En code-mir.turn-1 (anyQ (Turned-to t)))
       unfolding afterTurn
       more t less =
@@ -561,13 +572,13 @@ module _ {M : Type 1} (𝓤 : URA M) (H : Heap 𝓤) (A : Atoms 𝓤) (W : Given
           -- at 4; ..]
           calls-at ! fm (RunStep 𝓤 H A mem run) known-run (to-run 𝓤 H A W mem run κ₀ κ₂ κ₃ q₀ q₂ q₃ s velocities marks b o m ν δ (t .zs) d) (and-then ! (load ! (from ! (stop !)) (look ! 4 refl)) (and-then ! (load ! (from ! (fld ! inverse-at (stop !))) (look-in ! 14 (sub ! 1 inverse-at (whole !))))
           (and-then ! (load ! (from ! (fld ! step-at (stop !))) (look-in ! 14 (sub ! 2 step-at (whole !)))) (and-then ! (load ! (from ! (stop !)) (look ! 26 refl)) (and-then ! (load ! (from ! (stop !)) (look ! 24 refl)) (no-more !)))))) (λ v.
-          use1 W (later (some (λ (r : ℕ). (With 𝓤 H A W mem run κ₀ κ₂ κ₃ q₀ q₂ q₃ s velocities marks b o m ν δ (t .zs) d ⊛ ‵ (usize .own r (v ∷ []))) ⊛ raw (Run-ensured 𝓤 H A W mem run κ₀ κ₂ κ₃ q₀ q₂ q₃ s velocities marks b o m ν δ (t .zs) d r)))) (id⊢ 𝓤 _) $ await ! tt $ pick ! (λ count. split ! $ move ! (1 ∷ []) $
-          use1 W (some (λ (ws : Last 𝓤 H A W mem run κ₀ κ₂ κ₃ q₀ q₂ q₃ s velocities marks b o m ν δ (t .zs) d). ‵ (Run-last 𝓤 H A W mem run κ₀ κ₂ κ₃ q₀ q₂ q₃ s velocities marks b o m ν δ (t .zs) d ws) ⊛ raw (fact 𝓤 (Ran 𝓤 H A W mem run κ₀ κ₂ κ₃ q₀ q₂ q₃ s velocities marks b o m ν δ (t .zs) d (ws .0) count)))) (id⊢ 𝓤 _) $ pick ! (λ ws. split ! $ move ! (1 ∷ []) $ heard ! (Ran 𝓤 H A W mem run κ₀ κ₂ κ₃ q₀ q₂ q₃ s velocities marks b o m ν δ (t .zs) d (ws .0) count) (λ ran.
+          use1 W (later (some (λ (r : Tally). (With 𝓤 H A W mem run κ₀ κ₂ κ₃ q₀ q₂ q₃ s velocities marks b o m ν δ (t .zs) d ⊛ ‵ (Ta.the-row .own r (v ∷ []))) ⊛ raw (Run-ensured 𝓤 H A W mem run κ₀ κ₂ κ₃ q₀ q₂ q₃ s velocities marks b o m ν δ (t .zs) d r)))) (id⊢ 𝓤 _) $ await ! tt $ pick ! (λ tally. split ! $ move ! (1 ∷ []) $
+          use1 W (some (λ (ws : Last 𝓤 H A W mem run κ₀ κ₂ κ₃ q₀ q₂ q₃ s velocities marks b o m ν δ (t .zs) d). ‵ (Run-last 𝓤 H A W mem run κ₀ κ₂ κ₃ q₀ q₂ q₃ s velocities marks b o m ν δ (t .zs) d ws) ⊛ raw (fact 𝓤 (Ran 𝓤 H A W mem run κ₀ κ₂ κ₃ q₀ q₂ q₃ s velocities marks b o m ν δ (t .zs) d (ws .0) tally)))) (id⊢ 𝓤 _) $ pick ! (λ ws. split ! $ move ! (1 ∷ []) $ heard ! (Ran 𝓤 H A W mem run κ₀ κ₂ κ₃ q₀ q₂ q₃ s velocities marks b o m ν δ (t .zs) d (ws .0) tally) (λ ran.
           fsplit ! $ fsplit ! $ move ! (1 ∷ []) $ feqL ! (λ el.
           -- [the list at last; the other last values; the tokens and the result; velocities and
           -- marks; what is kept; the sheet; _15 at 6; ..]
-          move ! (2 ∷ []) $ split ! $ move ! (1 ∷ []) $ peeks ! usize (Is usize) (shows 𝓤 H A usize) count (v ∷ []) (λ c-is.
-          land ! (from ! (stop !)) (init ! 15 refl (uint-lawful 𝓤 H A W w64 .typed count _ c-is .0)) $ rewrite ! 15 (λ (w : Val). ‵ (fat fullShare (tyInt w64) l₁₁ 0 w)) (ap only (c-is .0)) refl $ drop ! $
+          move ! (2 ∷ []) $ split ! $ move ! (1 ∷ []) $ peeks ! Ta.the-row (Is Ta.the-row) (shows 𝓤 H A Ta.the-row) tally (v ∷ []) (λ c-is.
+          land ! (from ! (stop !)) (init ! 15 refl (tally-typed 𝓤 H A W tally _ c-is)) $ drop ! $
           -- the lifetime is ended, and the list comes back as it is now
           split ! $ lft-end ! tt $ move ! (0 ∷ 5 ∷ 2 ∷ []) $
           use3 W (later (listed (ws .0))) (comes-at T.the-row κ (ν ∷ []) q γ b o 𝓤 H A W (named 1) (named 0) (t .zs) m (t .inv .long) δ (ws .0) room el) $ await ! tt $
@@ -575,14 +586,14 @@ module _ {M : Type 1} (𝓤 : URA M) (H : Heap 𝓤) (A : Atoms 𝓤) (W : Given
           -- 5; ..]
           move ! (1 ∷ 3 ∷ []) $ join ! $ move ! (2 ∷ []) $ drop ! $
           -- [the others; the list; the sheet; _15 at 3; ..]
-          nothing ! $ use1 W (raw (Noted 𝓤 H A mem run .pre (to-noted 𝓤 H A W mem run (t .answer) (t .av) (d .place) count))) (asks-noted 𝓤 H A W mem run (t .answer) (t .av) (d .place) count (t .is) (place-fits d dv d-is) (c-is .1) (place-few d et)) $
-          calls-at ! fm (Noted 𝓤 H A mem run) known-noted (to-noted 𝓤 H A W mem run (t .answer) (t .av) (d .place) count) (and-then ! (load ! (from ! (stop !)) (look ! 18 refl)) (and-then ! (load ! (from ! (fld ! refl (stop !))) (look-in ! 14 (sub ! 0 refl (whole !)))) (and-then ! (load ! (from ! (stop !)) (look ! 12 refl)) (no-more !)))) (λ av′.
-          answers ! tt An.the-row (‵ ftrue) (Noted-ensured 𝓤 H A W mem run (t .answer) (t .av) (d .place) count) (λ r. r ≡ notedOf (t .answer) (d .place) count) (said-noted 𝓤 H A W mem run (t .answer) (t .av) (d .place) count) av′ (id⊢ 𝓤 _) (λ answer ea a-is.
+          nothing ! $ use1 W (raw (Noted 𝓤 H A mem run .pre (to-noted 𝓤 H A W mem run (t .answer) (t .av) (d .place) tally v))) (asks-noted 𝓤 H A W mem run (t .answer) (t .av) (d .place) tally v (t .is) (place-fits d dv d-is) c-is (place-few d et)) $
+          calls-at ! fm (Noted 𝓤 H A mem run) known-noted (to-noted 𝓤 H A W mem run (t .answer) (t .av) (d .place) tally v) (and-then ! (load ! (from ! (stop !)) (look ! 18 refl)) (and-then ! (load ! (from ! (fld ! refl (stop !))) (look-in ! 14 (sub ! 0 refl (whole !)))) (and-then ! (load ! (from ! (stop !)) (look ! 12 refl)) (no-more !)))) (λ av′.
+          answers ! tt An.the-row (‵ ftrue) (Noted-ensured 𝓤 H A W mem run (t .answer) (t .av) (d .place) tally v) (λ r. r ≡ notedOf (t .answer) (d .place) tally) (said-noted 𝓤 H A W mem run (t .answer) (t .av) (d .place) tally v) av′ (id⊢ 𝓤 _) (λ answer ea a-is.
           land ! (from ! (stop !)) (store ! 18 refl (answer-typed 𝓤 H A W answer _ a-is)) $ drop ! $ move ! (1 ∷ 2 ∷ 0 ∷ []) $
           assigns-last ! (bin ! (load ! (from ! (stop !)) (look ! 15 refl)) (lit ! tt) (record { fits = next-fits })) (from ! (stop !)) (store ! 15 refl (tt, record { fits = next-fits })) $
           forget ! 3 refl $ forget ! 5 refl $ forget ! 7 refl $ forget ! 11 refl $ forget ! 13 refl $
           again ! Nearer At t
-          (record { i = t .i + 1; zs = ws .0; answer = answer; av = av′; is = a-is; inv = going-again inverse (s .now) (velocities .now) (marks .now) ys refusal n most (t .i) (t .zs) (ws .0) (t .answer) answer d count below et el ran ea (t .inv) })
+          (record { i = t .i + 1; zs = ws .0; answer = answer; av = av′; is = a-is; inv = going-again inverse (s .now) (velocities .now) (marks .now) ys refusal n most (t .i) (t .zs) (ws .0) (t .answer) answer d tally below et el ran ea (t .inv) })
           (let h = below in omega arith)))))))))))))
         where
           below : t .i < n

@@ -6,12 +6,16 @@ use Rattle.windows.proofs.at_start.Tie as tie
 start-requires : tie.Need-start-requires
 start-requires c κs = search needs
 
+none-requires : tie.Need-none-requires
+none-requires c κs = search needs
+
 returns : tie.Need-returns
-returns c = rw (c .start .ensures)
+returns c = rw (c .none .ensures, c .before .start .ensures)
 
 pub at-start-spec : {M : Type 1} → statement M
 at-start-spec =
     tie.close
     (tie.spec
     start-requires
+    none-requires
     returns)

@@ -7,18 +7,19 @@ use mathlib.Core.Path.{_≡_, sym, ap, _∙_}
 use lib.ListN.{length}
 use Rattle.plans.proofs.Arrays.{at-most-sixteen}
 use Rattle.step_windows.proofs.Parts.{room-rows, room-back, fits-list, last-left, part-taken, part-length, part-put}
-use Rattle.windows.specs.Steps.{turnsIn, turnsFrom, countsOf, goneOver}
-use Rattle.windows.proofs.Steps.{Going, going-start, going-again, going-end, starts-few, turns-few}
+use Rattle.windows.specs.Steps.{passIn, passesFrom, talliesOf, goneOver}
+use Rattle.windows.proofs.Steps.{Going, going-start, going-again, going-end, starts-few, passes-few}
+use Rattle.plans.specs.Lent.{lentOf}
 use borrow.Author.Needs.{needs}
 use Rattle.windows.proofs.over.Statement.{statement}
 use Rattle.windows.proofs.over.Tie as tie
 
 abbrev Inv-loop : tie.InvT-loop
-Inv-loop inverse plans n list₀ velocities marks x₀ y₀ z₀ t₀ steps rows standings₀ i₀ list x y z t standings i =
-    (i ≤ rows) × (128 ≡ length x) × (128 ≡ length y) × (128 ≡ length z) × (128 ≡ length t) × (steps ≤ 16) × Going inverse (turnsFrom (turnsIn velocities marks plans) steps 0) standings₀ list₀ i standings list × (rows < 4611686018427387904)
+Inv-loop inverse plans n list₀ velocities marks grid x₀ y₀ z₀ t₀ steps rows standings₀ i₀ list x y z t standings i =
+    (i ≤ rows) × (128 ≡ length x) × (128 ≡ length y) × (128 ≡ length z) × (128 ≡ length t) × (steps ≤ 16) × Going inverse (passesFrom (passIn (lentOf velocities marks grid) plans) steps 0) standings₀ list₀ i standings list × (rows < 4611686018427387904)
 
 abbrev μ-loop : tie.MeasureT-loop
-μ-loop inverse plans n list₀ velocities marks x₀ y₀ z₀ t₀ steps rows standings₀ i₀ list x y z t standings i = rows - i
+μ-loop inverse plans n list₀ velocities marks grid x₀ y₀ z₀ t₀ steps rows standings₀ i₀ list x y z t standings i = rows - i
 
 room-requires : tie.Need-room-requires Inv-loop μ-loop
 room-requires c κs = search needs
@@ -127,12 +128,12 @@ loop-again c =
       room-back (l .z) (w .1 .1 .1 .1 .1 .1 .1 .1 .0) m (l .inv .3) (c .before .z2 .given),
       room-back (l .t) (w .1 .1 .1 .1 .1 .1 .1 .1 .1 .0) m (l .inv .4) (c .t2 .given),
       l .inv .5,
-      going-again m (turns-few _ _ (l .inv .5)) fits (part-put (l .list) (l .i) m _) (rw k at (e .0)) (rw k at (e .1)) (l .inv .6),
+      going-again m (passes-few _ _ (l .inv .5)) fits (part-put (l .list) (l .i) m _) (rw k at (e .0)) (rw k at (e .1)) (l .inv .6),
       l .inv .7,
     )
 
-counts-of-requires : tie.Need-counts-of-requires Inv-loop μ-loop
-counts-of-requires c κs = search needs
+tallies-of-requires : tie.Need-tallies-of-requires Inv-loop μ-loop
+tallies-of-requires c κs = search needs
 
 same-length : tie.Need-same-length Inv-loop μ-loop
 same-length c = c .before .before .loop .inv .6 .long
@@ -144,7 +145,7 @@ returns c =
     let st = c .before .before .before .starts .ensures in
     let most = c .before .before .before .before .at-most-sixteen .ensures in
     let e = going-end (last-left (l .i) (l .inv .6 .long) (c .before .loop-test .left)) (l .inv .6) in
-    (rw (st, most) at (e .0), c .counts-of .ensures ∙ ap countsOf (rw (st, most) at (e .1)))
+    (rw (st, most) at (e .0), c .tallies-of .ensures ∙ ap talliesOf (rw (st, most) at (e .1)))
 
 pub over-spec : {M : Type 1} → statement M
 over-spec =
@@ -180,6 +181,6 @@ over-spec =
     add-i
     loop-less
     loop-again
-    counts-of-requires
+    tallies-of-requires
     same-length
     returns)

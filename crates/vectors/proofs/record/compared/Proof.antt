@@ -4,6 +4,9 @@ use borrow.Author.Needs.{needs}
 use Rattle.vectors.proofs.record.compared.Statement.{statement}
 use Rattle.vectors.proofs.record.compared.Tie as tie
 
+counts-requires : tie.Need-counts-requires
+counts-requires c κs = search needs
+
 wide64-requires : tie.Need-wide64-requires
 wide64-requires c κs = search needs
 
@@ -45,12 +48,13 @@ add-result-3 c = search needs
 
 returns : tie.Need-returns
 unfolding comparedOf
-returns c = rw (c .differing-numbers .ensures .0, c .before .differing-counts .ensures .0, c .before .before .before .differing2 .ensures .0, c .before .before .before .before .wide644 .ensures .0, c .before .before .before .before .before .read322 .ensures, c .before .before .before .before .before .before .wide643 .ensures .0, c .before .before .before .before .before .before .before .differing .ensures .0, c .before .before .before .before .before .before .before .before .wide642 .ensures .0, c .before .before .before .before .before .before .before .before .before .read32 .ensures, c .before .before .before .before .before .before .before .before .before .before .wide64 .ensures .0)
+returns c = rw (c .differing-numbers .ensures .0, c .before .differing-counts .ensures .0, c .before .before .before .differing2 .ensures .0, c .before .before .before .before .wide644 .ensures .0, c .before .before .before .before .before .read322 .ensures, c .before .before .before .before .before .before .wide643 .ensures .0, c .before .before .before .before .before .before .before .differing .ensures .0, c .before .before .before .before .before .before .before .before .wide642 .ensures .0, c .before .before .before .before .before .before .before .before .before .read32 .ensures, c .before .before .before .before .before .before .before .before .before .before .wide64 .ensures .0, c .before .before .before .before .before .before .before .before .before .before .before .counts .ensures)
 
 pub compared-spec : {M : Type 1} → statement M
 compared-spec =
     tie.close
     (tie.spec
+    counts-requires
     wide64-requires
     read32-requires
     wide64-requires-2

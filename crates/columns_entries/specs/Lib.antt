@@ -1,2 +1,0 @@
--- What the contracts of `columns_entries` cite.
-pub mod Codes

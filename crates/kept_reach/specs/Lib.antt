@@ -1,0 +1,2 @@
+-- What the contracts of `kept_reach` cite.
+pub mod Reach

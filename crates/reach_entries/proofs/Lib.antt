@@ -1,0 +1,2 @@
+-- What the proofs of `reach_entries` share.
+pub mod Fit

@@ -1,0 +1,2 @@
+-- What the contracts of `reach_entries` cite.
+pub mod Codes

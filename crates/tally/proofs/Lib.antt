@@ -1,0 +1,2 @@
+-- What the proofs of `tally` share, and the laws that callers cite.
+pub mod Laws
