@@ -1,0 +1,3 @@
+pub mod Forward
+pub mod Inverse
+pub mod Plans

@@ -1,0 +1,4 @@
+pub mod Worked
+pub mod Accepted
+pub mod Rising
+pub mod Promises

@@ -1,0 +1,5 @@
+pub mod Fresh
+pub mod Words
+pub mod Lockstep
+pub mod Resumed
+pub mod Flat
