@@ -17,13 +17,13 @@
  *
  * A RESULT of type uint32_t is 0 where the call is done. Otherwise the call is refused: the result
  * is the refusal's number plus 65536 times the step, which is counted from 1 and is 0 where no step
- * is to blame. A refused call leaves all the memory lent to it as it was, but that `counts` gets
- * zeros, and `*redone` and `*changed` 0. A refusal is given exactly when its rule is broken and no
+ * is to blame. A refused call leaves all the memory lent to it as it was, but that `counts` and
+ * `out_of_reach` get zeros, and `*redone`, `*counted` and `*changed` 0. A refusal is given exactly when its rule is broken and no
  * rule before it in the function's order is.
  *
  * WHAT IS PROVED. For each function, and for every input, that the result and the memory afterwards
- * are what its definition says (crates/sillfeather/src/lib.rt has the contract, docs/CONFORMANCE.md
- * the way from document 01 to it); that it ends; and that it touches nothing but what it is lent.
+ * are what its definition says (crates/sillfeather and crates/reach_entries have the contracts in
+ * src/lib.rt, docs/CONFORMANCE.md the way from the documents to them); that it ends; and that it touches nothing but what it is lent.
  * What is said below of what a call reads, writes, refuses and leaves alone follows from that. The
  * compiler and the machine's binary64 arithmetic are assumed.
  *
@@ -90,6 +90,11 @@ enum {
                                              tuples */
     SILLFEATHER_REFUSED_ROOM = 15,        /* the room is too short for the sheet, or a rescue's list
                                              for its changes */
+    SILLFEATHER_REFUSED_GRID = 17,        /* a velocity grid of fewer than 8 bytes, with a count
+                                             outside 2 to 64, or of another length than its counts
+                                             say */
+    SILLFEATHER_REFUSED_GRID_NUMBER = 18, /* a number of a velocity grid not finite, or a spacing not
+                                             positive */
     SILLFEATHER_REFUSED_RESCUE = 19       /* the damaged sheet cannot be rebuilt */
 };
 
@@ -114,6 +119,52 @@ uint32_t sillfeather_check(const uint8_t *sheet, size_t sheet_len);
 uint32_t sillfeather_shift(uint32_t inverse, const uint8_t *sheet, size_t sheet_len, double *list, size_t list_len, const double *velocities,
                            size_t velocities_len, const uint8_t *marks, size_t marks_len, uint32_t counts[16]);
 
+/* The same, telling of each step too how many tuples met an angle out of reach: an angle that the
+ * step takes the sine or the cosine of, and that is not finite or beyond ±1024. Each tuple is told
+ * once, however many of its angles are. Such a tuple's results are NaN where they rest on that angle.
+ *   cart forward, and Molodensky both ways: longitude or latitude; abridged also twice the latitude.
+ *   permtide: latitude. deformation: longitude or latitude of the place of a fix that is present.
+ *   Helmert with exact angles, where it is rotated: the angles of the matrix that the fix uses, in
+ *   running mode at the last time, in own-epoch mode at its own; a fix without a time uses none.
+ *   Writes    as sillfeather_shift; and all 16 of out_of_reach, in the sheet's order.
+ *   Leaves    on refusal the list as it was, and zeros in counts and out_of_reach. */
+uint32_t sillfeather_shift_reach(uint32_t inverse, const uint8_t *sheet, size_t sheet_len, double *list, size_t list_len, const double *velocities,
+                                 size_t velocities_len, const uint8_t *marks, size_t marks_len, uint32_t counts[16], uint32_t out_of_reach[16]);
+
+/* The same over four columns: the first coordinates of all tuples, the second, the third, the times.
+ *   Refuses   as sillfeather_shift; 9 also for columns of unequal length.
+ *   Leaves    on refusal the columns as they were, and zeros in counts and out_of_reach. */
+uint32_t sillfeather_shift_columns(uint32_t inverse, const uint8_t *sheet, size_t sheet_len, double *x, size_t x_len, double *y, size_t y_len,
+                                   double *z, size_t z_len, double *t, size_t t_len, const double *velocities, size_t velocities_len,
+                                   const uint8_t *marks, size_t marks_len, uint32_t counts[16], uint32_t out_of_reach[16]);
+
+/* ----- a velocity grid ------------------------------------------------------------------------ */
+
+/* A VELOCITY GRID is 136 to 98,344 bytes: two counts, a corner, two spacings and the velocities at
+ * the nodes. docs/FORMAT.md gives it byte by byte, with the sequence of roundings by which a velocity
+ * is found. The grid's edges belong to it. Longitudes are not wrapped: a grid that begins west of ±π
+ * finds nothing on the other side. */
+#define SILLFEATHER_GRID_MAX 98344 /* bytes: 64 rows by 64 columns */
+
+/* Whether a velocity grid breaks no rule.
+ *   Reads     the grid.
+ *   Writes    nothing.
+ *   Refuses   17, then 18, without a step. */
+uint32_t sillfeather_check_grid(const uint8_t *grid, size_t grid_len);
+
+/* A sheet over a list, as sillfeather_shift_reach, with a velocity grid: a deformation step moves each
+ * fix by the velocity that the grid gives at its place as it reaches the step, on the step's
+ * ellipsoid. A fix whose place is outside the grid, or NaN, is absent. A grid is always given, whether
+ * or not the sheet has a deformation step, and velocities and marks are then empty.
+ *   Reads     the sheet, the grid, velocities_len and marks_len.
+ *   Writes    the list, and all 16 of counts and of out_of_reach, in the sheet's order. With a grid no
+ *             fix meets an angle out of reach in the deformation step.
+ *   Refuses   as sillfeather_check; then 9, 10 (velocities or marks not empty), 17, 18.
+ *   Leaves    on refusal the list as it was, and zeros in counts and out_of_reach. */
+uint32_t sillfeather_shift_grid(uint32_t inverse, const uint8_t *sheet, size_t sheet_len, double *list, size_t list_len, const double *velocities,
+                                size_t velocities_len, const uint8_t *marks, size_t marks_len, const uint8_t *grid, size_t grid_len,
+                                uint32_t counts[16], uint32_t out_of_reach[16]);
+
 /* ----- the kept run -------------------------------------------------------------------------- */
 
 /* A run that is kept, to be corrected later: the list stays, and the results and the track go where
@@ -137,6 +188,32 @@ uint32_t sillfeather_keep(uint32_t inverse, const uint8_t *sheet, size_t sheet_l
  *   Leaves    on refusal list, results and track as they were, and 0 in *redone. */
 uint32_t sillfeather_correct(uint32_t inverse, const uint8_t *sheet, size_t sheet_len, double *list, size_t list_len, double *results,
                              size_t results_len, double *track, size_t track_len, size_t index, const double fix[4], uint64_t *redone);
+
+/* As sillfeather_keep and sillfeather_correct, telling too how many fixes met an angle out of reach
+ * (see sillfeather_shift_reach).
+ *   Writes    as those; *counted, how many fixes the step counted (all, save in own-epoch mode those
+ *             without a time), and *out_of_reach, of the whole list; after a correction of the fixes
+ *             redone alone. The number of a fresh run over the corrected list is the sum of what
+ *             stands before them, of *out_of_reach, and of what stands after them.
+ *   Leaves    on refusal 0 in *counted, *redone and *out_of_reach, and all else as it was. */
+uint32_t sillfeather_keep_reach(uint32_t inverse, const uint8_t *sheet, size_t sheet_len, const double *list, size_t list_len, double *results,
+                                size_t results_len, double *track, size_t track_len, uint64_t *counted, uint64_t *out_of_reach);
+uint32_t sillfeather_correct_reach(uint32_t inverse, const uint8_t *sheet, size_t sheet_len, double *list, size_t list_len, double *results,
+                                   size_t results_len, double *track, size_t track_len, size_t index, const double fix[4], uint64_t *redone,
+                                   uint64_t *out_of_reach);
+
+/* As sillfeather_keep and sillfeather_correct over columns: the list's four (x, y, z, t), those of the
+ * results (rx to rt) and those of the track (kx to kt: the last time, and the translation).
+ *   Refuses   as those; 9 also for columns of the list that are of unequal length, 13 for a column of
+ *             the results or of the track that is not as long as the list's. */
+uint32_t sillfeather_keep_columns(uint32_t inverse, const uint8_t *sheet, size_t sheet_len, const double *x, size_t x_len, const double *y, size_t y_len,
+                                  const double *z, size_t z_len, const double *t, size_t t_len, double *rx, size_t rx_len, double *ry, size_t ry_len,
+                                  double *rz, size_t rz_len, double *rt, size_t rt_len, double *kx, size_t kx_len, double *ky, size_t ky_len,
+                                  double *kz, size_t kz_len, double *kt, size_t kt_len);
+uint32_t sillfeather_correct_columns(uint32_t inverse, const uint8_t *sheet, size_t sheet_len, double *x, size_t x_len, double *y, size_t y_len,
+                                     double *z, size_t z_len, double *t, size_t t_len, double *rx, size_t rx_len, double *ry, size_t ry_len,
+                                     double *rz, size_t rz_len, double *rt, size_t rt_len, double *kx, size_t kx_len, double *ky, size_t ky_len,
+                                     double *kz, size_t kz_len, double *kt, size_t kt_len, size_t index, const double fix[4], uint64_t *redone);
 
 /* ----- making a sheet ------------------------------------------------------------------------ */
 

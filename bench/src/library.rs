@@ -1,5 +1,5 @@
 //! The library's exported functions, as C has them: nothing is copied and nothing is checked on the
-//! way. And the entries over columns, which C does not have yet (oracle/ours links their archive).
+//! way. And the entries over columns.
 use ours::columns;
 
 /// Room for sixteen counts, whatever their width.
@@ -138,7 +138,7 @@ impl Library {
 }
 
 pub fn shift_columns(inverse: bool, sheet: &[u8], list: [&mut [f64]; 4], velocities: &[f64], marks: &[u8]) {
-    assert_eq!(columns::shift(inverse, sheet, list, velocities, marks, &mut Counts::default()), 0);
+    assert_eq!(columns::shift(inverse, sheet, list, velocities, marks, [&mut [0; 16], &mut [0; 16]]), 0);
 }
 
 pub fn keep_columns(sheet: &[u8], list: [&[f64]; 4], [results, track]: [[&mut [f64]; 4]; 2]) {

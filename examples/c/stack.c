@@ -1,8 +1,6 @@
 /* Tests how much stack each call takes: a thread runs it on a stack that was filled before, and
  * what is no longer filled was used. A box plans with the limits, which include/sillfeather.h
- * states; the figures are the machine's and the compiler's. The entries over columns are measured
- * too, which the header does not have yet: crates/columns_entries exports them. The last line is 'N
- * passed, M failed'. */
+ * states; the figures are the machine's and the compiler's. The last line is 'N passed, M failed'. */
 #define _GNU_SOURCE
 #include "sillfeather.h"
 #include <pthread.h>
@@ -11,11 +9,6 @@
 #include <string.h>
 
 enum { STACK = 1 << 20, FILL = 0xa5, ROWS = SILLFEATHER_TUPLES_MAX, NUMBERS = 4 * ROWS };
-
-#define COLUMNS(list) double *list##_x, size_t, double *list##_y, size_t, double *list##_z, size_t, double *list##_t, size_t
-uint32_t columns_shift(uint32_t, const uint8_t *, size_t, COLUMNS(list), const double *, size_t, const uint8_t *, size_t, uint64_t[16]);
-uint32_t columns_keep(uint32_t, const uint8_t *, size_t, COLUMNS(list), COLUMNS(results), COLUMNS(track));
-uint32_t columns_correct(uint32_t, const uint8_t *, size_t, COLUMNS(list), COLUMNS(results), COLUMNS(track), size_t, const double[4], uint64_t *);
 
 /* every kind; one exact Helmert step, running and in own-epoch mode */
 static uint8_t all_kinds[SILLFEATHER_SHEET_MAX], helmerts[2][SILLFEATHER_SHEET_MAX], marks[ROWS];
@@ -77,13 +70,13 @@ static uint32_t correct(void) {
 #define LENT(c, rows) (c)[0], rows, (c)[1], rows, (c)[2], rows, (c)[3], rows
 
 static uint32_t shift_columns(void) {
-    uint64_t counts[16];
-    uint32_t told = 0;
+    uint32_t counts[16], out_of_reach[16], told = 0;
     for (uint32_t inverse = 0; inverse < 2; inverse++)
         for (size_t rows = 16; rows <= ROWS; rows += ROWS - 16) {
-            told |= columns_shift(inverse, all_kinds, (size_t)all_kinds_len, LENT(columns[0], rows), velocities, 3 * rows, marks, rows, counts);
+            told |= sillfeather_shift_columns(inverse, all_kinds, (size_t)all_kinds_len, LENT(columns[0], rows), velocities, 3 * rows, marks, rows, counts, out_of_reach);
             for (int own = 0; own < 2; own++)
-                told |= columns_shift(inverse, helmerts[own], (size_t)helmerts_len[own], LENT(columns[0], rows), velocities, 0, marks, 0, counts);
+                told |= sillfeather_shift_columns(inverse, helmerts[own], (size_t)helmerts_len[own], LENT(columns[0], rows), velocities, 0, marks, 0, counts,
+                                      out_of_reach);
         }
     return told;
 }
@@ -91,7 +84,7 @@ static uint32_t shift_columns(void) {
 static uint32_t keep_columns(void) {
     uint32_t told = 0;
     for (int own = 0; own < 2; own++)
-        told |= columns_keep(0, helmerts[own], (size_t)helmerts_len[own], LENT(columns[0], ROWS), LENT(columns[1], ROWS), LENT(columns[2], ROWS));
+        told |= sillfeather_keep_columns(0, helmerts[own], (size_t)helmerts_len[own], LENT(columns[0], ROWS), LENT(columns[1], ROWS), LENT(columns[2], ROWS));
     return told;
 }
 
@@ -100,7 +93,7 @@ static uint32_t correct_columns(void) {
     uint64_t redone;
     uint32_t told = 0;
     for (int own = 0; own < 2; own++)
-        told |= columns_correct(0, helmerts[own], (size_t)helmerts_len[own], LENT(columns[0], ROWS), LENT(columns[1], ROWS), LENT(columns[2], ROWS), 3, fix,
+        told |= sillfeather_correct_columns(0, helmerts[own], (size_t)helmerts_len[own], LENT(columns[0], ROWS), LENT(columns[1], ROWS), LENT(columns[2], ROWS), 3, fix,
                                 &redone);
     return told;
 }

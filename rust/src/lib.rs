@@ -3,7 +3,7 @@
 //! A *sheet* holds 1 to 16 steps (Helmert, cart, Molodensky, permanent tide, deformation), as the bytes that boxes hand each other. It is made by a
 //! [`Sheet::builder`] or checked by [`Sheet::from_bytes`], and shifts a list of fixes in place, forward or inverse. A [`KeptRun`] keeps a list with its
 //! results, and redoes only what the correction of one fix changes. [`Columns`] are a list as a display holds it. [`Sheet::rescue`] mends a sheet whose
-//! header or directory was damaged.
+//! header or directory was damaged. A [`Grid`] is a checked velocity grid.
 //!
 //! ```
 //! use sillfeather::{Cart, Convention, Direction, Ellipsoid, Helmert, Sheet};
@@ -61,6 +61,7 @@ extern crate alloc;
 mod ffi;
 
 mod columns;
+mod grid;
 mod kept;
 pub mod kernels;
 pub mod lent;
@@ -69,6 +70,7 @@ mod sheet;
 mod steps;
 
 pub use columns::Columns;
+pub use grid::Grid;
 pub use kept::KeptRun;
 pub use refusal::Refusal;
 pub use sheet::{Change, Counts, Sheet, SheetBuilder};

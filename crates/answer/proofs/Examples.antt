@@ -9,7 +9,7 @@ use Rattle.trig.specs.Table.{rowOf}
 use Rattle.trig.specs.Trig.{reducedOf, bendOf, atMostOne, clampOf, sumOf, sineOf, cosineOf, signedOf, sinOf, cosOf}
 use Rattle.ellipsoid.specs.Figure.{ellipsoidOf, namedOf, wOf, primeVerticalOf}
 use Rattle.geocart.specs.Geocart.{cartesianOf}
-use Rattle.reach.specs.Met.{outOfReach}
+use Rattle.trig.specs.Trig.{outOfReach}
 use Rattle.tally.specs.Tallies.{eachOf}
 use Rattle.words.specs.Words.{word32, word64, numberAt, oneNanAt, le32}
 use Rattle.bodies.specs.Kinds.{lengthOf as bodyLengthOf}

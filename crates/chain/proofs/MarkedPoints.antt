@@ -20,7 +20,8 @@ use Rattle.helmert.specs.Units.{winnerOf, lengthsOf, anglesOf, parametersOf}
 use Rattle.helmert.specs.Rules.{fieldsInRuleOf, vectorsFiniteOf, scalesFiniteOf, finite3Of, timeOf, lacksConventionOf, lacksEpochOf, rotatedOf, dynamicOf, someOf}
 use Rattle.helmert.specs.Apply.{offsetOf, forwardOf}
 use Rattle.helmert.specs.Modes.{prepareOf, grownOf, scaleAtOf, startOf, nextOf, runningOf, ownEpochStepOf, stepOf, countedOf}
-use Rattle.reach.specs.Met.{outOfReach, matrixOut}
+use Rattle.trig.specs.Trig.{outOfReach}
+use Rattle.reach.specs.Met.{matrixOut}
 use Rattle.words.specs.Words.{word32, word64, numberAt, oneNanAt, le32}
 use Rattle.bodies.specs.Kinds.{lengthOf as bodyLengthOf}
 use Rattle.bodies.specs.Read.{stepOf as readOf, vec3At, helmertOf as helmertRecordOf, cartOf as cartRecordOf, molodenskyOf as molodenskyRecordOf, permtideOf as permtideRecordOf}

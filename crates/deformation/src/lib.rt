@@ -175,8 +175,8 @@ pub fn rotate_and_integrate_velocity(
 {
     turned(
         v,
-        trig::sin_cos(longitude),
-        trig::sin_cos(latitude),
+        trig::numbers(trig::sin_cos(longitude)),
+        trig::numbers(trig::sin_cos(latitude)),
         duration,
     )
 }

@@ -58,8 +58,8 @@ pub fn point_at(
 pub fn cartesian(ellps: Ellipsoid, geographic: Tuple) -> Tuple
     ensures { λ r. ⌜ r ≡ cartesianOf ellps geographic ⌝ }
 {
-    let phi = trig::sin_cos(geographic.y);
-    let lam = trig::sin_cos(geographic.x);
+    let phi = trig::numbers(trig::sin_cos(geographic.y));
+    let lam = trig::numbers(trig::sin_cos(geographic.x));
     let n = ellps.prime_vertical_radius_of_curvature(phi.s);
     let v = point_at(ellps, n, geographic.z, phi.s, phi.c, lam.s, lam.c);
     Tuple {

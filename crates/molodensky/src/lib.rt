@@ -187,8 +187,8 @@ impl Place {
     fn at(op: Moped, lam: f64, phi: f64) -> Self
         ensures { λ r. ⌜ r ≡ figuresAtOf op lam phi ⌝ }
     {
-        let l = trig::sin_cos(lam);
-        let p = trig::sin_cos(phi);
+        let l = trig::numbers(trig::sin_cos(lam));
+        let p = trig::numbers(trig::sin_cos(phi));
         Place::with(op, l.s, l.c, p.s, p.c, op.ellps.radii_of_curvature(p.s))
     }
 }
@@ -197,7 +197,8 @@ fn abridged_offsets(op: Moped, q: Place, phi: f64) -> Offsets
     ensures { λ r. ⌜ r ≡ abridgedOffsetsOf op q phi ⌝ }
 {
     // delta phi
-    let dphi = (-q.fac * q.sphi + op.dz * q.cphi + op.adffda * trig::sin(2.0 * phi)) / q.m;
+    let twice = trig::numbers(trig::sin_cos(2.0 * phi));
+    let dphi = (-q.fac * q.sphi + op.dz * q.cphi + op.adffda * twice.s) / q.m;
     // delta lambda
     let dlam_denom = q.n * q.cphi;
     if dlam_denom == 0.0 {

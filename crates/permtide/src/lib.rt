@@ -116,10 +116,10 @@ fn height(op: Tide, s: f64) -> f64
 fn lift(op: Tide, phi: f64) -> f64
     ensures { λ r. ⌜ r ≡ liftOf op phi ⌝ }
 {
-    let lat = trig::sin_cos(phi);
+    let lat = trig::numbers(trig::sin_cos(phi));
     let phibar = op.ellps.latitude_geographic_to_geocentric(lat.s, lat.c);
-    let s = trig::sin(phibar);
-    height(op, s)
+    let bar = trig::numbers(trig::sin_cos(phibar));
+    height(op, bar.s)
 }
 
 // The sines of a block's geocentric latitudes.

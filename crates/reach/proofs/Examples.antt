@@ -5,7 +5,7 @@ use mathlib.Core.Bool.{Bool, true, false}
 use lib.Ieee.{ofBits, neg, le, sum, size}
 use Rattle.floats.specs.Binary64.{bits}
 use Rattle.floats.specs.Number.{signOf}
-use Rattle.reach.specs.Met.{outOfReach}
+use Rattle.trig.specs.Trig.{outOfReach}
 
 -- an angle by its bits, and whether it is out of reach
 abbrev Edge : ℕ → Bool → Type 0

@@ -1,31 +1,18 @@
 -- A step told again with "met" in place of "counted" makes the same list and the same states, so
 -- the second number never moves what the step gives. Where "met" goes by the tuple alone, it is the
 -- number of such tuples. Assumes nothing.
-use Prim.Native.Nat.{ℕ, suc, _+_}
+use Prim.Native.Nat.{ℕ, suc}
 use native.Mathlib.Nat.{zero-add}
-use mathlib.Core.Path.{_≡_, refl, sym, ap, _∙_}
-use mathlib.Core.Bool.{Bool, false, not, cond}
+use mathlib.Core.Path.{_≡_, refl, ap, _∙_}
+use mathlib.Core.Bool.{Bool, false}
 use mathlib.Core.List.{List, [], _∷_, _++_}
-use lib.Ieee.{Float, isNan}
-use Rattle.trig.specs.Trig.{sinOf, cosOf}
-use Rattle.trig.proofs.Laws.{sine-is-nan-exactly-out-of-reach, cosine-is-nan-exactly-out-of-reach}
+use lib.Ieee.{Float}
 use Rattle.tuple.specs.declared.Tuple.{Tuple}
 use Rattle.lists.specs.Flat.{fourOf, numbersOf}
 use Rattle.lists.specs.Run.{Turns, ranOf, countOf, stateAfterOf}
 use Rattle.helmert.specs.Turns.{numberOf}
 use Rattle.helmert.proofs.Counts.{count-by-tuple}
-use Rattle.reach.specs.Met.{outOfReach, Met, meetingOf}
-
--- ---- an angle
-
--- out of reach is where the sine is NaN, and the cosine
-pub out-where-sine-is-nan : (x : Float) → isNan (sinOf x) ≡ outOfReach x
-unfolding outOfReach
-out-where-sine-is-nan x = sine-is-nan-exactly-out-of-reach x
-
-pub out-where-cosine-is-nan : (x : Float) → isNan (cosOf x) ≡ outOfReach x
-unfolding outOfReach
-out-where-cosine-is-nan x = cosine-is-nan-exactly-out-of-reach x
+use Rattle.reach.specs.Met.{Met, meetingOf}
 
 -- ---- the turns told again
 

@@ -1,14 +1,14 @@
 -- Document 02, A5: which tuples meet an angle out of reach of sine and cosine, step by step. The
--- angles are those that the step's own definition takes the sine or cosine of. A tuple counts once,
--- however many of its angles are out of reach.
+-- angles are those that the step's own definition takes the sine or cosine of, and an angle is out of
+-- reach where the kernel answers so (trig's `outOfReach`). A tuple counts once, however many of its
+-- angles are out of reach.
 use Prim.Native.Nat.{ℕ}
 use mathlib.Core.Bool.{Bool, false, not, cond, _&&_, _||_}
 use mathlib.Core.List.{List}
 use lib.Dec.{eqb}
-use lib.Ieee.{Float, isNan, le}
+use lib.Ieee.{Float, isNan}
 use Rattle.floats.specs.Binary64.{_⊖_, _⊗_}
-use Rattle.floats.specs.Number.{absOf}
-use Rattle.trig.specs.Trig.{reach}
+use Rattle.trig.specs.Trig.{outOfReach}
 use Rattle.tuple.specs.declared.Tuple.{Tuple}
 use Rattle.ellipsoid.specs.Figure.{two}
 use Rattle.geocart.specs.Geocart.{geographicOf}
@@ -20,11 +20,6 @@ use Rattle.helmert.specs.declared.State.{State}
 use Rattle.helmert.specs.Modes.{rotationAtOf, nextOf, isRunningOf, isOwnEpochOf}
 use Rattle.lists.specs.Run.{Turns}
 use Rattle.turns.specs.Turns.{markAt, movedTurns}
-
--- An angle is out of reach exactly where it is not finite or beyond ±1024: its magnitude is then not
--- at most 1024.
-unfoldable pub outOfReach : Float → Bool
-outOfReach x = not (le (absOf x) reach)
 
 -- ---- a second number beside a step's own
 

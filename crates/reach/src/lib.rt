@@ -8,7 +8,8 @@
 // compares, and takes no sine. Used by the passes over columns, by deformation's loops, by the thin
 // entry and by the kept run.
 ghost use mathlib.Core.Path.{_≡_};
-ghost use Rattle.reach.specs.Met.{outOfReach, placeOut, offsetsOut, movedMet, rotationOut, ownOut, matrixOut};
+ghost use Rattle.trig.specs.Trig.{outOfReach};
+ghost use Rattle.reach.specs.Met.{placeOut, offsetsOut, movedMet, rotationOut, ownOut, matrixOut};
 ghost use Rattle.helmert.specs.Modes.{rotationAtOf};
 use deformation::Motion;
 use helmert::Shift;

@@ -43,9 +43,9 @@ pub struct Entries {
 fn exact_sines(r: Vec3) -> Sines
     ensures { λ q. ⌜ q ≡ sinesOf r ⌝ }
 {
-    let x = trig::sin_cos(r.x);
-    let y = trig::sin_cos(r.y);
-    let z = trig::sin_cos(r.z);
+    let x = trig::numbers(trig::sin_cos(r.x));
+    let y = trig::numbers(trig::sin_cos(r.y));
+    let z = trig::numbers(trig::sin_cos(r.z));
     Sines {
         sx: x.s,
         cx: x.c,

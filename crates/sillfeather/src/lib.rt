@@ -54,7 +54,7 @@ pub extern "C" fn sillfeather_cos(x: f64) -> f64
 pub extern "C" fn sillfeather_sin_cos(x: f64, s: &mut f64, c: &mut f64)
     ensures { λ r. ⌜ (now (s .exit) ≡ sinOf x) × (now (c .exit) ≡ cosOf x) ⌝ }
 {
-    let pair = trig::sin_cos(x);
+    let pair = trig::sin_cos_numbers(x);
     *s = pair.s;
     *c = pair.c;
 }

@@ -14,7 +14,9 @@ use Rattle.floats.specs.Number.{signOf, absOf}
 use Rattle.floats.proofs.Zero.{equals-zero, differs-from-zero}
 use Rattle.floats.proofs.Laws.{neg-neg, abs-of-neg}
 use Rattle.trig.specs.WithinOne.{WithinOne}
-use Rattle.trig.specs.Trig.{one, reach, atMostOne, clampOf, sumOf, sineOf, cosineOf, signedOf, sinOf, cosOf, sinCosOf}
+use Rattle.trig.specs.Trig.{one, reach, atMostOne, clampOf, sumOf, sineOf, cosineOf, signedOf, sinOf, cosOf, sinCosOf, outOfReach, angleOf, numbersOf}
+use Rattle.trig.specs.declared.Angle.{Angle}
+use Rattle.trig.specs.declared.Angle.the-variants.{Pair, OutOfReach}
 
 -- ---- zeros, either way round
 
@@ -132,7 +134,7 @@ cosine-of-zero-is-one x h = rw h
 
 -- ---- NaN
 
-zero-in-reach : (x : Float) → isZero x ≡ true → le (absOf x) reach ≡ true
+pub zero-in-reach : (x : Float) → isZero x ≡ true → le (absOf x) reach ≡ true
 unfolding ofBits neg signOf
 zero-in-reach = at-zero (λ (x : Float). le (absOf x) reach ≡ true) near
   where
@@ -215,3 +217,45 @@ pair-has-the-sine x = refl
 
 pub pair-has-the-cosine : (x : Float) → sinCosOf x .c ≡ cosOf x
 pair-has-the-cosine x = refl
+
+-- ---- the answer
+
+-- out of reach is where the magnitude is not at most 1024
+pub out-told : (x : Float) → outOfReach x ≡ true → le (absOf x) reach ≡ false
+unfolding outOfReach
+out-told x h = flip (le (absOf x) reach) h
+  where
+    flip : (b : Bool) → not b ≡ true → b ≡ false
+    flip true e = sym e
+    flip false e = refl
+
+-- its numbers are those of the pair, out of reach too
+pub numbers-of-angle : (x : Float) → numbersOf (angleOf x) ≡ sinCosOf x
+unfolding angleOf
+numbers-of-angle x = go (outOfReach x) refl
+  where
+    go : (out : Bool) → outOfReach x ≡ out → numbersOf (cond out OutOfReach (Pair (sinCosOf x))) ≡ sinCosOf x
+    go true h = rw (sine-out-of-reach x (out-told x h), cosine-out-of-reach x (out-told x h))
+    go false h = refl
+
+-- it is "out of reach" exactly for an angle not finite or beyond ±1024
+abbrev pub isOut : Angle → Bool
+isOut (Pair p) = false
+isOut OutOfReach = true
+
+pub out-exactly : (x : Float) → isOut (angleOf x) ≡ outOfReach x
+unfolding angleOf
+out-exactly x = go (outOfReach x)
+  where
+    go : (out : Bool) → isOut (cond out OutOfReach (Pair (sinCosOf x))) ≡ out
+    go true = refl
+    go false = refl
+
+-- which is where the sine is NaN, and the cosine: what a block, which hands numbers on, has for a mark
+pub out-where-sine-is-nan : (x : Float) → isNan (sinOf x) ≡ outOfReach x
+unfolding outOfReach
+out-where-sine-is-nan x = sine-is-nan-exactly-out-of-reach x
+
+pub out-where-cosine-is-nan : (x : Float) → isNan (cosOf x) ≡ outOfReach x
+unfolding outOfReach
+out-where-cosine-is-nan x = cosine-is-nan-exactly-out-of-reach x

@@ -2,11 +2,13 @@
 -- whole k and a small r; the table has sine and cosine of k·π/32, two short polynomials those of r,
 -- and the theorems of addition join them.
 use Prim.Native.Nat.{ℕ}
-use mathlib.Core.Bool.{Bool, cond}
+use mathlib.Core.Bool.{Bool, not, cond}
 use lib.Ieee.{Float, nan, binary64, toBits, neg, eq, lt, le}
 use Rattle.floats.specs.Binary64.{_⊕_, _⊖_, _⊗_, bits}
 use Rattle.floats.specs.Number.{signOf, absOf}
 use Rattle.trig.specs.declared.SinCos.{SinCos}
+use Rattle.trig.specs.declared.Angle.{Angle}
+use Rattle.trig.specs.declared.Angle.the-variants.{Pair, OutOfReach}
 use Rattle.trig.specs.declared.Row.{Row}
 use Rattle.trig.specs.declared.Reduced.{Reduced}
 use Rattle.trig.specs.declared.Bends.{Bends}
@@ -132,3 +134,20 @@ cosOf x = cond (eq x zero) one (cond (le (absOf x) reach) (cosineOf (absOf x)) n
 -- sine and cosine of x
 abbrev pub sinCosOf : Float → SinCos
 sinCosOf x = record { s = sinOf x; c = cosOf x }
+
+-- ---- the kernel's answer: the pair of numbers, or out of reach
+
+-- An angle is out of reach exactly where it is not finite or beyond ±1024: its magnitude is then not
+-- at most 1024.
+unfoldable pub outOfReach : Float → Bool
+outOfReach x = not (le (absOf x) reach)
+
+-- Either the pair of numbers or "out of reach", the latter exactly for an angle not finite or beyond
+-- ±1024.
+unfoldable pub angleOf : Float → Angle
+angleOf x = cond (outOfReach x) OutOfReach (Pair (sinCosOf x))
+
+-- the numbers that a sequence of roundings goes on with: out of reach, two NaNs
+abbrev pub numbersOf : Angle → SinCos
+numbersOf (Pair p) = p
+numbersOf OutOfReach = record { s = nan; c = nan }

@@ -8,14 +8,15 @@
 // sine and cosine, in which only the last addition rounds a number of the result's size.
 //
 // Proved: the answer is the definition's for every angle; within -1 to 1; sine odd, cosine even;
-// sine of a zero is that zero, cosine of a zero is 1; NaN exactly where the angle is NaN or beyond
-// ±1024. Measured: within 0.59·2^-53 for |x| up to 8, and within 1.35 units in the last place for
-// every angle in reach. Every step of a shift that meets a latitude or an exact rotation uses the
-// pair.
+// sine of a zero is that zero, cosine of a zero is 1. The answer is either the pair of numbers or "out
+// of reach", the latter exactly for an angle not finite or beyond ±1024 (document 02, A5); its numbers
+// are then NaN, and only then. Measured: within 0.59·2^-53 for |x| up to 8, and within 1.35 units in
+// the last place for every angle in reach. Every step of a shift that meets a latitude or an exact
+// rotation uses the pair.
 ghost use mathlib.Core.Path.{_≡_};
 ghost use Prim.Native.Nat.{_%_};
 ghost use Rattle.trig.specs.Table.{rowOf, asideOf, halfOf};
-ghost use Rattle.trig.specs.Trig.{reducedOf, bendOf, atMostOne, clampOf, sumOf, sineOf, cosineOf, pairOf, mirroredOf, sinOf, cosOf, sinCosOf};
+ghost use Rattle.trig.specs.Trig.{reducedOf, bendOf, atMostOne, clampOf, sumOf, sineOf, cosineOf, pairOf, mirroredOf, sinOf, cosOf, sinCosOf, angleOf, numbersOf};
 use floats::abs;
 use floats::of_bits;
 use floats::to_bits;
@@ -25,9 +26,54 @@ pub struct SinCos {
     pub c: f64,
 }
 
+// What sine and cosine of an angle are: the pair of numbers, or out of reach, the latter exactly for
+// an angle not finite or beyond ±1024.
+pub enum Angle {
+    OutOfReach,
+    Pair(SinCos),
+}
+
 // Sine and cosine. One branch for the zeros keeps the sign of -0; one for NaN comes before the
 // magnitude, which of a number is a single instruction.
-pub fn sin_cos(x: f64) -> SinCos
+pub fn sin_cos(x: f64) -> Angle
+    ensures { λ r. ⌜ r ≡ angleOf x ⌝ }
+{
+    if x == 0.0 {
+        return Angle::Pair(SinCos { s: x, c: 1.0 });
+    }
+    if x != x {
+        return Angle::OutOfReach;
+    }
+    let a = abs(x);
+    if a <= 1024.0 {
+        let p = pair(a);
+        Angle::Pair(SinCos {
+            s: signed(p.s, x),
+            c: p.c,
+        })
+    } else {
+        Angle::OutOfReach
+    }
+}
+
+// The answer taken apart into the numbers that a sequence of roundings goes on with: out of reach,
+// two NaNs.
+pub fn numbers(a: Angle) -> SinCos
+    ensures { λ r. ⌜ r ≡ numbersOf a ⌝ }
+{
+    match a {
+        Angle::Pair(p) => p,
+        Angle::OutOfReach => {
+            let none = 0.0 / 0.0;
+            SinCos { s: none, c: none }
+        }
+    }
+}
+
+// The numbers at once, for C, which has no such enum. A second caller of `pair` also keeps that out
+// of line, so that `sin_cos` is small enough to stand in its callers' places and the enum is never
+// stored.
+pub fn sin_cos_numbers(x: f64) -> SinCos
     ensures { λ r. ⌜ r ≡ sinCosOf x ⌝ }
 {
     if x == 0.0 {
@@ -37,9 +83,9 @@ pub fn sin_cos(x: f64) -> SinCos
     if x != x {
         return SinCos { s: none, c: none };
     }
-    let a = abs(x);
-    if a <= 1024.0 {
-        let p = pair(a);
+    let magnitude = abs(x);
+    if magnitude <= 1024.0 {
+        let p = pair(magnitude);
         SinCos {
             s: signed(p.s, x),
             c: p.c,

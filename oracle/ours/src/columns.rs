@@ -10,7 +10,7 @@
 pub type Columns = [Vec<f64>; 4];
 
 unsafe extern "C" {
-    fn columns_shift(
+    fn sillfeather_shift_columns(
         inverse: u32,
         sheet: *const u8,
         sheet_len: usize,
@@ -26,9 +26,10 @@ unsafe extern "C" {
         velocities_len: usize,
         marks: *const u8,
         marks_len: usize,
-        counts: *mut u64,
+        counts: *mut u32,
+        out_of_reach: *mut u32,
     ) -> u32;
-    fn columns_keep(
+    fn sillfeather_keep_columns(
         inverse: u32,
         sheet: *const u8,
         sheet_len: usize,
@@ -57,7 +58,7 @@ unsafe extern "C" {
         track_t: *mut f64,
         track_t_len: usize,
     ) -> u32;
-    fn columns_correct(
+    fn sillfeather_correct_columns(
         inverse: u32,
         sheet: *const u8,
         sheet_len: usize,
@@ -117,10 +118,10 @@ pub fn shift(
     [x, y, z, t]: [&mut [f64]; 4],
     velocities: &[f64],
     marks: &[u8],
-    counts: &mut [u64; 16],
+    [counts, out_of_reach]: [&mut [u32; 16]; 2],
 ) -> u32 {
     unsafe {
-        columns_shift(
+        sillfeather_shift_columns(
             inverse as u32,
             sheet.as_ptr(),
             sheet.len(),
@@ -137,6 +138,7 @@ pub fn shift(
             marks.as_ptr(),
             marks.len(),
             counts.as_mut_ptr(),
+            out_of_reach.as_mut_ptr(),
         )
     }
 }
@@ -150,7 +152,7 @@ pub fn keep(
     [kx, ky, kz, kt]: [&mut [f64]; 4],
 ) -> u32 {
     unsafe {
-        columns_keep(
+        sillfeather_keep_columns(
             inverse as u32,
             sheet.as_ptr(),
             sheet.len(),
@@ -192,7 +194,7 @@ pub fn correct(
     redone: &mut u64,
 ) -> u32 {
     unsafe {
-        columns_correct(
+        sillfeather_correct_columns(
             inverse as u32,
             sheet.as_ptr(),
             sheet.len(),
@@ -259,7 +261,7 @@ pub fn shifts_alike(
     inverse: bool,
     sheet: &[u8],
     before: &[f64],
-    (told, counts, after): (u32, &[u32; 16], &[f64]),
+    (told, counts, out_of_reach, after): (u32, &[u32; 16], &[u32; 16], &[f64]),
     velocities: &[f64],
     marks: &[u8],
 ) {
@@ -267,9 +269,11 @@ pub fn shifts_alike(
         return;
     }
     let mut list = columns(before);
-    let mut said = [u64::MAX; 16]; // each is written, refused or not
-    assert_eq!(told, shift(inverse, sheet, write(&mut list), velocities, marks, &mut said), "a shift's answer through columns");
-    assert_eq!(counts.map(u64::from), said, "a shift's counts through columns");
+    let [mut said, mut met] = [[u32::MAX; 16]; 2]; // each is written, refused or not
+    let answer = shift(inverse, sheet, write(&mut list), velocities, marks, [&mut said, &mut met]);
+    assert_eq!(told, answer, "a shift's answer through columns");
+    assert_eq!(counts, &said, "a shift's counts through columns");
+    assert_eq!(out_of_reach, &met, "a shift's tuples out of reach through columns");
     if told == 0 {
         same("a shift", &list, after, |i| is_time(i) && marks.is_empty());
     } else {

@@ -1,6 +1,6 @@
 -- By what `abs` ensures. Assumes nothing.
 use borrow.Author.Needs.{needs}
-use Rattle.reach.specs.Met.{outOfReach}
+use Rattle.trig.specs.Trig.{outOfReach}
 use Rattle.reach.proofs.out_of_reach.Statement.{statement}
 use Rattle.reach.proofs.out_of_reach.Tie as tie
 

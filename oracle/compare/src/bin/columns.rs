@@ -150,7 +150,7 @@ fn unequal(told: &mut Told, name: &str, job: &Job) {
         let before = bits(&list);
         let mut counts = [u64::MAX; 16];
         let lent = columns::write(&mut list);
-        let code = columns::shift(job.inverse, &bytes, lent, &job.velocities, &job.marks, &mut counts);
+        let code = columns::shift(job.inverse, &bytes, lent, &job.velocities, &job.marks, [&mut counts, &mut out_of_reach]);
         told.expect(
             code == 9 && counts == [0; 16] && bits(&list) == before,
             &format!("{name}: column {which} of another length, {code}"),
@@ -199,7 +199,7 @@ fn payloads(r: &mut Random, told: &mut Told, name: &str, mut job: Job) {
     }
     let mut list = columns::columns(&job.list);
     let lent = columns::write(&mut list);
-    columns::shift(job.inverse, &sheet(&job.steps), lent, &job.velocities, &job.marks, &mut [0; 16]);
+    columns::shift(job.inverse, &sheet(&job.steps), lent, &job.velocities, &job.marks, [&mut [0; 16], &mut [0; 16]]);
     for (how, after) in [("flat", ours::shift(&job).list), ("columns", columns::flat(&list))] {
         let came =
             after.iter().zip(&job.list).enumerate().all(|(i, (a, b))| !carried.contains(&(i % 4)) || a.to_bits() == b.to_bits());

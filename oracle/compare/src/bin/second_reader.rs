@@ -11,9 +11,15 @@ use std::process::ExitCode;
 struct Tally {
     accepted: usize,
     parted: usize,
+    out_of_reach: u64,
 }
 
 impl Tally {
+    /// Tuples that met an angle out of reach, for the reader of the table to see that some did.
+    fn met(&mut self, tuples: u64) {
+        self.out_of_reach += tuples;
+    }
+
     /// One case: the refusal, whether library and reader agree, and what was lent.
     fn count(&mut self, part: &str, refusal: u32, agree: bool, case: impl std::fmt::Debug) {
         self.accepted += (refusal == 0) as usize;
@@ -39,8 +45,9 @@ fn main() -> ExitCode {
         for _ in 0..cases {
             part(name, &mut r, &mut tally);
         }
-        println!("{name}: {cases} cases, {} accepted, {} parted", tally.accepted, tally.parted);
-        if tally.parted == 0 { passed += 1 } else { failed += 1 }
+        let Tally { accepted, parted, out_of_reach } = tally;
+        println!("{name}: {cases} cases, {accepted} accepted, {out_of_reach} tuples out of reach, {parted} parted");
+        if parted == 0 { passed += 1 } else { failed += 1 }
     }
     println!("{passed} passed, {failed} failed");
     if failed == 0 { ExitCode::SUCCESS } else { ExitCode::FAILURE }
@@ -67,10 +74,11 @@ fn lists(part: &str, r: &mut Random, tally: &mut Tally) {
 fn shift(part: &str, case: draw::Shift, tally: &mut Tally) {
     let draw::Shift { inverse, sheet, list, velocities, marks, .. } = &case;
     let expected = chain::shift(&LANDED, *inverse, sheet, list, velocities, marks, None);
-    let told = ours::shift_bytes(*inverse, sheet, list, velocities, marks);
+    let (told, out_of_reach) = ours::shift_reach(*inverse, sheet, list, velocities, marks);
     let agree = (told.refusal, told.step) == (expected.refusal, expected.step)
-        && told.counts == expected.counts
+        && (told.counts, out_of_reach) == (expected.counts, expected.out_of_reach)
         && reader::same_numbers(&told.list, &expected.list);
+    tally.met(out_of_reach.iter().sum::<u32>() as u64);
     tally.count(part, expected.refusal, agree, case);
 }
 
@@ -79,16 +87,21 @@ fn kept_runs(part: &str, r: &mut Random, tally: &mut Tally) {
     let mut run = draw::draw_kept(r, &LANDED);
     let expected = kept::keep(&LANDED, run.inverse, &run.sheet, &run.memory);
     let mut memory = run.memory.clone();
-    let told = ours::keep(run.inverse, &run.sheet, &memory.list, &mut memory.results, &mut memory.track);
-    let agree = told == (expected.refusal, expected.step) && memory.same(&expected.memory);
+    let (told, counted, met) = ours::keep_reach(run.inverse, &run.sheet, &memory.list, &mut memory.results, &mut memory.track);
+    let agree = told == (expected.refusal, expected.step)
+        && (counted, met) == (u64::from(expected.counts[0]), u64::from(expected.out_of_reach[0]))
+        && memory.same(&expected.memory);
+    tally.met(met);
     tally.count(part, expected.refusal, agree, &run);
     for (index, fix) in run.corrections.clone() {
         let expected = kept::correct(&LANDED, run.inverse, &run.sheet, &run.memory, index, fix);
         let mut memory = run.memory.clone();
         let lent = [&mut memory.list[..], &mut memory.results, &mut memory.track];
-        let (told, redone) = ours::correct(run.inverse, &run.sheet, lent, index, fix);
-        let agree =
-            told == (expected.refusal, expected.step) && redone == u64::from(expected.redone) && memory.same(&expected.memory);
+        let (told, redone, met) = ours::correct_reach(run.inverse, &run.sheet, lent, index, fix);
+        let agree = told == (expected.refusal, expected.step)
+            && (redone, met) == (u64::from(expected.redone), u64::from(expected.out_of_reach[0]))
+            && memory.same(&expected.memory);
+        tally.met(met);
         tally.count(part, expected.refusal, agree, (&run, index, fix));
         run.memory = expected.memory;
     }
