@@ -97,8 +97,7 @@ fn compared(told: &[u8], answer: Answer, list: &[f64]) -> usize
     ensures { λ r. ⌜ r ≡ comparedOf (now (told .entry)) (outcome answer (now (list .entry))) ⌝ }
 {
     let refusal = answer.refusal;
-    let tallies = answer.tallies;
-    let counts = tally::counts(tallies);
+    let counts = tally::counts(answer.tallies);
     differing(
         words::wide64(refusal.number),
         words::wide64(words::read32(told, 0)),
