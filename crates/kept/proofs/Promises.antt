@@ -49,7 +49,7 @@ use Rattle.stretch.proofs.Laws.{step-stays, fresh-list, before-is, corrected-eq
 
 -- ---- the one step is the chain's
 
-helmert-turns : (inverse : Bool) (st : Step) → kindOf st ≡ 1 → turnsOf inverse [] [] st ≡ helmertTurns inverse (prepareOf (helmertOf st))
+helmert-turns : (inverse : Bool) (st : Step) → kindOf st ≡ 1 → turnsOf inverse (lentOf [] [] []) st ≡ helmertTurns inverse (prepareOf (helmertOf st))
 unfolding kindOf
 helmert-turns inverse (step.Helmert h) e = refl
 helmert-turns inverse (step.Cart r) e = absurd (omega arith)

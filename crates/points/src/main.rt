@@ -126,7 +126,8 @@ fn run(s: &[u8], list: &mut [f64], velocities: &[f64], marks: &[u8]) {
     let said = chain::shift(false, s, list, velocities, marks);
     let refusal = said.refusal;
     print_refusal(refusal.number, refusal.step);
-    let counts = tally::counts(said.tallies);
+    let tallies = said.tallies;
+    let counts = tally::counts(tallies);
     print_counts(counts);
     io::write_all(OUT, b"  first");
     print_tuple(lists::read4(list, 0));

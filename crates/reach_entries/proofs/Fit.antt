@@ -65,8 +65,8 @@ module _ (inverse : Bool) (s : List ℕ) (c : Columns) (velocities : List Float)
       let level : Level (c .x) (c .y) (c .z) (c .t) = nine-kept _ _ _ _ n .0 in
       subst (λ (x : Answer). SmallTally (getD (x .tallies) i noTally)) (sym (columns-give-the-flat-answer inverse s (c .x) (c .y) (c .z) (c .t) velocities marks level))
       (shift-tells-few inverse s (flatOf (c .x) (c .y) (c .z) (c .t)) velocities marks i)
-  by-test true true n e = refused-few (ofCall 9) (columns-refused-9 (refusalOf s) _ inverse _ c velocities marks (eqb-true _ _ e) n)
-  by-test true false n e = refused-few (refusalOf s) (columns-refused-own (refusalOf s) _ inverse _ c velocities marks (eqb-false _ _ e))
+  by-test true true n e i = refused-few (ofCall 9) (columns-refused-9 (refusalOf s) _ inverse _ c velocities marks (eqb-true _ _ e) n) i
+  by-test true false n e i = refused-few (refusalOf s) (columns-refused-own (refusalOf s) _ inverse _ c velocities marks (eqb-false _ _ e)) i
 
   few : (i : ℕ) → SmallTally (getD (told .answer .tallies) i noTally)
   few = by-test _ _ refl refl

@@ -4,8 +4,9 @@
 // Document 02, A5 and A7. A result of 0 is done; otherwise it is the refusal's number plus 65536
 // times the step, and nothing was written but zeros where numbers are asked for.
 // include/sillfeather.h says of each function what it reads, writes, refuses and leaves alone. The
-// entries that came before stay as they are, in crate sillfeather. Nothing is computed here but
-// whether the angle of `sillfeather_sin_cos_reach` is in reach.
+// entries that came before stay as they are, in crate sillfeather. The header's `out_of_reach` is
+// called `met` here, because a name with an underscore reads badly in a contract. Nothing is computed
+// here.
 ghost use mathlib.Core.Path.{_≡_};
 ghost use Rattle.columns.specs.Columns.{columns};
 ghost use Rattle.chain.specs.Rules.{shiftOf};
@@ -42,8 +43,8 @@ pub extern "C" fn sillfeather_sin_cos_reach(x: f64, s: &mut f64, c: &mut f64) ->
 
 // ----- a sheet over a list ---------------------------------------------------------------------
 
-// A sheet over a list, as sillfeather_shift. `counts` and `out_of_reach` get each step's numbers in
-// the sheet's order, 0 in the other places.
+// A sheet over a list, as sillfeather_shift. `counts` and `met` get each step's numbers in the
+// sheet's order, 0 in the other places.
 #[no_mangle]
 pub extern "C" fn sillfeather_shift_reach(
     inverse: u32,
@@ -52,16 +53,16 @@ pub extern "C" fn sillfeather_shift_reach(
     velocities: &[f64],
     marks: &[u8],
     counts: &mut [u32; 16],
-    out_of_reach: &mut [u32; 16],
+    met: &mut [u32; 16],
 ) -> u32
-    ensures { λ r. ⌜ shiftTold r (now (counts .exit)) (now (out_of_reach .exit)) (now (list .exit))
+    ensures { λ r. ⌜ shiftTold r (now (counts .exit)) (now (met .exit)) (now (list .exit))
         ≡ shiftToldOf (shiftOf (isInverse inverse) (now (s .entry)) (now (list .entry)) (now (velocities .entry)) (now (marks .entry))) ⌝ }
 {
     let answer = chain::shift(inverse != 0, s, list, velocities, marks);
     let refusal = answer.refusal;
     let tallies = answer.tallies;
     *counts = codes::narrow(tally::counts(tallies));
-    *out_of_reach = codes::narrow(tally::mets(tallies));
+    *met = codes::narrow(tally::mets(tallies));
     codes::code(refusal)
 }
 
@@ -77,23 +78,22 @@ pub extern "C" fn sillfeather_shift_columns(
     velocities: &[f64],
     marks: &[u8],
     counts: &mut [u32; 16],
-    out_of_reach: &mut [u32; 16],
+    met: &mut [u32; 16],
 ) -> u32
-    ensures { λ r. ⌜ columnsTold r (now (counts .exit)) (now (out_of_reach .exit)) (columns (now (x .exit)) (now (y .exit)) (now (z .exit)) (now (t .exit)))
+    ensures { λ r. ⌜ columnsTold r (now (counts .exit)) (now (met .exit)) (columns (now (x .exit)) (now (y .exit)) (now (z .exit)) (now (t .exit)))
         ≡ columnsToldOf (shiftColumnsOf (isInverse inverse) (now (s .entry)) (columns (now (x .entry)) (now (y .entry)) (now (z .entry)) (now (t .entry))) (now (velocities .entry)) (now (marks .entry))) ⌝ }
 {
     let answer = chain::shift_columns(inverse != 0, s, x, y, z, t, velocities, marks);
     let refusal = answer.refusal;
     let tallies = answer.tallies;
     *counts = codes::narrow(tally::counts(tallies));
-    *out_of_reach = codes::narrow(tally::mets(tallies));
+    *met = codes::narrow(tally::mets(tallies));
     codes::code(refusal)
 }
 
 // ----- the kept run ----------------------------------------------------------------------------
 
-// A fresh kept run, as sillfeather_keep. `counted` and `out_of_reach` get the step's numbers, 0 on
-// refusal.
+// A fresh kept run, as sillfeather_keep. `counted` and `met` get the step's numbers, 0 on refusal.
 #[no_mangle]
 pub extern "C" fn sillfeather_keep_reach(
     inverse: u32,
@@ -102,11 +102,11 @@ pub extern "C" fn sillfeather_keep_reach(
     results: &mut [f64],
     track: &mut [f64],
     counted: &mut u64,
-    out_of_reach: &mut u64,
+    met: &mut u64,
 ) -> u32
     ensures { λ r. ⌜ (r ≡ codeOf (keepRefusalOf (now (s .entry)) (keptOf (now (list .entry)) (now (results .entry)) (now (track .entry)))))
         × (now (counted .exit) ≡ keepTallyOf (isInverse inverse) (now (s .entry)) (keptOf (now (list .entry)) (now (results .entry)) (now (track .entry))) .count)
-        × (now (out_of_reach .exit) ≡ keepTallyOf (isInverse inverse) (now (s .entry)) (keptOf (now (list .entry)) (now (results .entry)) (now (track .entry))) .met)
+        × (now (met .exit) ≡ keepTallyOf (isInverse inverse) (now (s .entry)) (keptOf (now (list .entry)) (now (results .entry)) (now (track .entry))) .met)
         × (keptOf (now (list .entry)) (now (results .exit)) (now (track .exit))
         ≡ keepOf (isInverse inverse) (now (s .entry)) (keptOf (now (list .entry)) (now (results .entry)) (now (track .entry)))) ⌝ }
 {
@@ -114,12 +114,12 @@ pub extern "C" fn sillfeather_keep_reach(
     let refusal = told.refusal;
     let tally = told.tally;
     *counted = tally.count as u64;
-    *out_of_reach = tally.met as u64;
+    *met = tally.met as u64;
     codes::code(refusal)
 }
 
-// Corrects one fix, as sillfeather_correct. `out_of_reach` gets how many of the fixes that were
-// redone met an angle out of reach.
+// Corrects one fix, as sillfeather_correct. `met` gets how many of the fixes that were redone met
+// an angle out of reach.
 #[no_mangle]
 pub extern "C" fn sillfeather_correct_reach(
     inverse: u32,
@@ -130,11 +130,11 @@ pub extern "C" fn sillfeather_correct_reach(
     index: usize,
     fix: &[f64; 4],
     redone: &mut u64,
-    out_of_reach: &mut u64,
+    met: &mut u64,
 ) -> u32
     ensures { λ r. ⌜ (correctTold r (now (redone .exit)) (keptOf (now (list .exit)) (now (results .exit)) (now (track .exit)))
         ≡ correctToldOf (correctOf (isInverse inverse) (now (s .entry)) (keptOf (now (list .entry)) (now (results .entry)) (now (track .entry))) index (tupleOf (now (fix .entry)))))
-        × (now (out_of_reach .exit) ≡ stretchMetOf (isInverse inverse) (now (s .entry)) (keptOf (now (list .entry)) (now (results .entry)) (now (track .entry))) index (tupleOf (now (fix .entry)))) ⌝ }
+        × (now (met .exit) ≡ stretchMetOf (isInverse inverse) (now (s .entry)) (keptOf (now (list .entry)) (now (results .entry)) (now (track .entry))) index (tupleOf (now (fix .entry)))) ⌝ }
 {
     let told = kept_reach::correct_reach(
         inverse != 0,
@@ -148,7 +148,7 @@ pub extern "C" fn sillfeather_correct_reach(
     let corrected = told.corrected;
     let refusal = corrected.refusal;
     *redone = corrected.redone;
-    *out_of_reach = told.met;
+    *met = told.met;
     codes::code(refusal)
 }
 

@@ -97,7 +97,8 @@ fn compared(told: &[u8], answer: Answer, list: &[f64]) -> usize
     ensures { λ r. ⌜ r ≡ comparedOf (now (told .entry)) (outcome answer (now (list .entry))) ⌝ }
 {
     let refusal = answer.refusal;
-    let counts = tally::counts(answer.tallies);
+    let tallies = answer.tallies;
+    let counts = tally::counts(tallies);
     differing(
         words::wide64(refusal.number),
         words::wide64(words::read32(told, 0)),

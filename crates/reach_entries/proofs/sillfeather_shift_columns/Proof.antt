@@ -1,12 +1,27 @@
--- The answer's parts are handed over one by one. Assumes nothing.
+-- The answer's parts are handed over one by one, and no number is cut (`columns-fit`). Assumes
+-- nothing.
 use mathlib.Core.Path.{ap}
 use borrow.Author.Needs.{needs}
+use Rattle.codes.proofs.Counts.{narrow-small}
 use Rattle.reach_entries.specs.Codes.{columnsToldOf}
+use Rattle.reach_entries.proofs.Fit.{columns-fit}
 use Rattle.reach_entries.proofs.sillfeather_shift_columns.Statement.{statement}
 use Rattle.reach_entries.proofs.sillfeather_shift_columns.Tie as tie
 
 shift-columns-requires : tie.Need-shift-columns-requires
 shift-columns-requires c κs = search needs
+
+counts-requires : tie.Need-counts-requires
+counts-requires c κs = search needs
+
+narrow-requires : tie.Need-narrow-requires
+narrow-requires c κs = search needs
+
+mets-requires : tie.Need-mets-requires
+mets-requires c κs = search needs
+
+narrow-requires-2 : tie.Need-narrow-requires-2
+narrow-requires-2 c κs = search needs
 
 code-requires : tie.Need-code-requires
 code-requires c κs = search needs
@@ -24,7 +39,23 @@ same-length-4 : tie.Need-same-length-4
 same-length-4 c = search needs
 
 returns : tie.Need-returns
-returns c = rw (c .code .ensures) (ap columnsToldOf (c .before .before .before .before .before .before .before .before .before .before .before .shift-columns .ensures))
+returns c =
+    let e = c .before .before .before .before .before .before .before .before .before .before .before .before .before .before .before .shift-columns .ensures in
+    let fit = columns-fit _ _ _ _ _ _ e in
+    rw (c .code .ensures, c .before .narrow2 .ensures, c .before .before .mets .ensures, c .before .before .before .narrow .ensures, c .before .before .before .before .counts .ensures, narrow-small _ (fit .0), narrow-small _ (fit .1)) (ap columnsToldOf e)
 
 pub sillfeather-shift-columns-spec : {M : Type 1} → statement M
-sillfeather-shift-columns-spec = tie.close (tie.spec shift-columns-requires code-requires same-length same-length-2 same-length-3 same-length-4 returns)
+sillfeather-shift-columns-spec =
+    tie.close
+    (tie.spec
+    shift-columns-requires
+    counts-requires
+    narrow-requires
+    mets-requires
+    narrow-requires-2
+    code-requires
+    same-length
+    same-length-2
+    same-length-3
+    same-length-4
+    returns)
