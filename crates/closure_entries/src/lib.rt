@@ -58,16 +58,7 @@ pub extern "C" fn sillfeather_closure_grid(
         ≡ closureGridInC (now (report .entry)) profile (now (s .entry)) (now (list .entry)) (now (room .entry)) (now (velocities .entry)) (now (marks .entry)) (now (grid .entry)) ⌝ }
 {
     let before = closure_report::of_numbers(report);
-    let answer = closure_run::closure_grid(
-        before,
-        profile,
-        s,
-        list,
-        room,
-        velocities,
-        marks,
-        grid,
-    );
+    let answer = closure_run::closure_grid(before, profile, s, list, room, velocities, marks, grid);
     let refusal = answer.refusal;
     if refusal.number != 0 {
         return codes::code(refusal);

@@ -162,13 +162,7 @@ fn grid_refusal_of(
 }
 
 // A list forward and then inverse, in place, with a grid.
-fn grid_there_and_back(
-    s: &[u8],
-    list: &mut [f64],
-    velocities: &[f64],
-    marks: &[u8],
-    grid: &[u8],
-)
+fn grid_there_and_back(s: &[u8], list: &mut [f64], velocities: &[f64], marks: &[u8], grid: &[u8])
     requires { ⌜ (refusalOf (now s) .number ≡ 0) × (refusal9 (length (now list)) ≡ false) × (refusal10WithGrid (now velocities) (now marks) ≡ false) × (checkGridOf (now grid) ≡ 0) ⌝ }
     ensures { λ _. ⌜ now (list .exit) ≡ gridThereAndBackOf (now (s .entry)) (now (velocities .entry)) (now (marks .entry)) (now (grid .entry)) (now (list .entry)) ⌝ }
 {
@@ -209,15 +203,7 @@ pub fn closure_grid(
 ) -> Closed
     ensures { λ r. ⌜ outcome r (now (room .exit)) ≡ closureGridOf report profile (now (s .entry)) (now (list .entry)) (now (room .entry)) (now (velocities .entry)) (now (marks .entry)) (now (grid .entry)) ⌝ }
 {
-    let refusal = grid_refusal_of(
-        profile,
-        s,
-        list.len(),
-        room.len(),
-        velocities,
-        marks,
-        grid,
-    );
+    let refusal = grid_refusal_of(profile, s, list.len(), room.len(), velocities, marks, grid);
     if refusal.number != 0 {
         return Closed {
             refusal: refusal,
@@ -225,15 +211,7 @@ pub fn closure_grid(
         };
     }
     let n = list.len();
-    let added = grid_close(
-        report,
-        s,
-        list,
-        &mut room[..n],
-        velocities,
-        marks,
-        grid,
-    );
+    let added = grid_close(report, s, list, &mut room[..n], velocities, marks, grid);
     Closed {
         refusal: refusal,
         report: added,
