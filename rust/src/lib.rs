@@ -4,7 +4,7 @@
 //! [`Sheet::builder`] or checked by [`Sheet::from_bytes`], and shifts a list of fixes in place, forward or inverse. A [`KeptRun`] keeps a list with its
 //! results, and redoes only what the correction of one fix changes. [`Columns`] are a list as a display holds it. [`Sheet::rescue`] mends a sheet whose
 //! header or directory was damaged. A [`Report`] tells what a sheet forward and then inverse leaves of lists of fixes, and [`Sheet::judge`] whether a
-//! [`Profile`] lets a sheet through.
+//! [`Profile`] lets a sheet through. A [`Grid`] is a checked velocity grid, in which a deformation step finds each fix's velocity.
 //!
 //! ```
 //! use sillfeather::{Cart, Convention, Direction, Ellipsoid, Helmert, Sheet};
@@ -62,6 +62,7 @@ extern crate alloc;
 mod ffi;
 
 mod columns;
+mod grid;
 mod kept;
 pub mod kernels;
 pub mod lent;
@@ -71,6 +72,7 @@ mod sheet;
 mod steps;
 
 pub use columns::Columns;
+pub use grid::Grid;
 pub use kept::KeptRun;
 pub use refusal::Refusal;
 pub use report::{Largest, Profile, Report};

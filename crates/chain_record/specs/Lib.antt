@@ -1,2 +1,2 @@
--- What the contract of `shift_record` cites.
+-- What the contracts of `shift_record` and `shift_record_grid` cite.
 pub mod Record

@@ -9,9 +9,15 @@ use Rattle.sheet.specs.Rules.{hasDeformation}
 use Rattle.sheet_writer.specs.Rules.{writerRefusalOf}
 use Rattle.chain.specs.Chain.{entriesOf}
 use Rattle.chain.specs.Rules.{Outcome, outcomeOf}
+use Rattle.chain.specs.Grid.{gridOutcomeOf}
 
 -- Over a record: its own rules are the writer's, in a room that any sheet fits, so that 15 is never
 -- given.
 unfoldable pub shiftRecordOf : Bool → Sheet → List Float → List Float → List ℕ → Outcome
 shiftRecordOf inverse sheet l velocities marks =
     outcomeOf (writerRefusalOf sheet 4240) (hasDeformation (kindIn sheet) (sheet .count)) inverse (entriesOf (entryOf sheet) (sheet .count) 0) l velocities marks
+
+-- with a velocity grid: chain's outcome with a grid, under the same rules
+unfoldable pub shiftRecordGridOf : Bool → Sheet → List Float → List Float → List ℕ → List ℕ → Outcome
+shiftRecordGridOf inverse sheet l velocities marks grid =
+    gridOutcomeOf (writerRefusalOf sheet 4240) inverse (entriesOf (entryOf sheet) (sheet .count) 0) l velocities marks grid

@@ -1,17 +1,19 @@
 // The chain over a record that is already read: a sheet's steps over a lent flat list, where the
 // list stands.
 //
-// As `chain::shift` does over a sheet's bytes; the two agree on every sheet that is accepted
-// (proofs/Agree.antt). A record's own rules are the writer's, in a room that any sheet fits. The
+// As `chain::shift` and `chain::shift_grid` do over a sheet's bytes; they agree on every sheet that
+// is accepted (proofs/Agree.antt). A record's own rules are the writer's, in a room that any sheet fits. The
 // answer, the tallies and the list are fixed for every input by specs/Record.antt over chain's
 // definitions. No rounding but the steps' own. For callers that hold a sheet as a record.
 ghost use mathlib.Core.Path.{_≡_};
+ghost use mathlib.Core.List.{[]};
 ghost use Prim.Native.Nat.{_≤_};
 ghost use Rattle.sheet.specs.Layout.{entryOf, kindIn};
 ghost use Rattle.sheet.specs.Rules.{hasDeformation};
-ghost use Rattle.chain.specs.Chain.{stepListOf, stepTallyOf, chainForwardOf, chainInverseOf, placesOf, entriesOf};
+ghost use Rattle.plans.specs.Lent.{lentOf};
+ghost use Rattle.chain.specs.Chain.{stepListOf, stepTallyOf, chainForwardOf, chainInverseOf, chainOf, placesOf, entriesOf};
 ghost use Rattle.chain.specs.Rules.{outcome};
-ghost use Rattle.chain_record.specs.Record.{shiftRecordOf};
+ghost use Rattle.chain_record.specs.Record.{shiftRecordOf, shiftRecordGridOf};
 use chain::Answer;
 use sheet::Entry;
 use sheet::Refusal;
@@ -25,13 +27,15 @@ fn run_step(
     list: &mut [f64],
     velocities: &[f64],
     marks: &[u8],
+    grid: &[u8],
 ) -> Tally
-    ensures { λ r. ⌜ (now (list .exit) ≡ stepListOf inverse (now (velocities .entry)) (now (marks .entry)) entry (now (list .entry)))
-        × (r ≡ stepTallyOf inverse (now (velocities .entry)) (now (marks .entry)) entry (now (list .entry))) ⌝ }
+    ensures { λ r. ⌜ (now (list .exit) ≡ stepListOf inverse (lentOf (now (velocities .entry)) (now (marks .entry)) (now (grid .entry))) entry (now (list .entry)))
+        × (r ≡ stepTallyOf inverse (lentOf (now (velocities .entry)) (now (marks .entry)) (now (grid .entry))) entry (now (list .entry))) ⌝ }
 {
     let inv = chain::reversed(inverse, entry);
     let step = entry.step;
-    step_windows::over(plans::plan_of_step(inv, step), list, velocities, marks)
+    let plan = plans::plan_of_step(inv, step);
+    step_windows::over(plan, list, velocities, marks, grid)
 }
 
 fn forward_record(
@@ -40,16 +44,17 @@ fn forward_record(
     list: &mut [f64],
     velocities: &[f64],
     marks: &[u8],
+    grid: &[u8],
 ) -> [Tally; 16]
     requires { ⌜ n ≤ 16 ⌝ }
-    ensures { λ r. ⌜ (now (list .exit) ≡ chainForwardOf (now (velocities .entry)) (now (marks .entry)) (entriesOf (entryOf kept) n 0) (now (list .entry)) .list)
-        × (r ≡ placesOf (chainForwardOf (now (velocities .entry)) (now (marks .entry)) (entriesOf (entryOf kept) n 0) (now (list .entry)) .tallies)) ⌝ }
+    ensures { λ r. ⌜ (now (list .exit) ≡ chainForwardOf (lentOf (now (velocities .entry)) (now (marks .entry)) (now (grid .entry))) (entriesOf (entryOf kept) n 0) (now (list .entry)) .list)
+        × (r ≡ placesOf (chainForwardOf (lentOf (now (velocities .entry)) (now (marks .entry)) (now (grid .entry))) (entriesOf (entryOf kept) n 0) (now (list .entry)) .tallies)) ⌝ }
 {
     let mut tallies = [tally::none(); 16];
     let mut i = 0;
     while i < n {
         let entry = kept.entries[i];
-        let tally = run_step(false, entry, list, velocities, marks);
+        let tally = run_step(false, entry, list, velocities, marks, grid);
         tallies[i] = tally;
         i += 1;
     }
@@ -62,20 +67,58 @@ fn backward_record(
     list: &mut [f64],
     velocities: &[f64],
     marks: &[u8],
+    grid: &[u8],
 ) -> [Tally; 16]
     requires { ⌜ n ≤ 16 ⌝ }
-    ensures { λ r. ⌜ (now (list .exit) ≡ chainInverseOf (now (velocities .entry)) (now (marks .entry)) (entriesOf (entryOf kept) n 0) (now (list .entry)) .list)
-        × (r ≡ placesOf (chainInverseOf (now (velocities .entry)) (now (marks .entry)) (entriesOf (entryOf kept) n 0) (now (list .entry)) .tallies)) ⌝ }
+    ensures { λ r. ⌜ (now (list .exit) ≡ chainInverseOf (lentOf (now (velocities .entry)) (now (marks .entry)) (now (grid .entry))) (entriesOf (entryOf kept) n 0) (now (list .entry)) .list)
+        × (r ≡ placesOf (chainInverseOf (lentOf (now (velocities .entry)) (now (marks .entry)) (now (grid .entry))) (entriesOf (entryOf kept) n 0) (now (list .entry)) .tallies)) ⌝ }
 {
     let mut tallies = [tally::none(); 16];
     let mut i = n;
     while 0 < i {
         i -= 1;
         let entry = kept.entries[i];
-        let tally = run_step(true, entry, list, velocities, marks);
+        let tally = run_step(true, entry, list, velocities, marks, grid);
         tallies[i] = tally;
     }
     tallies
+}
+
+// All n steps, in the order of the direction.
+fn over_record(
+    inverse: bool,
+    kept: Sheet,
+    n: usize,
+    list: &mut [f64],
+    velocities: &[f64],
+    marks: &[u8],
+    grid: &[u8],
+) -> [Tally; 16]
+    requires { ⌜ n ≤ 16 ⌝ }
+    ensures { λ r. ⌜ (now (list .exit) ≡ chainOf inverse (lentOf (now (velocities .entry)) (now (marks .entry)) (now (grid .entry))) (entriesOf (entryOf kept) n 0) (now (list .entry)) .list)
+        × (r ≡ placesOf (chainOf inverse (lentOf (now (velocities .entry)) (now (marks .entry)) (now (grid .entry))) (entriesOf (entryOf kept) n 0) (now (list .entry)) .tallies)) ⌝ }
+{
+    if inverse {
+        return backward_record(kept, n, list, velocities, marks, grid);
+    }
+    forward_record(kept, n, list, velocities, marks, grid)
+}
+
+// The same without a grid.
+fn record_without_grid(
+    inverse: bool,
+    kept: Sheet,
+    n: usize,
+    list: &mut [f64],
+    velocities: &[f64],
+    marks: &[u8],
+) -> [Tally; 16]
+    requires { ⌜ n ≤ 16 ⌝ }
+    ensures { λ r. ⌜ (now (list .exit) ≡ chainOf inverse (lentOf (now (velocities .entry)) (now (marks .entry)) []) (entriesOf (entryOf kept) n 0) (now (list .entry)) .list)
+        × (r ≡ placesOf (chainOf inverse (lentOf (now (velocities .entry)) (now (marks .entry)) []) (entriesOf (entryOf kept) n 0) (now (list .entry)) .tallies)) ⌝ }
+{
+    let none = chain::no_grid(marks);
+    over_record(inverse, kept, n, list, velocities, marks, none)
 }
 
 // Whether one of the first n steps is a deformation step.
@@ -104,7 +147,7 @@ pub fn shift_record(
 ) -> Answer
     ensures { λ r. ⌜ outcome r (now (list .exit)) ≡ shiftRecordOf inverse kept (now (list .entry)) (now (velocities .entry)) (now (marks .entry)) ⌝ }
 {
-    let own = sheet_writer::check_record(kept, 4240);
+    let own = sheet_writer::check_record(kept, 4240); // any sheet fits
     if own.number != 0 {
         return chain::refused(own);
     }
@@ -115,10 +158,36 @@ pub fn shift_record(
     if chain::lent_broken(deforms_record(kept, n), list.len(), velocities, marks) {
         return chain::refused(Refusal::of_call(10));
     }
-    if inverse {
-        let tallies = backward_record(kept, n, list, velocities, marks);
-        return chain::ran(tallies);
+    let tallies = record_without_grid(inverse, kept, n, list, velocities, marks);
+    chain::ran(tallies)
+}
+
+// The same with a velocity grid, which is always lent here, whether or not the record deforms.
+pub fn shift_record_grid(
+    inverse: bool,
+    kept: Sheet,
+    list: &mut [f64],
+    velocities: &[f64],
+    marks: &[u8],
+    grid: &[u8],
+) -> Answer
+    ensures { λ r. ⌜ outcome r (now (list .exit)) ≡ shiftRecordGridOf inverse kept (now (list .entry)) (now (velocities .entry)) (now (marks .entry)) (now (grid .entry)) ⌝ }
+{
+    let own = sheet_writer::check_record(kept, 4240); // with a grid too
+    if own.number != 0 {
+        return chain::refused(own);
     }
-    let tallies = forward_record(kept, n, list, velocities, marks);
+    if chain::list_broken(list.len()) {
+        return chain::refused(Refusal::of_call(9));
+    }
+    if chain::lent_broken(false, 0, velocities, marks) {
+        return chain::refused(Refusal::of_call(10));
+    }
+    let broken = grid_rules::check_grid(grid);
+    if broken != 0 {
+        return chain::refused(Refusal::of_call(broken));
+    }
+    let n = words::wide(kept.count);
+    let tallies = over_record(inverse, kept, n, list, velocities, marks, grid);
     chain::ran(tallies)
 }

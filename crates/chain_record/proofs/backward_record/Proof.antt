@@ -8,21 +8,22 @@ use native.Mathlib.Omega.{arith}
 use Prim.Native.Nat.{_+_, _-_}
 use mathlib.Core.Path.{_≡_, refl}
 use Rattle.sheet.specs.Layout.{entryOf}
+use Rattle.plans.specs.Lent.{lentOf}
 use Rattle.chain.proofs.Laws.{Backward, backward-start, backward-again, backward-end}
 use Rattle.chain_record.proofs.backward_record.Statement.{statement}
 use Rattle.chain_record.proofs.backward_record.Tie as tie
 
 abbrev Inv-loop : tie.InvT-loop
-Inv-loop n list₀ velocities marks kept tallies₀ i₀ list tallies i = Backward velocities marks (entryOf kept) n list₀ i list tallies
+Inv-loop n list₀ velocities marks grid kept tallies₀ i₀ list tallies i = Backward (lentOf velocities marks grid) (entryOf kept) n list₀ i list tallies
 
 abbrev μ-loop : tie.MeasureT-loop
-μ-loop n list₀ velocities marks kept tallies₀ i₀ list tallies i = i
+μ-loop n list₀ velocities marks grid kept tallies₀ i₀ list tallies i = i
 
 none-requires : tie.Need-none-requires Inv-loop μ-loop
 none-requires c κs = search needs
 
 loop-holds : tie.Need-loop-holds Inv-loop μ-loop
-loop-holds c = rw (c .none .ensures) (backward-start _ _ _ _ _ (c .before .before .before .before .pre))
+loop-holds c = rw (c .none .ensures) (backward-start _ _ _ _ (c .before .before .before .before .before .pre))
 
 sub-i : tie.Need-sub-i Inv-loop μ-loop
 sub-i c = search needs
@@ -49,13 +50,13 @@ loop-again : tie.Need-loop-again Inv-loop μ-loop
 loop-again c =
     let l = c .before .before .before .before .before .before .loop in
     let j : l .i - 1 + 1 ≡ l .i = omega (arith, c .before .before .before .before .before .loop-test .taken) in
-    backward-again (c .before .before .before .before .before .before .before .before .before .before .before .pre) (l .i - 1) j refl (c .before .before .run-step .ensures .0) (c .before .before .run-step .ensures .1) (l .inv)
+    backward-again (c .before .before .before .before .before .before .before .before .before .before .before .before .pre) (l .i - 1) j refl (c .before .before .run-step .ensures .0) (c .before .before .run-step .ensures .1) (l .inv)
 
 same-length : tie.Need-same-length Inv-loop μ-loop
 same-length c = c .before .loop .inv .long
 
 returns : tie.Need-returns Inv-loop μ-loop
-returns c = backward-end (c .before .before .before .before .before .before .pre) (search needs) (c .before .loop .inv)
+returns c = backward-end (c .before .before .before .before .before .before .before .pre) (search needs) (c .before .loop .inv)
 
 pub backward-record-spec : {M : Type 1} → statement M
 backward-record-spec =

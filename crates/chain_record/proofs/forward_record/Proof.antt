@@ -9,21 +9,22 @@ use borrow.Author.Needs.{needs}
 use Prim.Native.Nat.{_-_}
 use mathlib.Core.Path.{refl}
 use Rattle.sheet.specs.Layout.{entryOf}
+use Rattle.plans.specs.Lent.{lentOf}
 use Rattle.chain.proofs.Laws.{Forward, forward-start, forward-again, forward-end}
 use Rattle.chain_record.proofs.forward_record.Statement.{statement}
 use Rattle.chain_record.proofs.forward_record.Tie as tie
 
 abbrev Inv-loop : tie.InvT-loop
-Inv-loop n list₀ velocities marks kept tallies₀ i₀ list tallies i = Forward velocities marks (entryOf kept) n list₀ i list tallies
+Inv-loop n list₀ velocities marks grid kept tallies₀ i₀ list tallies i = Forward (lentOf velocities marks grid) (entryOf kept) n list₀ i list tallies
 
 abbrev μ-loop : tie.MeasureT-loop
-μ-loop n list₀ velocities marks kept tallies₀ i₀ list tallies i = n - i
+μ-loop n list₀ velocities marks grid kept tallies₀ i₀ list tallies i = n - i
 
 none-requires : tie.Need-none-requires Inv-loop μ-loop
 none-requires c κs = search needs
 
 loop-holds : tie.Need-loop-holds Inv-loop μ-loop
-loop-holds c = rw (c .none .ensures) (forward-start _ _ _ _ _ (c .before .before .before .before .pre))
+loop-holds c = rw (c .none .ensures) (forward-start _ _ _ _ (c .before .before .before .before .before .pre))
 
 mul-entry : tie.Need-mul-entry Inv-loop μ-loop
 mul-entry c = search needs
@@ -48,13 +49,13 @@ loop-less c = search needs
 
 loop-again : tie.Need-loop-again Inv-loop μ-loop
 loop-again c =
-    forward-again (c .before .before .before .before .before .before .before .before .before .before .before .pre) (search needs) refl (c .before .before .run-step .ensures .0) (c .before .before .run-step .ensures .1) (c .before .before .before .before .before .before .loop .inv)
+    forward-again (c .before .before .before .before .before .before .before .before .before .before .before .before .pre) (search needs) refl (c .before .before .run-step .ensures .0) (c .before .before .run-step .ensures .1) (c .before .before .before .before .before .before .loop .inv)
 
 same-length : tie.Need-same-length Inv-loop μ-loop
 same-length c = c .before .loop .inv .long
 
 returns : tie.Need-returns Inv-loop μ-loop
-returns c = forward-end (c .before .before .before .before .before .before .pre) (search needs) (c .before .loop .inv)
+returns c = forward-end (c .before .before .before .before .before .before .before .pre) (search needs) (c .before .loop .inv)
 
 pub forward-record-spec : {M : Type 1} → statement M
 forward-record-spec =

@@ -24,7 +24,7 @@ returns c =
     let there = c .before .before .before .before .plan-of-step .ensures in
     let turned = c .before .before .before .before .before .reversed .ensures in
     let e = c .before .before .over .ensures in
-    (e .0 ∙ plan-list _ _ _ _ _ turned there, e .1 ∙ plan-tally _ _ _ _ _ turned there)
+    (e .0 ∙ plan-list _ _ _ _ turned there, e .1 ∙ plan-tally _ _ _ _ turned there)
 
 pub run-step-spec : {M : Type 1} → statement M
 run-step-spec = tie.close (tie.spec reversed-requires plan-of-step-requires over-requires same-length returns)

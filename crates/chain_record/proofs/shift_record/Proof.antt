@@ -57,9 +57,9 @@ returns-3 c =
     rw (c .refused3 .ensures, c .before .of-call2 .ensures, ← c .before .before .before .before .before .before .before .before .before .before .check-record .ensures)
     (sym (refused-10 (c .before .before .before .before .before .before .before .before .before .before .check-record .result) _ _ _ _ _ _ (c .before .before .before .before .before .before .before .before .if1 .left) (sym (c .before .before .before .before .before .before .before .list-broken .ensures) ∙ c .before .before .before .before .before .before .if2 .left) (sym (rw (c .before .before .before .before .deforms-record .ensures, c .before .before .before .before .before .wide .ensures .0) at (c .before .before .before .lent-broken .ensures)) ∙ c .before .before .if3 .taken)))
 
-backward-record-requires : tie.Need-backward-record-requires
-backward-record-requires c κs =
-    rw (c .before .before .before .before .before .wide .ensures .0) (few-kept _ _ (ap (λ (r : Refusal). r .number) (sym (c .before .before .before .before .before .before .before .before .before .before .check-record .ensures)) ∙ c .before .before .before .before .before .before .before .before .if1 .left))
+record-without-grid-requires : tie.Need-record-without-grid-requires
+record-without-grid-requires c κs =
+    rw (c .before .before .before .before .wide .ensures .0) (few-kept _ _ (ap (λ (r : Refusal). r .number) (sym (c .before .before .before .before .before .before .before .before .before .check-record .ensures)) ∙ c .before .before .before .before .before .before .before .if1 .left))
 
 ran-requires : tie.Need-ran-requires
 ran-requires c κs = search needs
@@ -70,24 +70,8 @@ same-length c = search needs
 returns-4 : tie.Need-returns-4
 unfolding shiftRecordOf
 returns-4 c =
-    rw (c .ran .ensures, c .before .before .before .backward-record .ensures .0, c .before .before .before .backward-record .ensures .1, c .before .before .before .before .before .before .before .before .before .wide .ensures .0, c .before .before .before .before .before .if4 .taken, ← c .before .before .before .before .before .before .before .before .before .before .before .before .before .before .check-record .ensures)
-    (sym (run-through (c .before .before .before .before .before .before .before .before .before .before .before .before .before .before .check-record .result) _ true _ _ _ _ (c .before .before .before .before .before .before .before .before .before .before .before .before .if1 .left) (sym (c .before .before .before .before .before .before .before .before .before .before .before .list-broken .ensures) ∙ c .before .before .before .before .before .before .before .before .before .before .if2 .left) (sym (rw (c .before .before .before .before .before .before .before .before .deforms-record .ensures, c .before .before .before .before .before .before .before .before .before .wide .ensures .0) at (c .before .before .before .before .before .before .before .lent-broken .ensures)) ∙ c .before .before .before .before .before .before .if3 .left)))
-
-forward-record-requires : tie.Need-forward-record-requires
-forward-record-requires c κs =
-    rw (c .before .before .before .before .before .wide .ensures .0) (few-kept _ _ (ap (λ (r : Refusal). r .number) (sym (c .before .before .before .before .before .before .before .before .before .before .check-record .ensures)) ∙ c .before .before .before .before .before .before .before .before .if1 .left))
-
-ran-requires-2 : tie.Need-ran-requires-2
-ran-requires-2 c κs = search needs
-
-same-length-2 : tie.Need-same-length-2
-same-length-2 c = search needs
-
-returns-5 : tie.Need-returns-5
-unfolding shiftRecordOf
-returns-5 c =
-    rw (c .ran2 .ensures, c .before .before .before .forward-record .ensures .0, c .before .before .before .forward-record .ensures .1, c .before .before .before .before .before .before .before .before .before .wide .ensures .0, c .before .before .before .before .before .if4 .left, ← c .before .before .before .before .before .before .before .before .before .before .before .before .before .before .check-record .ensures)
-    (sym (run-through (c .before .before .before .before .before .before .before .before .before .before .before .before .before .before .check-record .result) _ false _ _ _ _ (c .before .before .before .before .before .before .before .before .before .before .before .before .if1 .left) (sym (c .before .before .before .before .before .before .before .before .before .before .before .list-broken .ensures) ∙ c .before .before .before .before .before .before .before .before .before .before .if2 .left) (sym (rw (c .before .before .before .before .before .before .before .before .deforms-record .ensures, c .before .before .before .before .before .before .before .before .before .wide .ensures .0) at (c .before .before .before .before .before .before .before .lent-broken .ensures)) ∙ c .before .before .before .before .before .before .if3 .left)))
+    rw (c .ran .ensures, c .before .before .before .record-without-grid .ensures .0, c .before .before .before .record-without-grid .ensures .1, c .before .before .before .before .before .before .before .before .wide .ensures .0, ← c .before .before .before .before .before .before .before .before .before .before .before .before .before .check-record .ensures)
+    (sym (run-through (c .before .before .before .before .before .before .before .before .before .before .before .before .before .check-record .result) _ _ _ _ _ _ (c .before .before .before .before .before .before .before .before .before .before .before .if1 .left) (sym (c .before .before .before .before .before .before .before .before .before .before .list-broken .ensures) ∙ c .before .before .before .before .before .before .before .before .before .if2 .left) (sym (rw (c .before .before .before .before .before .before .before .deforms-record .ensures, c .before .before .before .before .before .before .before .before .wide .ensures .0) at (c .before .before .before .before .before .before .lent-broken .ensures)) ∙ c .before .before .before .before .before .if3 .left)))
 
 pub shift-record-spec : {M : Type 1} → statement M
 shift-record-spec =
@@ -106,11 +90,7 @@ shift-record-spec =
     of-call-requires-2
     refused-requires-3
     returns-3
-    backward-record-requires
+    record-without-grid-requires
     ran-requires
     same-length
-    returns-4
-    forward-record-requires
-    ran-requires-2
-    same-length-2
-    returns-5)
+    returns-4)
