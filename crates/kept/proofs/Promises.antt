@@ -33,6 +33,7 @@ use Rattle.lists.proofs.Places.{put-none, put-length, put-take}
 use Rattle.lists.proofs.Laws.{ran-length}
 use Rattle.lists.proofs.Results.{track-at, result-at}
 use Rattle.helmert.specs.Turns.{helmertTurns}
+use Rattle.plans.specs.Lent.{lentOf}
 use Rattle.chain.specs.Chain.{turnsOf, stateOf, reversedOf, stepListOf, Run, chainOf, entriesOf}
 use Rattle.chain.specs.Rules.{refusal10, overOne, ranOutcome, shiftOf}
 use Rattle.chain.proofs.Laws.{one-step-forward, one-step-inverse}
@@ -48,7 +49,7 @@ use Rattle.stretch.proofs.Laws.{step-stays, fresh-list, before-is, corrected-eq
 
 -- ---- the one step is the chain's
 
-helmert-turns : (inverse : Bool) (st : Step) → kindOf st ≡ 1 → turnsOf inverse [] [] st ≡ helmertTurns inverse (prepareOf (helmertOf st))
+helmert-turns : (inverse : Bool) (st : Step) → kindOf st ≡ 1 → turnsOf inverse (lentOf [] [] []) st ≡ helmertTurns inverse (prepareOf (helmertOf st))
 unfolding kindOf
 helmert-turns inverse (step.Helmert h) e = refl
 helmert-turns inverse (step.Cart r) e = absurd (omega arith)
@@ -92,15 +93,15 @@ module _ (s : List ℕ) (own : refusalOf s .number ≡ 0) (one : refusal12 s ≡
   unfolding entriesOf
   entries-are = rw one-step
 
-  step-list : (inverse : Bool) (l : List Float) → stepListOf inverse [] [] (entryAt s 0) l ≡ ranOf (helmertTurns (reversedIn inverse s) (shiftIn s)) 0 (startOf (shiftIn s)) l
+  step-list : (inverse : Bool) (l : List Float) → stepListOf inverse (lentOf [] [] []) (entryAt s 0) l ≡ ranOf (helmertTurns (reversedIn inverse s) (shiftIn s)) 0 (startOf (shiftIn s)) l
   unfolding stepListOf
   step-list inverse l =
       rw (helmert-turns (reversedOf inverse (entryAt s 0)) (entryAt s 0 .step) a-helmert, helmert-start (entryAt s 0 .step) a-helmert)
 
   chain-list : (inverse : Bool) (l : List Float)
-      → chainOf inverse [] [] (entriesOf (entryAt s) (stepCountOf s) 0) l .list ≡ ranOf (helmertTurns (reversedIn inverse s) (shiftIn s)) 0 (startOf (shiftIn s)) l
-  chain-list true l = rw entries-are (ap (λ (r : Run). r .list) (one-step-inverse [] [] (entryAt s 0) l) ∙ step-list true l)
-  chain-list false l = rw entries-are (ap (λ (r : Run). r .list) (one-step-forward [] [] (entryAt s 0) l) ∙ step-list false l)
+      → chainOf inverse (lentOf [] [] []) (entriesOf (entryAt s) (stepCountOf s) 0) l .list ≡ ranOf (helmertTurns (reversedIn inverse s) (shiftIn s)) 0 (startOf (shiftIn s)) l
+  chain-list true l = rw entries-are (ap (λ (r : Run). r .list) (one-step-inverse (lentOf [] [] []) (entryAt s 0) l) ∙ step-list true l)
+  chain-list false l = rw entries-are (ap (λ (r : Run). r .list) (one-step-forward (lentOf [] [] []) (entryAt s 0) l) ∙ step-list false l)
 
 -- ---- a fresh run
 
@@ -132,12 +133,12 @@ module _ (inverse : Bool) (s : List ℕ) (old : Kept) (passes : keepRefusalOf s 
 
   -- The results of a fresh run are the chain's, on the same sheet, direction and list: `shift`
   -- takes them too, and leaves that list.
-  pub results-are-the-chains : kept .results ≡ chainOf inverse [] [] (entriesOf (entryAt s) (stepCountOf s) 0) (old .list) .list
+  pub results-are-the-chains : kept .results ≡ chainOf inverse (lentOf [] [] []) (entriesOf (entryAt s) (stepCountOf s) 0) (old .list) .list
   unfolding freshOf
   results-are-the-chains =
       ap (λ (k : Kept). k .results) keep-runs ∙ sym (chain-list s (lists-pass .own) (lists-pass .one-helmert) inverse (old .list))
 
-  pub shift-takes-them-too : shiftOf inverse s (old .list) [] [] ≡ ranOutcome (chainOf inverse [] [] (entriesOf (entryAt s) (stepCountOf s) 0) (old .list))
+  pub shift-takes-them-too : shiftOf inverse s (old .list) [] [] ≡ ranOutcome (chainOf inverse (lentOf [] [] []) (entriesOf (entryAt s) (stepCountOf s) 0) (old .list))
   unfolding shiftOf refusal10 overOne
   shift-takes-them-too =
       run-through (refusalOf s) (hasDeformation (kindAt s) (stepCountOf s)) inverse (entriesOf (entryAt s) (stepCountOf s) 0) (old .list) [] []
