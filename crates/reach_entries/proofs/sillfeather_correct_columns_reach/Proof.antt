@@ -1,5 +1,5 @@
 -- The answer's parts are handed over one by one. Assumes nothing.
-use mathlib.Core.Path.{ap}
+use mathlib.Core.Path.{ap, _∙_}
 use Rattle.reach_entries.specs.Codes.{correctColumnsToldOf}
 use borrow.Author.Needs.{needs}
 use Rattle.reach_entries.proofs.sillfeather_correct_columns_reach.Statement.{statement}
@@ -52,8 +52,9 @@ same-length-12 c = c .before .before .before .before .kt .given
 
 returns : tie.Need-returns
 returns c =
-    let e = rw (c .before .before .before .before .before .before .before .before .before .before .before .before .before .before .before .before .before .before .before .before .before .before .before .before .before .before .before .before .tuple-of .ensures) at (c .before .before .before .before .before .before .before .before .before .before .before .before .before .before .before .before .before .before .before .before .before .before .before .before .before .before .before .correct-reach .ensures) in
-    (rw (c .code .ensures) (ap correctColumnsToldOf (e .0)), e .1)
+    let e = c .before .before .before .before .before .before .before .before .before .before .before .before .before .before .before .before .before .before .before .before .before .before .before .before .before .before .before .correct-reach .ensures in
+    let fix = c .before .before .before .before .before .before .before .before .before .before .before .before .before .before .before .before .before .before .before .before .before .before .before .before .before .before .before .before .tuple-of .ensures in
+    (rw (c .code .ensures) (ap correctColumnsToldOf (e .0) ∙ rw fix), e .1 ∙ rw fix)
 
 pub sillfeather-correct-columns-reach-spec : {M : Type 1} → statement M
 sillfeather-correct-columns-reach-spec =
