@@ -1,5 +1,6 @@
 //! A velocity grid's check and lookup, and the deformation step by a grid over columns.
 use crate::columns::{self, Columns};
+use job::Answer;
 
 unsafe extern "C" {
     fn sillfeather_check_grid(grid: *const u8, grid_len: usize) -> u32;
@@ -17,6 +18,22 @@ unsafe extern "C" {
         grid_len: usize,
         counts: *mut u32,
         out_of_reach: *mut u32,
+    ) -> u32;
+    fn sillfeather_closure_grid(
+        report: *mut u64,
+        profile: u32,
+        sheet: *const u8,
+        sheet_len: usize,
+        list: *const f64,
+        list_len: usize,
+        room: *mut f64,
+        room_len: usize,
+        velocities: *const f64,
+        velocities_len: usize,
+        marks: *const u8,
+        marks_len: usize,
+        grid: *const u8,
+        grid_len: usize,
     ) -> u32;
     fn grid_found(grid: *const u8, grid_len: usize, lam: f64, phi: f64, east: *mut f64, north: *mut f64, up: *mut f64) -> u8;
     fn grid_found_block(
@@ -56,19 +73,9 @@ pub fn check(grid: &[u8]) -> u32 {
     unsafe { sillfeather_check_grid(grid.as_ptr(), grid.len()) }
 }
 
-/// What a call with a grid leaves: the refusal, its step, each step's two numbers, the list.
-#[derive(Debug)]
-pub struct Told {
-    pub refusal: u32,
-    pub step: u32,
-    pub counts: [u32; 16],
-    pub out_of_reach: [u32; 16],
-    pub list: Vec<f64>,
-}
-
-/// A sheet over a list with a grid, through the library's entry.
-pub fn shift(inverse: bool, sheet: &[u8], list: &[f64], velocities: &[f64], marks: &[u8], grid: &[u8]) -> Told {
-    let (mut counts, mut out_of_reach) = ([9; 16], [9; 16]);
+/// A sheet over a list with a grid, through the library's entry; and how many tuples met an angle out of reach in each step.
+pub fn shift(inverse: bool, sheet: &[u8], list: &[f64], velocities: &[f64], marks: &[u8], grid: &[u8]) -> (Answer, [u32; 16]) {
+    let [mut counts, mut out_of_reach] = [[u32::MAX; 16]; 2]; // each is written, refused or not
     let mut list = list.to_vec();
     let told = unsafe {
         sillfeather_shift_grid(
@@ -88,7 +95,38 @@ pub fn shift(inverse: bool, sheet: &[u8], list: &[f64], velocities: &[f64], mark
         )
     };
     let (refusal, step) = crate::apart(told);
-    Told { refusal, step, counts, out_of_reach, list }
+    (Answer { refusal, step, counts, list }, out_of_reach)
+}
+
+/// A list added to a closure report with a grid; the refusal's number and step.
+pub fn closure(
+    report: &mut [u64; 16],
+    profile: u32,
+    sheet: &[u8],
+    list: &[f64],
+    room: &mut [f64],
+    velocities: &[f64],
+    marks: &[u8],
+    grid: &[u8],
+) -> (u32, u32) {
+    crate::apart(unsafe {
+        sillfeather_closure_grid(
+            report.as_mut_ptr(),
+            profile,
+            sheet.as_ptr(),
+            sheet.len(),
+            list.as_ptr(),
+            list.len(),
+            room.as_mut_ptr(),
+            room.len(),
+            velocities.as_ptr(),
+            velocities.len(),
+            marks.as_ptr(),
+            marks.len(),
+            grid.as_ptr(),
+            grid.len(),
+        )
+    })
 }
 
 pub fn found(grid: &[u8], lam: f64, phi: f64) -> Found {
