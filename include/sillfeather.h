@@ -18,8 +18,8 @@
  * A RESULT of type uint32_t is 0 where the call is done. Otherwise the call is refused: the result
  * is the refusal's number plus 65536 times the step, which is counted from 1 and is 0 where no step
  * is to blame. A refused call leaves all the memory lent to it as it was, but that `counts` and
- * `out_of_reach` get zeros, and `*redone`, `*counted` and `*changed` 0. A refusal is given exactly when its rule is broken and no
- * rule before it in the function's order is.
+ * `out_of_reach` get zeros, and `*redone`, `*counted` and `*changed` 0. A refusal is given exactly
+ * when its rule is broken and no rule before it in the function's order is.
  *
  * WHAT IS PROVED. For each function, and for every input, that the result and the memory afterwards
  * are what its definition says (crates/sillfeather, crates/reach_entries, crates/closure_entries and
@@ -43,7 +43,7 @@
  *   Stack     sillfeather_check needs up to 4 kB of stack, sillfeather_shift up to 20 kB,
  *             sillfeather_keep up to 12 kB, sillfeather_correct up to 10 kB, and so does each of
  *             these by the name that ends in _reach; over columns sillfeather_shift_columns up to
- *             10 kB, the other two up to 6 kB; sillfeather_rescue up to 6 kB,
+ *             10 kB, the kept run's four functions up to 6 kB; sillfeather_rescue up to 6 kB,
  *             sillfeather_check_profile up to 4 kB, sillfeather_closure up to 20 kB,
  *             sillfeather_check_grid up to 4 kB, sillfeather_shift_grid and
  *             sillfeather_closure_grid up to 20 kB, each sillfeather_add_ function up to 32 kB.
@@ -221,6 +221,20 @@ uint32_t sillfeather_correct_columns(uint32_t inverse, const uint8_t *sheet, siz
                                      double *z, size_t z_len, double *t, size_t t_len, double *rx, size_t rx_len, double *ry, size_t ry_len,
                                      double *rz, size_t rz_len, double *rt, size_t rt_len, double *kx, size_t kx_len, double *ky, size_t ky_len,
                                      double *kz, size_t kz_len, double *kt, size_t kt_len, size_t index, const double fix[4], uint64_t *redone);
+
+/* The same two, telling as sillfeather_keep_reach and sillfeather_correct_reach do.
+ *   Writes    as the two above; *counted, *redone and *out_of_reach, the numbers of the list that the
+ *             columns stand for.
+ *   Leaves    on refusal 0 in *counted, *redone and *out_of_reach, and all else as it was. */
+uint32_t sillfeather_keep_columns_reach(uint32_t inverse, const uint8_t *sheet, size_t sheet_len, const double *x, size_t x_len, const double *y,
+                                        size_t y_len, const double *z, size_t z_len, const double *t, size_t t_len, double *rx, size_t rx_len, double *ry,
+                                        size_t ry_len, double *rz, size_t rz_len, double *rt, size_t rt_len, double *kx, size_t kx_len, double *ky,
+                                        size_t ky_len, double *kz, size_t kz_len, double *kt, size_t kt_len, uint64_t *counted, uint64_t *out_of_reach);
+uint32_t sillfeather_correct_columns_reach(uint32_t inverse, const uint8_t *sheet, size_t sheet_len, double *x, size_t x_len, double *y, size_t y_len,
+                                           double *z, size_t z_len, double *t, size_t t_len, double *rx, size_t rx_len, double *ry, size_t ry_len,
+                                           double *rz, size_t rz_len, double *rt, size_t rt_len, double *kx, size_t kx_len, double *ky, size_t ky_len,
+                                           double *kz, size_t kz_len, double *kt, size_t kt_len, size_t index, const double fix[4], uint64_t *redone,
+                                           uint64_t *out_of_reach);
 
 /* ----- making a sheet ------------------------------------------------------------------------ */
 

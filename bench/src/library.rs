@@ -147,7 +147,7 @@ pub fn keep_columns(sheet: &[u8], list: [&[f64]; 4], [results, track]: [[&mut [f
 
 /// How many fixes were redone.
 pub fn correct_columns(sheet: &[u8], lists: [[&mut [f64]; 4]; 3], index: usize, fix: &[f64; 4]) -> u64 {
-    let mut redone = 0;
-    assert_eq!(columns::correct(false, sheet, lists, index, fix, &mut redone), 0);
+    let (told, redone) = columns::correct(false, sheet, lists, index, fix);
+    assert_eq!(told, 0);
     redone
 }

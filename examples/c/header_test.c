@@ -672,6 +672,138 @@ static void refused_kept_runs(void) {
     result_is("keep of an empty list, by null pointers", sillfeather_keep(0, r.at, (size_t)r.len, NULL, 0, NULL, 0, NULL, 0), 0, 0);
 }
 
+/* ----- kept runs over columns ------------------------------------------------------------------------------------------------------------------------------------------ */
+
+/* the columns of list, results and track, each with a number behind it that no call may touch */
+enum { ROOM = FIXES + 1 };
+static const double BEHIND = 77.0;
+
+struct kept_columns {
+    double of[3][4][ROOM];
+};
+
+static void to_columns(double columns[4][ROOM], const double *list) {
+    for (int i = 0; i < N; i++) columns[i % 4][i / 4] = list[i];
+    for (int k = 0; k < 4; k++) columns[k][FIXES] = BEHIND;
+}
+
+static int columns_hold(double columns[4][ROOM], const double *list) {
+    double flat[N];
+    int behind = 1;
+    for (int i = 0; i < N; i++) flat[i] = columns[i % 4][i / 4];
+    for (int k = 0; k < 4; k++) behind &= columns[k][FIXES] == BEHIND;
+    return behind && same_doubles(flat, list, N);
+}
+
+#define FOUR(columns, rows) (columns)[0], (rows)[0], (columns)[1], (rows)[1], (columns)[2], (rows)[2], (columns)[3], (rows)[3]
+#define TWELVE(kept, rows) FOUR((kept)->of[0], rows[0]), FOUR((kept)->of[1], rows[1]), FOUR((kept)->of[2], rows[2])
+
+static const size_t WHOLE[3][4] = {{FIXES, FIXES, FIXES, FIXES}, {FIXES, FIXES, FIXES, FIXES}, {FIXES, FIXES, FIXES, FIXES}};
+
+/* exact, and a radian a year from 2000 on: of a_fix's times -0.0 is out of reach, and a missing one
+ * where the mode is running */
+static void turning(struct room *r, uint32_t flags) {
+    struct sillfeather_helmert h = SILLFEATHER_HELMERT_BLANK;
+    h.drxyz[0] = 206264.80624709636;
+    h.t_epoch = 2000.0;
+    fresh(r);
+    sillfeather_add_helmert(r->at, SILLFEATHER_SHEET_MAX, &r->len, 0, SILLFEATHER_HELMERT_EXACT + flags, SILLFEATHER_POSITION_VECTOR, SILLFEATHER_NUMBERS(&h));
+}
+
+static uint64_t far_between(const double *list, size_t from, size_t to, uint32_t flags) {
+    uint64_t met = 0;
+    for (size_t i = from; i < to; i++) met += list[4 * i + 3] == 0.0 || (isnan(list[4 * i + 3]) && flags == 0);
+    return met;
+}
+
+static void kept_runs_over_columns(void) {
+    static struct room r;
+    for (uint32_t flags = 0; flags <= SILLFEATHER_HELMERT_OWN_EPOCH; flags += SILLFEATHER_HELMERT_OWN_EPOCH)
+        for (uint32_t inverse = 0; inverse < 2; inverse++) {
+            turning(&r, flags);
+            size_t len = (size_t)r.len;
+            static struct kept_columns kept, plain;
+            double list[N], results[N], track[N], nothing[N] = {0};
+            uint64_t counted = 99, met = 99, flat_counted = 98, flat_met = 98, timed = 0;
+            for (int i = 0; i < FIXES; i++) {
+                a_fix(list + 4 * i);
+                timed += flags == 0 || !isnan(list[4 * i + 3]);
+            }
+            to_columns(kept.of[0], list);
+            to_columns(kept.of[1], nothing);
+            to_columns(kept.of[2], nothing);
+            plain = kept;
+            sillfeather_keep_reach(inverse, r.at, len, list, N, results, N, track, N, &flat_counted, &flat_met);
+            result_is("keep over columns, with the numbers",
+                      sillfeather_keep_columns_reach(inverse, r.at, len, TWELVE(&kept, WHOLE), &counted, &met), 0, 0);
+            holds("its numbers are the flat run's, and those counted by hand",
+                  counted == flat_counted && met == flat_met && counted == timed && met == far_between(list, 0, FIXES, flags));
+            holds("its columns are the flat run's lists, and nothing behind them is written",
+                  columns_hold(kept.of[0], list) && columns_hold(kept.of[1], results) && columns_hold(kept.of[2], track));
+            result_is("keep over columns", sillfeather_keep_columns(inverse, r.at, len, TWELVE(&plain, WHOLE)), 0, 0);
+            holds("without the numbers the same columns", columns_hold(plain.of[1], results) && columns_hold(plain.of[2], track));
+            int same = 1, stretch = 1, some = 0;
+            for (int k = 0; k < 100; k++) {
+                double fix[4];
+                uint64_t redone = 99, plain_redone = 98, flat_redone = 97;
+                size_t index = draw(FIXES);
+                a_fix(fix);
+                met = 99;
+                uint32_t told = sillfeather_correct_reach(inverse, r.at, len, list, N, results, N, track, N, index, fix, &flat_redone, &flat_met);
+                told |= sillfeather_correct_columns_reach(inverse, r.at, len, TWELVE(&kept, WHOLE), index, fix, &redone, &met);
+                told |= sillfeather_correct_columns(inverse, r.at, len, TWELVE(&plain, WHOLE), index, fix, &plain_redone);
+                same &= told == 0 && redone == flat_redone && redone == plain_redone && met == flat_met;
+                for (int of = 0; of < 3; of++) {
+                    const double *flat = of == 0 ? list : of == 1 ? results : track;
+                    same &= columns_hold(kept.of[of], flat) && columns_hold(plain.of[of], flat);
+                }
+                stretch &= met == far_between(list, index, index + (size_t)redone, flags);
+                some |= met > 0;
+            }
+            holds("100 corrections over columns: the flat ones' answers, numbers and lists", same);
+            holds("the fixes redone that are out of reach, by hand", stretch && some);
+        }
+}
+
+/* a column a row shorter than the others, an index past the end, a sheet cut short: zeros, and every column as it was */
+static void refused_kept_columns(void) {
+    static struct room r;
+    static struct kept_columns kept, was;
+    const double fix[4] = {9, 9, 9, 9};
+    for (int of = 0; of < 3; of++)
+        for (int k = 0; k < 4; k++)
+            for (int i = 0; i < ROOM; i++) kept.of[of][k][i] = of + 0.5 * k + i;
+    was = kept;
+    turning(&r, 0);
+    uint64_t counted, redone, met;
+#define REFUSED(what, number, sheet_len, rows, index)                                                                                                        \
+    do {                                                                                                                                                     \
+        counted = redone = met = 12345;                                                                                                                      \
+        if (index < FIXES) {                                                                                                                                 \
+            result_is("keep over columns: " what, sillfeather_keep_columns_reach(0, r.at, sheet_len, TWELVE(&kept, rows), &counted, &met), number, 0);        \
+            holds("keep over columns: " what " leaves zeros", counted == 0 && met == 0);                                                                     \
+            result_is("without the numbers: " what, sillfeather_keep_columns(0, r.at, sheet_len, TWELVE(&kept, rows)), number, 0);                           \
+            met = 12345;                                                                                                                                     \
+        }                                                                                                                                                    \
+        result_is("correct over columns: " what,                                                                                                             \
+                  sillfeather_correct_columns_reach(0, r.at, sheet_len, TWELVE(&kept, rows), index, fix, &redone, &met), number, 0);                         \
+        holds("correct over columns: " what " leaves zeros", redone == 0 && met == 0);                                                                       \
+        redone = 12345;                                                                                                                                      \
+        result_is("without the number: " what, sillfeather_correct_columns(0, r.at, sheet_len, TWELVE(&kept, rows), index, fix, &redone), number, 0);        \
+        holds(what " leaves the columns", redone == 0 && memcmp(&kept, &was, sizeof was) == 0);                                                              \
+    } while (0)
+    for (int of = 0; of < 3; of++)
+        for (int k = 0; k < 4; k++) {
+            size_t rows[3][4];
+            memcpy(rows, WHOLE, sizeof rows);
+            rows[of][k]--;
+            REFUSED("a column too short", of == 0 ? 9 : 13, (size_t)r.len, rows, 0);
+        }
+    REFUSED("an index past the columns", 14, (size_t)r.len, WHOLE, FIXES);
+    REFUSED("a sheet cut short", 1, (size_t)r.len - 1, WHOLE, 0);
+#undef REFUSED
+}
+
 /* ----- kernels --------------------------------------------------------------------------------------------------------------------------------------------------------- */
 
 static void kernels(void) {
@@ -1042,6 +1174,8 @@ int main(void) {
     blank_helmert();
     missing_times();
     refused_kept_runs();
+    kept_runs_over_columns();
+    refused_kept_columns();
     rescues();
     closures();
     grids();

@@ -107,19 +107,26 @@ static uint32_t shift_columns(void) {
 }
 
 static uint32_t keep_columns(void) {
+    uint64_t counted, out_of_reach;
     uint32_t told = 0;
-    for (int own = 0; own < 2; own++)
+    for (int own = 0; own < 2; own++) {
         told |= sillfeather_keep_columns(0, helmerts[own], (size_t)helmerts_len[own], LENT(columns[0], ROWS), LENT(columns[1], ROWS), LENT(columns[2], ROWS));
+        told |= sillfeather_keep_columns_reach(0, helmerts[own], (size_t)helmerts_len[own], LENT(columns[0], ROWS), LENT(columns[1], ROWS),
+                                               LENT(columns[2], ROWS), &counted, &out_of_reach);
+    }
     return told;
 }
 
 static uint32_t correct_columns(void) {
     const double fix[4] = {1, 2, 3, 2001};
-    uint64_t redone;
+    uint64_t redone, out_of_reach;
     uint32_t told = 0;
-    for (int own = 0; own < 2; own++)
+    for (int own = 0; own < 2; own++) {
         told |= sillfeather_correct_columns(0, helmerts[own], (size_t)helmerts_len[own], LENT(columns[0], ROWS), LENT(columns[1], ROWS), LENT(columns[2], ROWS), 3, fix,
                                 &redone);
+        told |= sillfeather_correct_columns_reach(0, helmerts[own], (size_t)helmerts_len[own], LENT(columns[0], ROWS), LENT(columns[1], ROWS),
+                                                  LENT(columns[2], ROWS), 3, fix, &redone, &out_of_reach);
+    }
     return told;
 }
 

@@ -88,6 +88,70 @@ unsafe extern "C" {
         redone: *mut u64,
         out_of_reach: *mut u64,
     ) -> u32;
+    fn sillfeather_keep_columns_reach(
+        inverse: u32,
+        sheet: *const u8,
+        sheet_len: usize,
+        x: *const f64,
+        x_len: usize,
+        y: *const f64,
+        y_len: usize,
+        z: *const f64,
+        z_len: usize,
+        t: *const f64,
+        t_len: usize,
+        rx: *mut f64,
+        rx_len: usize,
+        ry: *mut f64,
+        ry_len: usize,
+        rz: *mut f64,
+        rz_len: usize,
+        rt: *mut f64,
+        rt_len: usize,
+        kx: *mut f64,
+        kx_len: usize,
+        ky: *mut f64,
+        ky_len: usize,
+        kz: *mut f64,
+        kz_len: usize,
+        kt: *mut f64,
+        kt_len: usize,
+        counted: *mut u64,
+        out_of_reach: *mut u64,
+    ) -> u32;
+    fn sillfeather_correct_columns_reach(
+        inverse: u32,
+        sheet: *const u8,
+        sheet_len: usize,
+        x: *mut f64,
+        x_len: usize,
+        y: *mut f64,
+        y_len: usize,
+        z: *mut f64,
+        z_len: usize,
+        t: *mut f64,
+        t_len: usize,
+        rx: *mut f64,
+        rx_len: usize,
+        ry: *mut f64,
+        ry_len: usize,
+        rz: *mut f64,
+        rz_len: usize,
+        rt: *mut f64,
+        rt_len: usize,
+        kx: *mut f64,
+        kx_len: usize,
+        ky: *mut f64,
+        ky_len: usize,
+        kz: *mut f64,
+        kz_len: usize,
+        kt: *mut f64,
+        kt_len: usize,
+        index: usize,
+        fix: *const f64,
+        redone: *mut u64,
+        out_of_reach: *mut u64,
+    ) -> u32;
     fn sillfeather_keep(
         inverse: u32,
         sheet: *const u8,
@@ -328,6 +392,52 @@ pub fn keep_reach(inverse: u32, sheet: &[u8], list: &[f64], results: &mut [f64],
     (told, [counted, out_of_reach])
 }
 
+/// The same over columns.
+pub fn keep_columns(
+    inverse: u32,
+    sheet: &[u8],
+    [x, y, z, t]: [&[f64]; 4],
+    [rx, ry, rz, rt]: [&mut [f64]; 4],
+    [kx, ky, kz, kt]: [&mut [f64]; 4],
+) -> (u32, [u64; 2]) {
+    let [mut counted, mut out_of_reach] = [0; 2];
+    // SAFETY: slices with their lengths; the columns of results and track, each borrowed mutably, and two numbers of our own are written.
+    let told = unsafe {
+        sillfeather_keep_columns_reach(
+            inverse,
+            sheet.as_ptr(),
+            sheet.len(),
+            x.as_ptr(),
+            x.len(),
+            y.as_ptr(),
+            y.len(),
+            z.as_ptr(),
+            z.len(),
+            t.as_ptr(),
+            t.len(),
+            rx.as_mut_ptr(),
+            rx.len(),
+            ry.as_mut_ptr(),
+            ry.len(),
+            rz.as_mut_ptr(),
+            rz.len(),
+            rt.as_mut_ptr(),
+            rt.len(),
+            kx.as_mut_ptr(),
+            kx.len(),
+            ky.as_mut_ptr(),
+            ky.len(),
+            kz.as_mut_ptr(),
+            kz.len(),
+            kt.as_mut_ptr(),
+            kt.len(),
+            &mut counted,
+            &mut out_of_reach,
+        )
+    };
+    (told, [counted, out_of_reach])
+}
+
 /// The answer; how many fixes were redone, and how many of them were out of reach.
 pub fn correct_reach(
     inverse: u32,
@@ -351,6 +461,55 @@ pub fn correct_reach(
             results.len(),
             track.as_mut_ptr(),
             track.len(),
+            index,
+            fix.as_ptr(),
+            &mut redone,
+            &mut out_of_reach,
+        )
+    };
+    (told, [redone, out_of_reach])
+}
+
+/// The same over columns.
+pub fn correct_columns(
+    inverse: u32,
+    sheet: &[u8],
+    [[x, y, z, t], [rx, ry, rz, rt], [kx, ky, kz, kt]]: [[&mut [f64]; 4]; 3],
+    index: usize,
+    fix: &[f64; 4],
+) -> (u32, [u64; 2]) {
+    let [mut redone, mut out_of_reach] = [0; 2];
+    // SAFETY: slices with their lengths and four numbers; the columns of list, results and track, each borrowed mutably, and two numbers of our own are
+    // written.
+    let told = unsafe {
+        sillfeather_correct_columns_reach(
+            inverse,
+            sheet.as_ptr(),
+            sheet.len(),
+            x.as_mut_ptr(),
+            x.len(),
+            y.as_mut_ptr(),
+            y.len(),
+            z.as_mut_ptr(),
+            z.len(),
+            t.as_mut_ptr(),
+            t.len(),
+            rx.as_mut_ptr(),
+            rx.len(),
+            ry.as_mut_ptr(),
+            ry.len(),
+            rz.as_mut_ptr(),
+            rz.len(),
+            rt.as_mut_ptr(),
+            rt.len(),
+            kx.as_mut_ptr(),
+            kx.len(),
+            ky.as_mut_ptr(),
+            ky.len(),
+            kz.as_mut_ptr(),
+            kz.len(),
+            kt.as_mut_ptr(),
+            kt.len(),
             index,
             fix.as_ptr(),
             &mut redone,

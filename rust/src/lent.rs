@@ -81,6 +81,20 @@ pub fn keep_reach(
     Ok(numbers)
 }
 
+/// [`keep_reach`] over columns: reads the list's four, writes the four of the results and of the track. Refused: 9 also where the list's are not of one
+/// length, 13 where another is not as long as they are.
+pub fn keep_columns(
+    direction: Direction,
+    sheet: &[u8],
+    list: [&[f64]; 4],
+    results: [&mut [f64]; 4],
+    track: [&mut [f64]; 4],
+) -> Result<[u64; 2], Refusal> {
+    let (told, numbers) = ffi::keep_columns(direction.word(), sheet, list, results, track);
+    Refusal::told(told)?;
+    Ok(numbers)
+}
+
 /// The correction of one fix of a kept run, by its index from 0: writes it into the list, and redoes as many fixes as it changes. Answers their number.
 ///
 /// If list, results and track came from a fresh run under the same sheet and direction, they end as a fresh run over the corrected list would leave them.
@@ -110,6 +124,21 @@ pub fn correct_reach(
     fix: [f64; 4],
 ) -> Result<[u64; 2], Refusal> {
     let (told, numbers) = ffi::correct_reach(direction.word(), sheet, list, results, track, index, &fix);
+    Refusal::told(told)?;
+    Ok(numbers)
+}
+
+/// [`correct_reach`] over the columns of list, results and track. Refused: as [`keep_columns`], and 14.
+pub fn correct_columns(
+    direction: Direction,
+    sheet: &[u8],
+    list: [&mut [f64]; 4],
+    results: [&mut [f64]; 4],
+    track: [&mut [f64]; 4],
+    index: usize,
+    fix: [f64; 4],
+) -> Result<[u64; 2], Refusal> {
+    let (told, numbers) = ffi::correct_columns(direction.word(), sheet, [list, results, track], index, &fix);
     Refusal::told(told)?;
     Ok(numbers)
 }

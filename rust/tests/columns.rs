@@ -1,4 +1,5 @@
-//! Four columns under sheets: the same answers and numbers as the fixes as a list, refusal 9, and that a refusal leaves every column.
+//! Four columns under sheets, and kept runs over columns: the same answers and numbers as the fixes as a list, refusals 9 and 13, and that a refusal leaves
+//! every column.
 mod common;
 use common::*;
 use sillfeather::*;
@@ -95,4 +96,70 @@ fn there_and_back() {
     held.columns().set(&fixes).unwrap();
     assert_eq!(held.bits(), Held::of(&fixes).bits());
     assert_eq!(bits(held.columns().fixes().unwrap().as_flattened()), bits(fixes.as_flattened()));
+}
+
+/// With exact angles, a turn of a radian a year from 2000 on: a time after 3024 is out of reach, and in running mode a missing one.
+fn turning() -> Helmert {
+    Helmert { exact: true, drxyz: [206264.80624709636, 0.0, 0.0], convention: Some(Convention::PositionVector), ..moving() }
+}
+
+#[test]
+fn kept_as_the_fixes_as_a_list() {
+    let still = Helmert { translation: [1.0, 2.0, 3.0], ..Helmert::BLANK };
+    for helmert in [turning(), Helmert { own_epoch: true, ..turning() }, moving(), still] {
+        let sheet = sheet_of(helmert);
+        for direction in [Direction::Forward, Direction::Inverse] {
+            for rows in [0, 1, 16, 40] {
+                let mut random = Random(11);
+                let mut fixes = drawn(rows);
+                fixes.iter_mut().skip(5).step_by(9).for_each(|fix| fix[3] = 4000.0);
+                let mut run = KeptRun::keep(&sheet, direction, &fixes).unwrap();
+                let [mut list, mut results, mut track] =
+                    [&fixes, &vec![[0.5; 4]; rows], &vec![[0.25; 4]; rows]].map(|of| Held::of(of));
+                let numbers = sheet.keep_columns(direction, &list.columns(), &mut results.columns(), &mut track.columns());
+                assert_eq!(numbers, run.numbers());
+                for k in 0..3 * rows {
+                    let fix = [1.0, 2.0, 3.0, random.one_of(&[2000.0, 2001.0, 4000.0, f64::NAN])];
+                    let (lists, index) = ((&mut list.columns(), &mut results.columns(), &mut track.columns()), k * 7 % rows);
+                    let told = sheet.correct_columns(direction, lists.0, lists.1, lists.2, index, fix);
+                    assert_eq!(told, run.correct_reach(index, fix));
+                    assert_same(&list.columns().fixes().unwrap(), run.list());
+                    assert_same(&results.columns().fixes().unwrap(), run.results());
+                    assert_same(&track.columns().fixes().unwrap(), run.track());
+                }
+                let [mut results, mut track] = [results, track];
+                let fresh = sheet.keep_columns(direction, &list.columns(), &mut results.columns(), &mut track.columns());
+                assert_eq!(fresh, run.numbers());
+            }
+        }
+    }
+}
+
+#[test]
+fn out_of_reach_over_a_stretch() {
+    let sheet = sheet_of(turning());
+    let [mut list, mut results, mut track] = [(); 3].map(|()| Held::of(&[2001.0, f64::NAN, 2001.0, 4000.0].map(at)));
+    let [list, results, track] = [&mut list.columns(), &mut results.columns(), &mut track.columns()];
+    assert_eq!(sheet.keep_columns(Direction::Forward, list, results, track), Ok([4, 2]));
+    assert_eq!(sheet.correct_columns(Direction::Forward, list, results, track, 0, at(4000.0)), Ok([2, 2]));
+    assert_eq!(sheet.correct_columns(Direction::Forward, list, results, track, 3, at(2002.0)), Ok([1, 0]));
+    assert_eq!(sheet.keep_columns(Direction::Forward, list, results, track), Ok([4, 2]));
+    assert_eq!(sheet.correct_columns(Direction::Forward, list, results, track, 4, at(2002.0)), Err(Refusal::Index));
+}
+
+#[test]
+fn kept_columns_of_unequal_length() {
+    let sheet = sheet_of(turning());
+    for way in 0..24 {
+        let mut held = [(); 3].map(|()| Held::of(&drawn(20)));
+        let Held { x, y, z, t } = &mut held[way / 8];
+        [x, y, z, t][way / 2 % 4].resize(if way % 2 == 0 { 19 } else { 21 }, 0.5);
+        let before = held.each_ref().map(Held::bits);
+        let refusal = Err(if way < 8 { Refusal::List } else { Refusal::KeptLength });
+        let [list, results, track] = held.each_mut().map(Held::columns);
+        let [list, results, track] = [&mut { list }, &mut { results }, &mut { track }];
+        assert_eq!(sheet.keep_columns(Direction::Forward, list, results, track), refusal);
+        assert_eq!(sheet.correct_columns(Direction::Forward, list, results, track, 0, at(2001.0)), refusal);
+        assert_eq!(held.each_ref().map(Held::bits), before);
+    }
 }

@@ -16,6 +16,13 @@ uint32_t sillfeather_shift_columns(uint32_t, const uint8_t *, size_t, double *, 
 uint32_t sillfeather_keep_reach(uint32_t, const uint8_t *, size_t, const double *, size_t, double *, size_t, double *, size_t, uint64_t *, uint64_t *);
 uint32_t sillfeather_correct_reach(uint32_t, const uint8_t *, size_t, double *, size_t, double *, size_t, double *, size_t, size_t, const double[4], uint64_t *,
                                    uint64_t *);
+uint32_t sillfeather_keep_columns_reach(uint32_t, const uint8_t *, size_t, const double *, size_t, const double *, size_t, const double *, size_t, const double *, size_t,
+                                        double *, size_t, double *, size_t, double *, size_t, double *, size_t,
+                                        double *, size_t, double *, size_t, double *, size_t, double *, size_t, uint64_t *, uint64_t *);
+uint32_t sillfeather_correct_columns_reach(uint32_t, const uint8_t *, size_t, double *, size_t, double *, size_t, double *, size_t, double *, size_t,
+                                           double *, size_t, double *, size_t, double *, size_t, double *, size_t,
+                                           double *, size_t, double *, size_t, double *, size_t, double *, size_t, size_t, const double[4], uint64_t *,
+                                           uint64_t *);
 uint32_t sillfeather_keep(uint32_t, const uint8_t *, size_t, const double *, size_t, double *, size_t, double *, size_t);
 uint32_t sillfeather_correct(uint32_t, const uint8_t *, size_t, double *, size_t, double *, size_t, double *, size_t, size_t, const double[4], uint64_t *);
 uint32_t sillfeather_add_helmert(uint8_t *, size_t, uint64_t *, uint32_t, uint32_t, uint32_t, const double[30]);

@@ -17,6 +17,7 @@ ghost use Rattle.arrays.specs.Arrays.{tupleOf};
 ghost use Rattle.kept.specs.Entries.{keepRefusalOf, keepOf, correctOf};
 ghost use Rattle.kept_columns.specs.Columns.{keepColumnsRefusalOf, keepColumnsOf, correctColumnsOf};
 ghost use Rattle.kept_reach.specs.Reach.{keepTallyOf, stretchMetOf};
+ghost use Rattle.kept_columns_reach.specs.Reach.{keepColumnsTallyOf, stretchColumnsMetOf};
 ghost use Rattle.codes.specs.Codes.{codeOf, isInverse};
 ghost use Rattle.trig.specs.Trig.{angleOf};
 ghost use Rattle.reach_entries.specs.Codes.{sineTold, sineToldOf, shiftTold, shiftToldOf, columnsTold, columnsToldOf, correctTold, correctToldOf, correctColumnsTold, correctColumnsToldOf};
@@ -185,6 +186,65 @@ pub extern "C" fn sillfeather_keep_columns(
     codes::code(kept_columns::keep(inverse != 0, s, x, y, z, t, rx, ry, rz, rt, kx, ky, kz, kt))
 }
 
+// The same, telling as sillfeather_keep_reach does.
+#[no_mangle]
+pub extern "C" fn sillfeather_keep_columns_reach(
+    inverse: u32,
+    s: &[u8],
+    x: &[f64],
+    y: &[f64],
+    z: &[f64],
+    t: &[f64],
+    rx: &mut [f64],
+    ry: &mut [f64],
+    rz: &mut [f64],
+    rt: &mut [f64],
+    kx: &mut [f64],
+    ky: &mut [f64],
+    kz: &mut [f64],
+    kt: &mut [f64],
+    counted: &mut u64,
+    met: &mut u64,
+) -> u32
+    ensures { λ r. ⌜ (r ≡ codeOf (keepColumnsRefusalOf (now (s .entry)) (keptColumns (columns (now (x .entry)) (now (y .entry)) (now (z .entry)) (now (t .entry)))
+        (columns (now (rx .entry)) (now (ry .entry)) (now (rz .entry)) (now (rt .entry)))
+        (columns (now (kx .entry)) (now (ky .entry)) (now (kz .entry)) (now (kt .entry))))))
+        × (now (counted .exit) ≡ keepColumnsTallyOf (isInverse inverse) (now (s .entry)) (keptColumns (columns (now (x .entry)) (now (y .entry)) (now (z .entry)) (now (t .entry)))
+        (columns (now (rx .entry)) (now (ry .entry)) (now (rz .entry)) (now (rt .entry)))
+        (columns (now (kx .entry)) (now (ky .entry)) (now (kz .entry)) (now (kt .entry)))) .count)
+        × (now (met .exit) ≡ keepColumnsTallyOf (isInverse inverse) (now (s .entry)) (keptColumns (columns (now (x .entry)) (now (y .entry)) (now (z .entry)) (now (t .entry)))
+        (columns (now (rx .entry)) (now (ry .entry)) (now (rz .entry)) (now (rt .entry)))
+        (columns (now (kx .entry)) (now (ky .entry)) (now (kz .entry)) (now (kt .entry)))) .met)
+        × (keptColumns (columns (now (x .entry)) (now (y .entry)) (now (z .entry)) (now (t .entry)))
+        (columns (now (rx .exit)) (now (ry .exit)) (now (rz .exit)) (now (rt .exit)))
+        (columns (now (kx .exit)) (now (ky .exit)) (now (kz .exit)) (now (kt .exit)))
+        ≡ keepColumnsOf (isInverse inverse) (now (s .entry)) (keptColumns (columns (now (x .entry)) (now (y .entry)) (now (z .entry)) (now (t .entry)))
+        (columns (now (rx .entry)) (now (ry .entry)) (now (rz .entry)) (now (rt .entry)))
+        (columns (now (kx .entry)) (now (ky .entry)) (now (kz .entry)) (now (kt .entry))))) ⌝ }
+{
+    let told = kept_columns_reach::keep_reach(
+        inverse != 0,
+        s,
+        x,
+        y,
+        z,
+        t,
+        rx,
+        ry,
+        rz,
+        rt,
+        kx,
+        ky,
+        kz,
+        kt,
+    );
+    let refusal = told.refusal;
+    let rows = told.tally;
+    *counted = rows.count as u64;
+    *met = rows.met as u64;
+    codes::code(refusal)
+}
+
 // Corrects one fix of a kept run over columns; `redone` gets how many fixes were, 0 on refusal.
 #[no_mangle]
 pub extern "C" fn sillfeather_correct_columns(
@@ -233,5 +293,62 @@ pub extern "C" fn sillfeather_correct_columns(
     );
     let refusal = answer.refusal;
     *redone = answer.redone;
+    codes::code(refusal)
+}
+
+// The same, telling as sillfeather_correct_reach does.
+#[no_mangle]
+pub extern "C" fn sillfeather_correct_columns_reach(
+    inverse: u32,
+    s: &[u8],
+    x: &mut [f64],
+    y: &mut [f64],
+    z: &mut [f64],
+    t: &mut [f64],
+    rx: &mut [f64],
+    ry: &mut [f64],
+    rz: &mut [f64],
+    rt: &mut [f64],
+    kx: &mut [f64],
+    ky: &mut [f64],
+    kz: &mut [f64],
+    kt: &mut [f64],
+    index: usize,
+    fix: &[f64; 4],
+    redone: &mut u64,
+    met: &mut u64,
+) -> u32
+    ensures { λ r. ⌜ (correctColumnsTold r (now (redone .exit)) (keptColumns (columns (now (x .exit)) (now (y .exit)) (now (z .exit)) (now (t .exit)))
+        (columns (now (rx .exit)) (now (ry .exit)) (now (rz .exit)) (now (rt .exit)))
+        (columns (now (kx .exit)) (now (ky .exit)) (now (kz .exit)) (now (kt .exit))))
+        ≡ correctColumnsToldOf (correctColumnsOf (isInverse inverse) (now (s .entry)) (keptColumns (columns (now (x .entry)) (now (y .entry)) (now (z .entry)) (now (t .entry)))
+        (columns (now (rx .entry)) (now (ry .entry)) (now (rz .entry)) (now (rt .entry)))
+        (columns (now (kx .entry)) (now (ky .entry)) (now (kz .entry)) (now (kt .entry)))) index (tupleOf (now (fix .entry)))))
+        × (now (met .exit) ≡ stretchColumnsMetOf (isInverse inverse) (now (s .entry)) (keptColumns (columns (now (x .entry)) (now (y .entry)) (now (z .entry)) (now (t .entry)))
+        (columns (now (rx .entry)) (now (ry .entry)) (now (rz .entry)) (now (rt .entry)))
+        (columns (now (kx .entry)) (now (ky .entry)) (now (kz .entry)) (now (kt .entry)))) index (tupleOf (now (fix .entry)))) ⌝ }
+{
+    let answer = kept_columns_reach::correct_reach(
+        inverse != 0,
+        s,
+        x,
+        y,
+        z,
+        t,
+        rx,
+        ry,
+        rz,
+        rt,
+        kx,
+        ky,
+        kz,
+        kt,
+        index,
+        arrays::tuple_of(fix),
+    );
+    let rows = answer.corrected;
+    let refusal = rows.refusal;
+    *redone = rows.redone;
+    *met = answer.met;
     codes::code(refusal)
 }

@@ -58,6 +58,37 @@ unsafe extern "C" {
         track_t: *mut f64,
         track_t_len: usize,
     ) -> u32;
+    fn sillfeather_keep_columns_reach(
+        inverse: u32,
+        sheet: *const u8,
+        sheet_len: usize,
+        x: *const f64,
+        x_len: usize,
+        y: *const f64,
+        y_len: usize,
+        z: *const f64,
+        z_len: usize,
+        t: *const f64,
+        t_len: usize,
+        results_x: *mut f64,
+        results_x_len: usize,
+        results_y: *mut f64,
+        results_y_len: usize,
+        results_z: *mut f64,
+        results_z_len: usize,
+        results_t: *mut f64,
+        results_t_len: usize,
+        track_x: *mut f64,
+        track_x_len: usize,
+        track_y: *mut f64,
+        track_y_len: usize,
+        track_z: *mut f64,
+        track_z_len: usize,
+        track_t: *mut f64,
+        track_t_len: usize,
+        counted: *mut u64,
+        out_of_reach: *mut u64,
+    ) -> u32;
     fn sillfeather_correct_columns(
         inverse: u32,
         sheet: *const u8,
@@ -89,6 +120,39 @@ unsafe extern "C" {
         index: usize,
         fix: *const f64,
         redone: *mut u64,
+    ) -> u32;
+    fn sillfeather_correct_columns_reach(
+        inverse: u32,
+        sheet: *const u8,
+        sheet_len: usize,
+        x: *mut f64,
+        x_len: usize,
+        y: *mut f64,
+        y_len: usize,
+        z: *mut f64,
+        z_len: usize,
+        t: *mut f64,
+        t_len: usize,
+        results_x: *mut f64,
+        results_x_len: usize,
+        results_y: *mut f64,
+        results_y_len: usize,
+        results_z: *mut f64,
+        results_z_len: usize,
+        results_t: *mut f64,
+        results_t_len: usize,
+        track_x: *mut f64,
+        track_x_len: usize,
+        track_y: *mut f64,
+        track_y_len: usize,
+        track_z: *mut f64,
+        track_z_len: usize,
+        track_t: *mut f64,
+        track_t_len: usize,
+        index: usize,
+        fix: *const f64,
+        redone: *mut u64,
+        out_of_reach: *mut u64,
     ) -> u32;
 }
 
@@ -143,7 +207,24 @@ pub fn shift(
     }
 }
 
-/// A fresh kept run over columns.
+/// A call of a kept run's entry: the list's columns by `$list`, those of results and track to be
+/// written, then what else it takes.
+macro_rules! kept {
+    ($entry:ident, $inverse:expr, $sheet:expr, $list:ident [$($read:ident)*], [$($written:ident)*] $(, $more:expr)*) => {
+        unsafe {
+            $entry(
+                $inverse as u32,
+                $sheet.as_ptr(),
+                $sheet.len(),
+                $($read.$list(), $read.len(),)*
+                $($written.as_mut_ptr(), $written.len(),)*
+                $($more),*
+            )
+        }
+    };
+}
+
+/// A fresh kept run over columns; the refusal as C gets it.
 pub fn keep(
     inverse: bool,
     sheet: &[u8],
@@ -151,82 +232,56 @@ pub fn keep(
     [rx, ry, rz, rt]: [&mut [f64]; 4],
     [kx, ky, kz, kt]: [&mut [f64]; 4],
 ) -> u32 {
-    unsafe {
-        sillfeather_keep_columns(
-            inverse as u32,
-            sheet.as_ptr(),
-            sheet.len(),
-            x.as_ptr(),
-            x.len(),
-            y.as_ptr(),
-            y.len(),
-            z.as_ptr(),
-            z.len(),
-            t.as_ptr(),
-            t.len(),
-            rx.as_mut_ptr(),
-            rx.len(),
-            ry.as_mut_ptr(),
-            ry.len(),
-            rz.as_mut_ptr(),
-            rz.len(),
-            rt.as_mut_ptr(),
-            rt.len(),
-            kx.as_mut_ptr(),
-            kx.len(),
-            ky.as_mut_ptr(),
-            ky.len(),
-            kz.as_mut_ptr(),
-            kz.len(),
-            kt.as_mut_ptr(),
-            kt.len(),
-        )
-    }
+    kept!(sillfeather_keep_columns, inverse, sheet, as_ptr [x y z t], [rx ry rz rt kx ky kz kt])
 }
 
-/// A correction over the columns of list, results and track; the refusal as C gets it.
+/// The same; and how many fixes were counted, and how many met an angle out of reach.
+pub fn keep_reach(
+    inverse: bool,
+    sheet: &[u8],
+    [x, y, z, t]: [&[f64]; 4],
+    [rx, ry, rz, rt]: [&mut [f64]; 4],
+    [kx, ky, kz, kt]: [&mut [f64]; 4],
+) -> (u32, [u64; 2]) {
+    let [mut counted, mut out_of_reach] = [u64::MAX; 2]; // written, refused or not
+    let told = kept!(
+        sillfeather_keep_columns_reach, inverse, sheet, as_ptr [x y z t], [rx ry rz rt kx ky kz kt],
+        &mut counted, &mut out_of_reach
+    );
+    (told, [counted, out_of_reach])
+}
+
+/// A correction over the columns of list, results and track; the refusal as C gets it, and how many
+/// fixes were redone.
 pub fn correct(
     inverse: bool,
     sheet: &[u8],
     [[x, y, z, t], [rx, ry, rz, rt], [kx, ky, kz, kt]]: [[&mut [f64]; 4]; 3],
     index: usize,
     fix: &[f64; 4],
-    redone: &mut u64,
-) -> u32 {
-    unsafe {
-        sillfeather_correct_columns(
-            inverse as u32,
-            sheet.as_ptr(),
-            sheet.len(),
-            x.as_mut_ptr(),
-            x.len(),
-            y.as_mut_ptr(),
-            y.len(),
-            z.as_mut_ptr(),
-            z.len(),
-            t.as_mut_ptr(),
-            t.len(),
-            rx.as_mut_ptr(),
-            rx.len(),
-            ry.as_mut_ptr(),
-            ry.len(),
-            rz.as_mut_ptr(),
-            rz.len(),
-            rt.as_mut_ptr(),
-            rt.len(),
-            kx.as_mut_ptr(),
-            kx.len(),
-            ky.as_mut_ptr(),
-            ky.len(),
-            kz.as_mut_ptr(),
-            kz.len(),
-            kt.as_mut_ptr(),
-            kt.len(),
-            index,
-            fix.as_ptr(),
-            redone,
-        )
-    }
+) -> (u32, u64) {
+    let mut redone = u64::MAX; // written, refused or not
+    let told = kept!(
+        sillfeather_correct_columns, inverse, sheet, as_mut_ptr [x y z t], [rx ry rz rt kx ky kz kt],
+        index, fix.as_ptr(), &mut redone
+    );
+    (told, redone)
+}
+
+/// The same; and how many of those met an angle out of reach.
+pub fn correct_reach(
+    inverse: bool,
+    sheet: &[u8],
+    [[x, y, z, t], [rx, ry, rz, rt], [kx, ky, kz, kt]]: [[&mut [f64]; 4]; 3],
+    index: usize,
+    fix: &[f64; 4],
+) -> (u32, [u64; 2]) {
+    let [mut redone, mut out_of_reach] = [u64::MAX; 2]; // written, refused or not
+    let told = kept!(
+        sillfeather_correct_columns_reach, inverse, sheet, as_mut_ptr [x y z t], [rx ry rz rt kx ky kz kt],
+        index, fix.as_ptr(), &mut redone, &mut out_of_reach
+    );
+    (told, [redone, out_of_reach])
 }
 
 // ----- the flat entry beside the columns entry ---------------------------------------------
@@ -287,46 +342,60 @@ fn whole(before: &[Vec<f64>; 3]) -> bool {
     before.iter().all(|list| list.len() % 4 == 0)
 }
 
-pub fn keeps_alike(inverse: bool, sheet: &[u8], before: &[Vec<f64>; 3], (told, after): (u32, [&[f64]; 3])) {
+/// A kept run through the columns entry, and through the one that tells the numbers.
+pub fn keeps_alike(inverse: bool, sheet: &[u8], before: &[Vec<f64>; 3], (told, numbers, after): (u32, [u64; 2], [&[f64]; 3])) {
     if !whole(before) {
         return;
     }
-    let [list, mut results, mut track] = [0, 1, 2].map(|k| columns(&before[k]));
-    let said = keep(inverse, sheet, read(&list), write(&mut results), write(&mut track));
-    assert_eq!(told, said, "a kept run's answer through columns");
-    if told == 0 {
-        same("kept results", &results, after[1], is_time);
-        same("a kept track", &track, after[2], |_| false);
-    } else {
-        for (columns, k) in [(&results, 1), (&track, 2)] {
-            same_memory("a refused kept run", columns, &before[k]);
-            same_memory("a refused kept run, flat", columns, after[k]);
+    for reach in [false, true] {
+        let [list, mut results, mut track] = [0, 1, 2].map(|k| columns(&before[k]));
+        if reach {
+            let said = keep_reach(inverse, sheet, read(&list), write(&mut results), write(&mut track));
+            assert_eq!((told, numbers), said, "a kept run's answer and numbers through columns");
+        } else {
+            let said = keep(inverse, sheet, read(&list), write(&mut results), write(&mut track));
+            assert_eq!(told, said, "a kept run's answer through columns");
+        }
+        if told == 0 {
+            same("kept results", &results, after[1], is_time);
+            same("a kept track", &track, after[2], |_| false);
+        } else {
+            for (columns, k) in [(&results, 1), (&track, 2)] {
+                same_memory("a refused kept run", columns, &before[k]);
+                same_memory("a refused kept run, flat", columns, after[k]);
+            }
         }
     }
 }
 
-/// The list is carried whole; of results and track all that stands before the index, and after the
-/// fixes that were redone.
+/// The same of a correction. The list is carried whole; of results and track all that stands before
+/// the index, and after the fixes that were redone.
 pub fn corrects_alike(
     inverse: bool,
     sheet: &[u8],
     before: &[Vec<f64>; 3],
     (index, fix): (u64, [f64; 4]),
-    (told, redone, after): (u32, u64, [&[f64]; 3]),
+    (told, [redone, out_of_reach], after): (u32, [u64; 2], [&[f64]; 3]),
 ) {
     if !whole(before) {
         return;
     }
-    let [mut list, mut results, mut track] = [0, 1, 2].map(|k| columns(&before[k]));
-    let mut again = u64::MAX; // written, refused or not
-    let lists = [&mut list, &mut results, &mut track].map(write);
-    let said = correct(inverse, sheet, lists, index as usize, &fix, &mut again);
-    assert_eq!((told, redone), (said, again), "a correction's answer through columns");
     let (from, to) = if told == 0 { (4 * index as usize, 4 * (index + redone) as usize) } else { (0, 0) };
     let left = |i: usize| i < from || to <= i;
-    same_memory("a corrected list", &list, after[0]);
-    same("corrected results", &results, after[1], |i| left(i) || is_time(i));
-    same("a corrected track", &track, after[2], left);
+    for reach in [false, true] {
+        let [mut list, mut results, mut track] = [0, 1, 2].map(|k| columns(&before[k]));
+        let lists = [&mut list, &mut results, &mut track].map(write);
+        if reach {
+            let said = correct_reach(inverse, sheet, lists, index as usize, &fix);
+            assert_eq!((told, [redone, out_of_reach]), said, "a correction's answer and numbers through columns");
+        } else {
+            let said = correct(inverse, sheet, lists, index as usize, &fix);
+            assert_eq!((told, redone), said, "a correction's answer through columns");
+        }
+        same_memory("a corrected list", &list, after[0]);
+        same("corrected results", &results, after[1], |i| left(i) || is_time(i));
+        same("a corrected track", &track, after[2], left);
+    }
     for k in 0..3 {
         let moved = if k == 0 { from..from + 4 } else { from..to };
         let kept = |i: &usize| told != 0 || !moved.contains(i);

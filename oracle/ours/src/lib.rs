@@ -247,7 +247,7 @@ pub fn keep_reach(inverse: bool, sheet: &[u8], list: &[f64], results: &mut [f64]
     };
     assert_eq!(told, said, "a kept run's answer with the fixes out of reach");
     assert!(alike(results, &again) && alike(track, &tracked), "a kept run with the fixes out of reach");
-    columns::keeps_alike(inverse, sheet, &before, (told, [list, results, track]));
+    columns::keeps_alike(inverse, sheet, &before, (told, [counted, out_of_reach], [list, results, track]));
     (apart(told), counted, out_of_reach)
 }
 
@@ -305,7 +305,7 @@ pub fn correct_reach(
     assert_eq!((told, redone), (said, redone_again), "a correction's answer with the fixes out of reach");
     let same = alike(list, &again) && alike(results, &results_again) && alike(track, &track_again);
     assert!(same, "a correction with the fixes out of reach");
-    columns::corrects_alike(inverse, sheet, &before, (index, fix), (told, redone, [list, results, track]));
+    columns::corrects_alike(inverse, sheet, &before, (index, fix), (told, [redone, out_of_reach], [list, results, track]));
     (apart(told), redone, out_of_reach)
 }
 

@@ -173,12 +173,15 @@ fn kept_unequal(told: &mut Told, name: &str, job: &Job) {
             let expected = if of == 0 { 9 } else { 13 };
             let [list, results, track] = &mut lists;
             let code = columns::keep(job.inverse, &bytes, columns::read(list), columns::write(results), columns::write(track));
-            let mut redone = u64::MAX;
-            let again = columns::correct(job.inverse, &bytes, lists.each_mut().map(columns::write), 0, &[0.0; 4], &mut redone);
+            let tells =
+                columns::keep_reach(job.inverse, &bytes, columns::read(list), columns::write(results), columns::write(track));
+            let again = columns::correct(job.inverse, &bytes, lists.each_mut().map(columns::write), 0, &[0.0; 4]);
+            let tells_again = columns::correct_reach(job.inverse, &bytes, lists.each_mut().map(columns::write), 0, &[0.0; 4]);
             let after: Vec<_> = lists.iter().map(bits).collect();
+            let refused = code == expected && again == (expected, 0) && [tells, tells_again] == [(expected, [0, 0]); 2];
             told.expect(
-                code == expected && again == expected && redone == 0 && before == after,
-                &format!("{name}: kept, column {which} of list {of} of another length, {code} and {again}"),
+                refused && before == after,
+                &format!("{name}: kept, column {which} of list {of} of another length, {code} and {again:?}"),
             );
         }
     }
