@@ -81,13 +81,14 @@ enum {
                                              fit into the sheet; or bodies that do not end at the
                                              sheet's end */
     SILLFEATHER_REFUSED_FIELD = 5,        /* a field of the step's body is outside its rule */
-    SILLFEATHER_REFUSED_CONVENTION = 6,   /* Helmert: rotated, and no convention */
+    SILLFEATHER_REFUSED_CONVENTION = 6,   /* Helmert or ten-parameter: rotated, and no convention */
     SILLFEATHER_REFUSED_EPOCH = 7,        /* Helmert: dynamic, and t_epoch not given */
     SILLFEATHER_REFUSED_DURATION = 8,     /* deformation: neither dt nor t_epoch given */
     SILLFEATHER_REFUSED_LIST = 9,         /* a list not of whole tuples, or of more than 2,048 */
     SILLFEATHER_REFUSED_VELOCITIES = 10,  /* velocities or marks of wrong length; a mark over 1 */
     SILLFEATHER_REFUSED_DEFORMATION = 11, /* a second deformation step */
-    SILLFEATHER_REFUSED_KEPT_SHEET = 12,  /* kept run: the sheet is not one Helmert step */
+    SILLFEATHER_REFUSED_KEPT_SHEET = 12,  /* kept run: the sheet is not one Helmert or ten-parameter
+                                             step */
     SILLFEATHER_REFUSED_KEPT_LENGTH = 13, /* kept run: results or track not as long as the list */
     SILLFEATHER_REFUSED_INDEX = 14,       /* the corrected fix's index is not below the number of
                                              tuples */
@@ -141,7 +142,7 @@ uint32_t sillfeather_shift_columns(uint32_t inverse, const uint8_t *sheet, size_
 /* ----- the kept run -------------------------------------------------------------------------- */
 
 /* A run that is kept, to be corrected later: the list stays, and the results and the track go where
- * the caller keeps them. The sheet is one Helmert step.
+ * the caller keeps them. The sheet is one Helmert or ten-parameter step.
  *   Reads     the sheet and the list.
  *   Writes    results: what sillfeather_shift makes of the list. track: four doubles a fix, the
  *             state after it: the last time and the translation.
@@ -316,6 +317,19 @@ enum {
 /* dt in years where it is given; else the time from t_epoch to each tuple's. */
 uint32_t sillfeather_add_deformation(uint8_t *room, size_t room_len, uint64_t *sheet_len, uint32_t inverted, uint32_t flags, uint32_t ellipsoid,
                                      double dt, double t_epoch);
+
+/* Ten-parameter shift, Molodensky-Badekas (IOGP 373-7-2, EPSG methods 1034 and 1061): flags, to be
+ * added up. Conventions are Helmert's. The step is static: forward it takes the pivot off, rotates,
+ * scales, and adds the pivot and then the translation; inverse undoes this in reverse. */
+enum {
+    SILLFEATHER_BADEKAS_EXACT = 1, /* sines and cosines of the angles */
+    SILLFEATHER_BADEKAS_UAS = 2,   /* angles in micro arcseconds */
+    SILLFEATHER_BADEKAS_MM = 4     /* the translation in millimetres; the pivot stays in metres */
+};
+
+/* numbers: translation x, y, z; rotation x, y, z; scale in ppm; pivot x, y, z in metres. */
+uint32_t sillfeather_add_badekas(uint8_t *room, size_t room_len, uint64_t *sheet_len, uint32_t inverted, uint32_t flags, uint32_t convention,
+                                 const double numbers[10]);
 
 /* ----- a damaged sheet ------------------------------------------------------------------------ */
 
