@@ -56,6 +56,11 @@ pub never-moves : (r : Badekas) → timeVaryingOf (shiftOf r) ≡ false
 unfolding shiftOf aboutOf
 never-moves r = same-numbers-never-move r
 
+-- the shift has no rate
+pub shift-not-dynamic : (r : Badekas) → shiftOf r .dynamic ≡ false
+unfolding shiftOf aboutOf prepareOf
+shift-not-dynamic r = not-dynamic r
+
 -- so the Helmert record with the same numbers never breaks rule 7
 pub never-lacks-epoch : (r : Badekas) → lacksEpochOf (helmertOf r) ≡ false
 unfolding lacksEpochOf

@@ -66,7 +66,7 @@ fn step_in(inverse: bool, s: &[u8]) -> Ready
 {
     let entry = sheet::entry_at(s, 0);
     let reversed = chain::reversed(inverse, entry);
-    let shift = helmert::prepare(kept::step_of(entry));
+    let shift = kept::shift_of(entry);
     Ready {
         shift: shift,
         reversed: reversed,
