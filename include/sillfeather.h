@@ -25,6 +25,8 @@
  * are what its definition says (crates/sillfeather, crates/reach_entries and crates/closure_entries
  * have the contracts in src/lib.rt, docs/CONFORMANCE.md the way from the documents to them); that it
  * ends; and that it touches nothing but what it is lent.
+ * are what its definition says (crates/sillfeather and crates/reach_entries have the contracts in
+ * src/lib.rt, docs/CONFORMANCE.md the way from the documents to them); that it ends; and that it touches nothing but what it is lent.
  * What is said below of what a call reads, writes, refuses and leaves alone follows from that. The
  * compiler and the machine's binary64 arithmetic are assumed.
  *
@@ -97,6 +99,13 @@ enum {
     SILLFEATHER_REFUSED_RESCUE = 19,      /* the damaged sheet cannot be rebuilt */
     SILLFEATHER_REFUSED_PROFILE = 25      /* the step is outside the profile that was asked for, or
                                              nobody knows that profile */
+                                             for its changes */
+    SILLFEATHER_REFUSED_GRID = 17,        /* a velocity grid of fewer than 8 bytes, with a count
+                                             outside 2 to 64, or of another length than its counts
+                                             say */
+    SILLFEATHER_REFUSED_GRID_NUMBER = 18, /* a number of a velocity grid not finite, or a spacing not
+                                             positive */
+    SILLFEATHER_REFUSED_RESCUE = 19       /* the damaged sheet cannot be rebuilt */
 };
 
 /* ----- a sheet over a list ------------------------------------------------------------------- */
@@ -138,6 +147,33 @@ uint32_t sillfeather_shift_reach(uint32_t inverse, const uint8_t *sheet, size_t 
 uint32_t sillfeather_shift_columns(uint32_t inverse, const uint8_t *sheet, size_t sheet_len, double *x, size_t x_len, double *y, size_t y_len,
                                    double *z, size_t z_len, double *t, size_t t_len, const double *velocities, size_t velocities_len,
                                    const uint8_t *marks, size_t marks_len, uint32_t counts[16], uint32_t out_of_reach[16]);
+
+/* ----- a velocity grid ------------------------------------------------------------------------ */
+
+/* A VELOCITY GRID is 136 to 98,344 bytes: two counts, a corner, two spacings and the velocities at
+ * the nodes. docs/FORMAT.md gives it byte by byte, with the sequence of roundings by which a velocity
+ * is found. The grid's edges belong to it. Longitudes are not wrapped: a grid that begins west of ±π
+ * finds nothing on the other side. */
+#define SILLFEATHER_GRID_MAX 98344 /* bytes: 64 rows by 64 columns */
+
+/* Whether a velocity grid breaks no rule.
+ *   Reads     the grid.
+ *   Writes    nothing.
+ *   Refuses   17, then 18, without a step. */
+uint32_t sillfeather_check_grid(const uint8_t *grid, size_t grid_len);
+
+/* A sheet over a list, as sillfeather_shift_reach, with a velocity grid: a deformation step moves each
+ * fix by the velocity that the grid gives at its place as it reaches the step, on the step's
+ * ellipsoid. A fix whose place is outside the grid, or NaN, is absent. A grid is always given, whether
+ * or not the sheet has a deformation step, and velocities and marks are then empty.
+ *   Reads     the sheet, the grid, velocities_len and marks_len.
+ *   Writes    the list, and all 16 of counts and of out_of_reach, in the sheet's order. With a grid no
+ *             fix meets an angle out of reach in the deformation step.
+ *   Refuses   as sillfeather_check; then 9, 10 (velocities or marks not empty), 17, 18.
+ *   Leaves    on refusal the list as it was, and zeros in counts and out_of_reach. */
+uint32_t sillfeather_shift_grid(uint32_t inverse, const uint8_t *sheet, size_t sheet_len, double *list, size_t list_len, const double *velocities,
+                                size_t velocities_len, const uint8_t *marks, size_t marks_len, const uint8_t *grid, size_t grid_len,
+                                uint32_t counts[16], uint32_t out_of_reach[16]);
 
 /* ----- the kept run -------------------------------------------------------------------------- */
 

@@ -915,6 +915,35 @@ static void closures(void) {
             int passes = (flags & 1) == 0 && (mode == 0 || (flags & 8) != 0);
             result_is("the chart profile by flags", sillfeather_check_profile(twice.at, twice.len, 1), passes ? 0 : 25, passes ? 0 : 2);
         }
+/* ----- a velocity grid ------------------------------------------------------------------------------------------------------------------------------------------- */
+
+/* Two rows by three columns, 184 bytes: the counts, four numbers of the place, eighteen of the nodes. */
+static void grids(void) {
+    static uint8_t grid[192];
+    uint32_t counts[2] = {2, 3};
+    double numbers[23], odd[4] = {NAN, INFINITY, -INFINITY, 0.0};
+    for (int i = 0; i < 23; i++) numbers[i] = 0.25 * (i + 1);
+    memcpy(grid, counts, 8);
+    memcpy(grid + 8, numbers, sizeof numbers);
+    result_is("a grid in rule", sillfeather_check_grid(grid, 184), 0, 0);
+    result_is("a grid one byte short", sillfeather_check_grid(grid, 183), 17, 0);
+    result_is("a grid one number long", sillfeather_check_grid(grid, 192), 17, 0);
+    result_is("no grid at all", sillfeather_check_grid(NULL, 0), 17, 0);
+    for (int i = 0; i < 22; i++) {
+        for (int k = 0; k < 4; k++) {
+            memcpy(grid + 8 + 8 * i, odd + k, 8);
+            result_is("a number of a grid", sillfeather_check_grid(grid, 184), k < 3 || i == 2 || i == 3 ? 18 : 0, 0);
+            result_is("17 before 18", sillfeather_check_grid(grid, 183), 17, 0);
+        }
+        memcpy(grid + 8 + 8 * i, numbers + i, 8);
+    }
+    uint32_t wrong[4] = {0, 1, 65, 0xffffffff};
+    for (int i = 0; i < 8; i++) {
+        memcpy(grid + i / 4 * 4, wrong + i % 4, 4);
+        result_is("a count of a grid", sillfeather_check_grid(grid, 184), 17, 0);
+        memcpy(grid, counts, 8);
+    }
+    result_is("a grid in rule again", sillfeather_check_grid(grid, 184), 0, 0);
 }
 
 int main(void) {
@@ -933,6 +962,7 @@ int main(void) {
     refused_kept_runs();
     rescues();
     closures();
+    grids();
     kernels();
     printf("%d passed, %d failed\n", passed, failed);
     return failed != 0;

@@ -181,10 +181,21 @@ unsafe extern "C" {
         list_len: usize,
         room: *mut f64,
         room_len: usize,
+    fn sillfeather_check_grid(grid: *const u8, grid_len: usize) -> u32;
+    fn sillfeather_shift_grid(
+        inverse: u32,
+        sheet: *const u8,
+        sheet_len: usize,
+        list: *mut f64,
+        list_len: usize,
         velocities: *const f64,
         velocities_len: usize,
         marks: *const u8,
         marks_len: usize,
+        grid: *const u8,
+        grid_len: usize,
+        counts: *mut u32,
+        out_of_reach: *mut u32,
     ) -> u32;
 }
 
@@ -480,6 +491,38 @@ pub fn closure(
             velocities.len(),
             marks.as_ptr(),
             marks.len(),
+pub fn check_grid(grid: &[u8]) -> u32 {
+    // SAFETY: a slice with its length.
+    unsafe { sillfeather_check_grid(grid.as_ptr(), grid.len()) }
+}
+
+/// Velocities and marks are empty, as a call with a grid asks.
+pub fn shift_grid(
+    inverse: u32,
+    sheet: &[u8],
+    list: &mut [f64],
+    grid: &[u8],
+    counts: &mut [u32; 16],
+    out_of_reach: &mut [u32; 16],
+) -> u32 {
+    let velocities: [f64; 0] = [];
+    let marks: [u8; 0] = [];
+    // SAFETY: slices with their lengths; the list and the 16 of each number are written, each borrowed mutably.
+    unsafe {
+        sillfeather_shift_grid(
+            inverse,
+            sheet.as_ptr(),
+            sheet.len(),
+            list.as_mut_ptr(),
+            list.len(),
+            velocities.as_ptr(),
+            0,
+            marks.as_ptr(),
+            0,
+            grid.as_ptr(),
+            grid.len(),
+            counts.as_mut_ptr(),
+            out_of_reach.as_mut_ptr(),
         )
     }
 }

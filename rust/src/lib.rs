@@ -5,6 +5,7 @@
 //! results, and redoes only what the correction of one fix changes. [`Columns`] are a list as a display holds it. [`Sheet::rescue`] mends a sheet whose
 //! header or directory was damaged. A [`Report`] tells what a sheet forward and then inverse leaves of lists of fixes, and [`Sheet::judge`] whether a
 //! [`Profile`] lets a sheet through.
+//! header or directory was damaged. A [`Grid`] is a checked velocity grid.
 //!
 //! ```
 //! use sillfeather::{Cart, Convention, Direction, Ellipsoid, Helmert, Sheet};
@@ -62,6 +63,7 @@ extern crate alloc;
 mod ffi;
 
 mod columns;
+mod grid;
 mod kept;
 pub mod kernels;
 pub mod lent;
@@ -71,6 +73,7 @@ mod sheet;
 mod steps;
 
 pub use columns::Columns;
+pub use grid::Grid;
 pub use kept::KeptRun;
 pub use refusal::Refusal;
 pub use report::{Largest, Profile, Report};

@@ -5,6 +5,8 @@ use core::fmt;
 ///
 /// Where several rules are broken the first of this order is given: 1, 2, 3, 4; then step by step 5 to 8; then 25 where a profile is
 /// asked for; then 11, 12, 9, 13, 10, 14, 15. A rescue gives 19, then 15, before the sheet's own. What was lent holds what it held.
+/// Where several rules are broken the first of this order is given: 1, 2, 3, 4; then step by step 5 to 8; then 11, 12, 9, 13, 10, 14, 15. A rescue gives 19,
+/// then 15, before the sheet's own; a velocity grid's own are 17, then 18. What was lent holds what it held.
 ///
 /// ```
 /// use sillfeather::{Helmert, Refusal, Sheet};
@@ -64,6 +66,10 @@ pub enum Refusal {
     Room,
     /// 16: the program's, a bad job.
     Job,
+    /// 17: a velocity grid of fewer than 8 bytes, with a count outside 2 to 64, or of another length than its counts say.
+    Grid,
+    /// 18: a number of a velocity grid that is not finite, or a spacing that is not positive.
+    GridNumber,
     /// 19: a damaged sheet that cannot be rebuilt.
     Rescue,
     /// 25: a step outside the profile that was asked for.
@@ -77,6 +83,7 @@ pub enum Refusal {
 
 impl Refusal {
     /// The rule's number, 1 to 16, 19 or 25.
+    /// The rule's number, 1 to 19.
     pub fn number(self) -> u32 {
         self.code() % 65536
     }
@@ -109,6 +116,8 @@ impl Refusal {
             Refusal::Index => 14,
             Refusal::Room => 15,
             Refusal::Job => 16,
+            Refusal::Grid => 17,
+            Refusal::GridNumber => 18,
             Refusal::Rescue => 19,
             Refusal::Profile { step } => of_step(25, step),
             Refusal::Other(code) => code,
@@ -138,6 +147,8 @@ impl Refusal {
             Refusal::Index => "no fix has that index",
             Refusal::Room => "the room is too short for the sheet",
             Refusal::Job => "a bad job",
+            Refusal::Grid => "the bytes are not a whole velocity grid: a count outside 2 to 64, or another length than the counts say",
+            Refusal::GridNumber => "a number of the velocity grid is not finite, or a spacing not positive",
             Refusal::Rescue => "the damaged sheet cannot be rebuilt from its step count, kinds, inverted words and length",
             Refusal::Profile { .. } => "outside the profile that was asked for",
             Refusal::Other(_) => "a refusal without a name",
@@ -166,6 +177,8 @@ impl From<u32> for Refusal {
             (14, 0) => Refusal::Index,
             (15, 0) => Refusal::Room,
             (16, 0) => Refusal::Job,
+            (17, 0) => Refusal::Grid,
+            (18, 0) => Refusal::GridNumber,
             (19, 0) => Refusal::Rescue,
             (25, _) => Refusal::Profile { step },
             _ => Refusal::Other(code),
@@ -206,10 +219,11 @@ mod tests {
     #[test]
     fn each_number_has_its_name() {
         for number in (1..=16).chain([19, 25]) {
+        for number in 1..=19 {
             assert!(!matches!(Refusal::from(number), Refusal::Other(_)), "{number}");
         }
         assert_eq!(Refusal::from(6 + 65536 * 3), Refusal::Convention { step: 3 });
-        assert_eq!(Refusal::from(17), Refusal::Other(17));
+        assert_eq!(Refusal::from(20), Refusal::Other(20));
         assert_eq!(Refusal::from(9 + 65536), Refusal::Other(9 + 65536), "9 carries no step");
         assert_eq!(Refusal::told(0), Ok(()));
         assert_eq!(Refusal::told(14), Err(Refusal::Index));

@@ -2,7 +2,7 @@ use alloc::vec::Vec;
 use core::fmt;
 
 use crate::steps::{Step, or_not_given};
-use crate::{Direction, Refusal, ffi, lent};
+use crate::{Direction, Grid, Refusal, ffi, lent};
 
 /// The longest sheet: header, sixteen entries of the directory, sixteen Helmert bodies.
 const LONGEST: usize = 4240;
@@ -109,6 +109,27 @@ impl Sheet {
     ) -> Result<Counts, Refusal> {
         let [counts, out_of_reach] = lent::shift_reach(direction, &self.bytes, list, velocities, marks)?;
         Ok(Counts { counts, out_of_reach, steps: self.step_count() })
+    }
+
+    /// The same with a velocity grid: a deformation step moves each fix by the velocity that the grid gives at its place as it reaches the step. A fix outside
+    /// the grid, or with a NaN place, is absent: four NaNs, or with raw output as it was. Refused: 9 over 2,048 fixes; the list then holds what it held.
+    ///
+    /// ```
+    /// use sillfeather::{Deformation, Direction, Grid, Sheet};
+    ///
+    /// let sheet = Sheet::builder().step(Deformation { t_epoch: Some(2000.0), ..Deformation::BLANK }).build()?;
+    /// // a metre a year upwards, within 0.1 radian of longitude and latitude 0
+    /// let grid = Grid::new([-0.1, -0.1, 0.2, 0.2], 2, &[[0.0, 0.0, 1000.0]; 4])?;
+    /// let mut fixes = [[6378137.0, 0.0, 0.0, 2010.0], [0.0, 6378137.0, 0.0, 2010.0]];
+    /// let counts = sheet.shift_grid(Direction::Forward, &mut fixes, &grid)?;
+    /// assert_eq!(counts.steps(), [1]);
+    /// assert_eq!(fixes[0], [6378147.0, 0.0, 0.0, 2010.0]);
+    /// assert!(fixes[1].iter().all(|x| x.is_nan()));
+    /// # Ok::<(), sillfeather::Refusal>(())
+    /// ```
+    pub fn shift_grid(&self, direction: Direction, list: &mut [[f64; 4]], grid: &Grid) -> Result<Counts, Refusal> {
+        let (counts, _) = lent::shift_grid(direction, &self.bytes, list.as_flattened_mut(), grid.as_bytes())?;
+        Ok(Counts { counts, steps: self.step_count() })
     }
 }
 

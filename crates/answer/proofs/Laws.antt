@@ -15,6 +15,7 @@ use Rattle.sheet.specs.declared.Entry.{Entry}
 use Rattle.sheet.specs.Layout.{stepCountOf, kindAt, entryAt}
 use Rattle.sheet.specs.Rules.{refusalOf, hasDeformation}
 use Rattle.sheet.proofs.Order.{neither, accepted-count}
+use Rattle.plans.specs.Lent.{Lent, lentOf}
 use Rattle.chain.specs.Chain.{chainForwardOf, chainInverseOf, chainOf, entriesOf, stepListOf}
 use Rattle.chain.specs.Rules.{Outcome, shiftOf, outcomeOf, shiftRefusalOf}
 use Rattle.chain.proofs.Laws.{step-length}
@@ -85,27 +86,27 @@ pick-length : (b : Bool) (x y : Outcome) (n : ℕ) → length (x .list) ≡ n �
 pick-length true x y n p q = p
 pick-length false x y n p q = q
 
-forward-length : (velocities : List Float) (marks : List ℕ) (es : List Entry) (l : List Float) → length (chainForwardOf velocities marks es l .list) ≡ length l
+forward-length : (lent : Lent) (es : List Entry) (l : List Float) → length (chainForwardOf lent es l .list) ≡ length l
 unfolding chainForwardOf
-forward-length velocities marks [] l = refl
-forward-length velocities marks (e ∷ es) l =
-    forward-length velocities marks es (stepListOf false velocities marks e l) ∙ step-length false velocities marks e l
+forward-length lent [] l = refl
+forward-length lent (e ∷ es) l =
+    forward-length lent es (stepListOf false lent e l) ∙ step-length false lent e l
 
-inverse-length : (velocities : List Float) (marks : List ℕ) (es : List Entry) (l : List Float) → length (chainInverseOf velocities marks es l .list) ≡ length l
+inverse-length : (lent : Lent) (es : List Entry) (l : List Float) → length (chainInverseOf lent es l .list) ≡ length l
 unfolding chainInverseOf
-inverse-length velocities marks [] l = refl
-inverse-length velocities marks (e ∷ es) l = step-length true velocities marks e (chainInverseOf velocities marks es l .list) ∙ inverse-length velocities marks es l
+inverse-length lent [] l = refl
+inverse-length lent (e ∷ es) l = step-length true lent e (chainInverseOf lent es l .list) ∙ inverse-length lent es l
 
-chain-length : (inverse : Bool) (velocities : List Float) (marks : List ℕ) (es : List Entry) (l : List Float)
-    → length (chainOf inverse velocities marks es l .list) ≡ length l
-chain-length true velocities marks es l = inverse-length velocities marks es l
-chain-length false velocities marks es l = forward-length velocities marks es l
+chain-length : (inverse : Bool) (lent : Lent) (es : List Entry) (l : List Float)
+    → length (chainOf inverse lent es l .list) ≡ length l
+chain-length true lent es l = inverse-length lent es l
+chain-length false lent es l = forward-length lent es l
 
 shift-length : (inverse : Bool) (s : List ℕ) (l velocities : List Float) (marks : List ℕ) → length (shiftOf inverse s l velocities marks .list) ≡ length l
 unfolding shiftOf outcomeOf
 shift-length inverse s l velocities marks =
     pick-length (eqb (shiftRefusalOf (refusalOf s) (hasDeformation (kindAt s) (stepCountOf s)) l velocities marks .number) 0) _ _ (length l)
-    (chain-length inverse velocities marks (entriesOf (entryAt s) (stepCountOf s) 0) l) refl
+    (chain-length inverse (lentOf velocities marks []) (entriesOf (entryAt s) (stepCountOf s) 0) l) refl
 
 -- a sheet that runs has at most sixteen steps
 few-steps : (inverse : Bool) (s : List ℕ) (l velocities : List Float) (marks : List ℕ) → shiftOf inverse s l velocities marks .answer .refusal .number ≡ 0

@@ -18,6 +18,7 @@ use Rattle.sheet.specs.declared.Refusal.{Refusal}
 use Rattle.sheet.specs.Layout.{stepCountOf, kindAt, entryAt}
 use Rattle.sheet.specs.Rules.{ofCall, firstBroken, hasDeformation, refusalOf}
 use Rattle.sheet.proofs.Order.{neither}
+use Rattle.plans.specs.Lent.{lentOf}
 use Rattle.chain.specs.declared.Answer.{Answer}
 use Rattle.chain.specs.Chain.{Run, chainOf, placesOf, entriesOf}
 use Rattle.chain.specs.Rules.{refusal9, refusal10, shiftRefusalOf, Outcome, outcome, refusedAnswer, ranOutcome, outcomeOf, shiftOf}
@@ -56,7 +57,7 @@ module _ (own : Refusal) (deforms inverse : Bool) (es : List Entry) (c : Columns
   columns-refused-10 h e f = rw (eq-eqb (own .number) 0 h, e, f)
 
   pub columns-run-through : own .number ≡ 0 → nine ≡ false → ten ≡ false
-      → columnsOutcomeOf own deforms inverse es c velocities marks ≡ ranColumns (chainOf inverse velocities marks es (flatOf (c .x) (c .y) (c .z) (c .t)))
+      → columnsOutcomeOf own deforms inverse es c velocities marks ≡ ranColumns (chainOf inverse (lentOf velocities marks []) es (flatOf (c .x) (c .y) (c .z) (c .t)))
   unfolding columnsOutcomeOf columnsRefusalOf firstBroken
   columns-run-through h e f = rw (eq-eqb (own .number) 0 h, e, f)
 
@@ -92,7 +93,7 @@ module _ (inverse : Bool) (s : List ℕ) (x y z t velocities : List Float) (mark
   refusal = shiftRefusalOf own deforms (flatOf x y z t) velocities marks
 
   abbrev run : Run
-  run = chainOf inverse velocities marks (entriesOf (entryAt s) (stepCountOf s) 0) (flatOf x y z t)
+  run = chainOf inverse (lentOf velocities marks []) (entriesOf (entryAt s) (stepCountOf s) 0) (flatOf x y z t)
 
   either-answer : (b : Bool) (r : Refusal) (run : Run) (c : Columns) (l : List Float)
       → cond b (ranColumns run) (columnsOutcome (refusedAnswer r) c) .answer ≡ cond b (ranOutcome run) (outcome (refusedAnswer r) l) .answer
@@ -117,7 +118,7 @@ module _ (inverse : Bool) (s : List ℕ) (x y z t velocities : List Float) (mark
   pub columns-stand-for-the-flat-list : flat (shiftColumnsOf inverse s (columns x y z t) velocities marks .columns) ≡ shiftOf inverse s (flatOf x y z t) velocities marks .list
   unfolding shiftColumnsOf shiftOf columnsOutcomeOf outcomeOf
   columns-stand-for-the-flat-list =
-      let whole : length (run .list) % 4 ≡ 0 = omega (arith, chain-length velocities marks inverse (entriesOf (entryAt s) (stepCountOf s) 0) (flatOf x y z t), flat-length x y z t level) in
+      let whole : length (run .list) % 4 ≡ 0 = omega (arith, chain-length (lentOf velocities marks []) inverse (entriesOf (entryAt s) (stepCountOf s) 0) (flatOf x y z t), flat-length x y z t level) in
       rw (same-refusal own deforms) (either-list (eqb (refusal .number) 0) refusal run whole)
 
 -- ---- columns of unequal length are refused, whatever else is wrong with the call but the sheet

@@ -16,6 +16,7 @@ use Rattle.sheet.specs.Layout.{stepCountOf, kindAt, entryAt}
 use Rattle.sheet.specs.Rules.{Rule, rule, ofCall, firstBroken, hasDeformation, refusalOf}
 use Rattle.sheet.specs.Given.{Unbroken}
 use Rattle.sheet.proofs.Order.{Without, without-rule, kept-first, kept-rest, number-given-exactly-when, none-given-exactly-when, own-given-exactly-when, reader-never-gives, ownRule, own-kept, keep-own, own-without}
+use Rattle.plans.specs.Lent.{lentOf}
 use Rattle.chain.specs.Chain.{Run, chainOf, entriesOf}
 use Rattle.chain.specs.Rules.{refusal9, refusal10, shiftRefusalOf, outcome, refusedAnswer, ranOutcome, outcomeOf, shiftOf}
 
@@ -41,7 +42,7 @@ module _ (inverse : Bool) (s : List ℕ) (l velocities : List Float) (marks : Li
   in-order : given ≡ firstBroken (ownRule s ∷ nine ∷ ten ∷ []) .number
   unfolding shiftOf outcomeOf shiftRefusalOf
   in-order =
-      number-of (firstBroken (ownRule s ∷ nine ∷ ten ∷ [])) (chainOf inverse velocities marks (entriesOf (entryAt s) (stepCountOf s) 0) l) l _ refl
+      number-of (firstBroken (ownRule s ∷ nine ∷ ten ∷ [])) (chainOf inverse (lentOf velocities marks []) (entriesOf (entryAt s) (stepCountOf s) 0) l) l _ refl
 
   -- the numbers of the sheet, 1 to 8 and 11: the reader gives them
   pub own-exactly-when : (n : ℕ) → (n ≡ 0 → ⊥) → (n ≡ 9 → ⊥) → (n ≡ 10 → ⊥) → (given ≡ n) ↔ (refusalOf s .number ≡ n)

@@ -13,51 +13,52 @@ use Rattle.sheet.specs.declared.Entry.{Entry}
 use Rattle.lists.proofs.Laws.{ran-length}
 use Rattle.tally.specs.declared.Tally.{Tally}
 use Rattle.tally.specs.Tallies.{noTally}
+use Rattle.plans.specs.Lent.{Lent}
 use Rattle.chain.specs.Chain.{turnsOf, stateOf, reversedOf, stepListOf, stepTallyOf, Run, chainForwardOf, chainInverseOf, placesOf, entriesOf}
 
-module _ (velocities : List Float) (marks : List ℕ) where
+module _ (lent : Lent) where
   -- ---- a chain of one step is that step over the list
 
   pub one-step-forward : (e : Entry) (l : List Float)
-      → chainForwardOf velocities marks (e ∷ []) l
-      ≡ record { list = stepListOf false velocities marks e l; tallies = stepTallyOf false velocities marks e l ∷ [] }
+      → chainForwardOf lent (e ∷ []) l
+      ≡ record { list = stepListOf false lent e l; tallies = stepTallyOf false lent e l ∷ [] }
   unfolding chainForwardOf
   one-step-forward e l = refl
 
   pub one-step-inverse : (e : Entry) (l : List Float)
-      → chainInverseOf velocities marks (e ∷ []) l
-      ≡ record { list = stepListOf true velocities marks e l; tallies = stepTallyOf true velocities marks e l ∷ [] }
+      → chainInverseOf lent (e ∷ []) l
+      ≡ record { list = stepListOf true lent e l; tallies = stepTallyOf true lent e l ∷ [] }
   unfolding chainInverseOf
   one-step-inverse e l = refl
 
   -- ---- running steps A then B is running A's and then B's; inverse, B's and then A's
 
   pub then-forward : (a b : List Entry) (l : List Float)
-      → chainForwardOf velocities marks (a ++ b) l
+      → chainForwardOf lent (a ++ b) l
       ≡ record {
-        list = chainForwardOf velocities marks b (chainForwardOf velocities marks a l .list) .list;
-        tallies = chainForwardOf velocities marks a l .tallies ++ chainForwardOf velocities marks b (chainForwardOf velocities marks a l .list) .tallies;
+        list = chainForwardOf lent b (chainForwardOf lent a l .list) .list;
+        tallies = chainForwardOf lent a l .tallies ++ chainForwardOf lent b (chainForwardOf lent a l .list) .tallies;
       }
   unfolding chainForwardOf
   then-forward [] b l = refl
-  then-forward (e ∷ a) b l = rw (then-forward a b (stepListOf false velocities marks e l))
+  then-forward (e ∷ a) b l = rw (then-forward a b (stepListOf false lent e l))
 
   pub then-inverse : (a b : List Entry) (l : List Float)
-      → chainInverseOf velocities marks (a ++ b) l
+      → chainInverseOf lent (a ++ b) l
       ≡ record {
-        list = chainInverseOf velocities marks a (chainInverseOf velocities marks b l .list) .list;
-        tallies = chainInverseOf velocities marks a (chainInverseOf velocities marks b l .list) .tallies ++ chainInverseOf velocities marks b l .tallies;
+        list = chainInverseOf lent a (chainInverseOf lent b l .list) .list;
+        tallies = chainInverseOf lent a (chainInverseOf lent b l .list) .tallies ++ chainInverseOf lent b l .tallies;
       }
   unfolding chainInverseOf
   then-inverse [] b l = refl
   then-inverse (e ∷ a) b l = rw (then-inverse a b l)
 
 -- a step leaves the list's length
-pub step-length : (inverse : Bool) (velocities : List Float) (marks : List ℕ) (e : Entry) (l : List Float)
-    → length (stepListOf inverse velocities marks e l) ≡ length l
+pub step-length : (inverse : Bool) (lent : Lent) (e : Entry) (l : List Float)
+    → length (stepListOf inverse lent e l) ≡ length l
 unfolding stepListOf
-step-length inverse velocities marks e l =
-    ran-length (turnsOf (reversedOf inverse e) velocities marks (e .step)) 0 (stateOf (e .step)) l
+step-length inverse lent e l =
+    ran-length (turnsOf (reversedOf inverse e) lent (e .step)) 0 (stateOf (e .step)) l
 
 -- ---- places for the tallies
 
@@ -86,15 +87,15 @@ zeros zero (suc n) = let s : 0 - suc n ≡ 0 = omega arith in rw s
 zeros (suc m) (suc n) = let s : suc m - suc n ≡ m - n = omega arith in rw s (zeros m n)
 
 -- a tally for each step
-pub tallies-length : (velocities : List Float) (marks : List ℕ) (es : List Entry) (l : List Float) → length (chainInverseOf velocities marks es l .tallies) ≡ length es
+pub tallies-length : (lent : Lent) (es : List Entry) (l : List Float) → length (chainInverseOf lent es l .tallies) ≡ length es
 unfolding chainInverseOf
-tallies-length velocities marks [] l = refl
-tallies-length velocities marks (e ∷ es) l = ap suc (tallies-length velocities marks es l)
+tallies-length lent [] l = refl
+tallies-length lent (e ∷ es) l = ap suc (tallies-length lent es l)
 
-pub forward-tallies-length : (velocities : List Float) (marks : List ℕ) (es : List Entry) (l : List Float) → length (chainForwardOf velocities marks es l .tallies) ≡ length es
+pub forward-tallies-length : (lent : Lent) (es : List Entry) (l : List Float) → length (chainForwardOf lent es l .tallies) ≡ length es
 unfolding chainForwardOf
-forward-tallies-length velocities marks [] l = refl
-forward-tallies-length velocities marks (e ∷ es) l = ap suc (forward-tallies-length velocities marks es (stepListOf false velocities marks e l))
+forward-tallies-length lent [] l = refl
+forward-tallies-length lent (e ∷ es) l = ap suc (forward-tallies-length lent es (stepListOf false lent e l))
 
 pub entries-length : (entry : ℕ → Entry) (n i : ℕ) → length (entriesOf entry n i) ≡ n
 unfolding entriesOf
@@ -120,30 +121,30 @@ left-none entry n = let s : n - n ≡ 0 = omega arith in rw s
 
 -- forward: what the steps left make of the list, and of the tallies after those that stand, is what
 -- all make of the list at the start
-pub record Forward (velocities : List Float) (marks : List ℕ) (entry : ℕ → Entry) (n : ℕ) (l₀ : List Float) (i : ℕ) (l : List Float) (tallies : List Tally) : Type 0 where
+pub record Forward (lent : Lent) (entry : ℕ → Entry) (n : ℕ) (l₀ : List Float) (i : ℕ) (l : List Float) (tallies : List Tally) : Type 0 where
   pub within : i ≤ n
   pub places : length tallies ≡ 16
   pub long : length l ≡ length l₀
-  pub list : chainForwardOf velocities marks (leftFrom entry n i) l .list ≡ chainForwardOf velocities marks (entriesOf entry n 0) l₀ .list
-  pub told : take i tallies ++ chainForwardOf velocities marks (leftFrom entry n i) l .tallies ≡ chainForwardOf velocities marks (entriesOf entry n 0) l₀ .tallies
+  pub list : chainForwardOf lent (leftFrom entry n i) l .list ≡ chainForwardOf lent (entriesOf entry n 0) l₀ .list
+  pub told : take i tallies ++ chainForwardOf lent (leftFrom entry n i) l .tallies ≡ chainForwardOf lent (entriesOf entry n 0) l₀ .tallies
   pub rest : drop i tallies ≡ replicate (16 - i) noTally
 
 -- inverse: the list is what the steps from index i on have made of it, last first, and the tallies
 -- from there on are theirs
-pub record Backward (velocities : List Float) (marks : List ℕ) (entry : ℕ → Entry) (n : ℕ) (l₀ : List Float) (i : ℕ) (l : List Float) (tallies : List Tally) : Type 0 where
+pub record Backward (lent : Lent) (entry : ℕ → Entry) (n : ℕ) (l₀ : List Float) (i : ℕ) (l : List Float) (tallies : List Tally) : Type 0 where
   pub within : i ≤ n
   pub places : length tallies ≡ 16
   pub long : length l ≡ length l₀
-  pub list : l ≡ chainInverseOf velocities marks (leftFrom entry n i) l₀ .list
-  pub told : drop i tallies ≡ chainInverseOf velocities marks (leftFrom entry n i) l₀ .tallies ++ replicate (16 - n) noTally
+  pub list : l ≡ chainInverseOf lent (leftFrom entry n i) l₀ .list
+  pub told : drop i tallies ≡ chainInverseOf lent (leftFrom entry n i) l₀ .tallies ++ replicate (16 - n) noTally
 
-module _ (velocities : List Float) (marks : List ℕ) (entry : ℕ → Entry) (n : ℕ) (l₀ : List Float) (most : n ≤ 16) where
-  pub forward-start : Forward velocities marks entry n l₀ 0 l₀ (replicate 16 noTally)
+module _ (lent : Lent) (entry : ℕ → Entry) (n : ℕ) (l₀ : List Float) (most : n ≤ 16) where
+  pub forward-start : Forward lent entry n l₀ 0 l₀ (replicate 16 noTally)
   forward-start =
       let s : n - 0 ≡ n = omega arith in
       record { within = omega arith; places = refl; long = refl; list = rw s; told = rw s; rest = refl }
 
-  pub backward-start : Backward velocities marks entry n l₀ n l₀ (replicate 16 noTally)
+  pub backward-start : Backward lent entry n l₀ n l₀ (replicate 16 noTally)
   unfolding chainInverseOf
   backward-start =
       record {
@@ -154,56 +155,56 @@ module _ (velocities : List Float) (marks : List ℕ) (entry : ℕ → Entry) (n
         told = rw (left-none entry n) (zeros 16 n);
       }
 
-module _ {velocities : List Float} {marks : List ℕ} {entry : ℕ → Entry} {n : ℕ} {l₀ : List Float} {i : ℕ} {l : List Float} {tallies : List Tally} (most : n ≤ 16) where
-  pub forward-again : {e : Entry} {l′ : List Float} {tally : Tally} → i < n → e ≡ entry i → l′ ≡ stepListOf false velocities marks e l → tally ≡ stepTallyOf false velocities marks e l
-      → Forward velocities marks entry n l₀ i l tallies → Forward velocities marks entry n l₀ (i + 1) l′ (set tallies i tally)
+module _ {lent : Lent} {entry : ℕ → Entry} {n : ℕ} {l₀ : List Float} {i : ℕ} {l : List Float} {tallies : List Tally} (most : n ≤ 16) where
+  pub forward-again : {e : Entry} {l′ : List Float} {tally : Tally} → i < n → e ≡ entry i → l′ ≡ stepListOf false lent e l → tally ≡ stepTallyOf false lent e l
+      → Forward lent entry n l₀ i l tallies → Forward lent entry n l₀ (i + 1) l′ (set tallies i tally)
   unfolding chainForwardOf
   forward-again {e} {l′} {tally} h ee el ec now =
       let g : i < length tallies = omega (arith, now .places) in
-      let a : l′ ≡ stepListOf false velocities marks (entry i) l = el ∙ ap (λ (x : Entry). stepListOf false velocities marks x l) ee in
-      let b : tally ≡ stepTallyOf false velocities marks (entry i) l = ec ∙ ap (λ (x : Entry). stepTallyOf false velocities marks x l) ee in
+      let a : l′ ≡ stepListOf false lent (entry i) l = el ∙ ap (λ (x : Entry). stepListOf false lent x l) ee in
+      let b : tally ≡ stepTallyOf false lent (entry i) l = ec ∙ ap (λ (x : Entry). stepTallyOf false lent x l) ee in
       record {
         within = omega arith;
         places = length-set tallies i tally ∙ now .places;
-        long = ap length a ∙ step-length false velocities marks (entry i) l ∙ now .long;
+        long = ap length a ∙ step-length false lent (entry i) l ∙ now .long;
         list = rw a (rw (left-open entry n i h) at (now .list));
         told = rw (filled tallies i tally g, append-assoc, b, a) (rw (left-open entry n i h) at (now .told));
         rest = left tallies i tally g ∙ fewer i tallies (omega arith) (now .rest);
       }
 
-  pub forward-end : n ≤ i → Forward velocities marks entry n l₀ i l tallies
-      → (l ≡ chainForwardOf velocities marks (entriesOf entry n 0) l₀ .list) × (tallies ≡ placesOf (chainForwardOf velocities marks (entriesOf entry n 0) l₀ .tallies))
+  pub forward-end : n ≤ i → Forward lent entry n l₀ i l tallies
+      → (l ≡ chainForwardOf lent (entriesOf entry n 0) l₀ .list) × (tallies ≡ placesOf (chainForwardOf lent (entriesOf entry n 0) l₀ .tallies))
   unfolding chainForwardOf
   forward-end h now =
       let s : i ≡ n = omega (arith, now .within) in
       let none : leftFrom entry n i ≡ [] = rw s (left-none entry n) in
-      let c : take i tallies ≡ chainForwardOf velocities marks (entriesOf entry n 0) l₀ .tallies = rw (none, append-nil) at (now .told) in
+      let c : take i tallies ≡ chainForwardOf lent (entriesOf entry n 0) l₀ .tallies = rw (none, append-nil) at (now .told) in
       let t : length (take i tallies) ≡ i = simp length-take (omega (arith, now .places)) in
-      let k : length (chainForwardOf velocities marks (entriesOf entry n 0) l₀ .tallies) ≡ i = ap length (sym c) ∙ t in
+      let k : length (chainForwardOf lent (entriesOf entry n 0) l₀ .tallies) ≡ i = ap length (sym c) ∙ t in
       (rw none at (now .list), sym (take-append-drop i tallies) ∙ rw (now .rest, c, k))
 
-  pub backward-again : {e : Entry} {l′ : List Float} {tally : Tally} (j : ℕ) → j + 1 ≡ i → e ≡ entry j → l′ ≡ stepListOf true velocities marks e l → tally ≡ stepTallyOf true velocities marks e l
-      → Backward velocities marks entry n l₀ i l tallies → Backward velocities marks entry n l₀ j l′ (set tallies j tally)
+  pub backward-again : {e : Entry} {l′ : List Float} {tally : Tally} (j : ℕ) → j + 1 ≡ i → e ≡ entry j → l′ ≡ stepListOf true lent e l → tally ≡ stepTallyOf true lent e l
+      → Backward lent entry n l₀ i l tallies → Backward lent entry n l₀ j l′ (set tallies j tally)
   unfolding chainInverseOf
   backward-again {e} {l′} {tally} j s ee el ec now =
       let g : j < length tallies = omega (arith, now .places, now .within) in
       let h : j < n = omega (arith, now .within) in
-      let a : l′ ≡ stepListOf true velocities marks (entry j) l = el ∙ ap (λ (x : Entry). stepListOf true velocities marks x l) ee in
-      let b : tally ≡ stepTallyOf true velocities marks (entry j) l = ec ∙ ap (λ (x : Entry). stepTallyOf true velocities marks x l) ee in
+      let a : l′ ≡ stepListOf true lent (entry j) l = el ∙ ap (λ (x : Entry). stepListOf true lent x l) ee in
+      let b : tally ≡ stepTallyOf true lent (entry j) l = ec ∙ ap (λ (x : Entry). stepTallyOf true lent x l) ee in
       record {
         within = omega (arith, now .within);
         places = length-set tallies j tally ∙ now .places;
-        long = ap length a ∙ step-length true velocities marks (entry j) l ∙ now .long;
-        list = rw (left-open entry n j h, s, a) (ap (stepListOf true velocities marks (entry j)) (now .list));
+        long = ap length a ∙ step-length true lent (entry j) l ∙ now .long;
+        list = rw (left-open entry n j h, s, a) (ap (stepListOf true lent (entry j)) (now .list));
         told = from-there tallies j tally g ∙ rw (left-open entry n j h, s, b, now .told, ← now .list);
       }
 
-  pub backward-end : i ≡ 0 → Backward velocities marks entry n l₀ i l tallies
-      → (l ≡ chainInverseOf velocities marks (entriesOf entry n 0) l₀ .list) × (tallies ≡ placesOf (chainInverseOf velocities marks (entriesOf entry n 0) l₀ .tallies))
+  pub backward-end : i ≡ 0 → Backward lent entry n l₀ i l tallies
+      → (l ≡ chainInverseOf lent (entriesOf entry n 0) l₀ .list) × (tallies ≡ placesOf (chainInverseOf lent (entriesOf entry n 0) l₀ .tallies))
   backward-end s now =
       let z : n - 0 ≡ n = omega arith in
-      let c : tallies ≡ chainInverseOf velocities marks (entriesOf entry n 0) l₀ .tallies ++ replicate (16 - n) noTally = rw (s, z) at (now .told) in
-      let k : length (chainInverseOf velocities marks (entriesOf entry n 0) l₀ .tallies) ≡ n =
-      tallies-length velocities marks (entriesOf entry n 0) l₀ ∙ entries-length entry n 0
+      let c : tallies ≡ chainInverseOf lent (entriesOf entry n 0) l₀ .tallies ++ replicate (16 - n) noTally = rw (s, z) at (now .told) in
+      let k : length (chainInverseOf lent (entriesOf entry n 0) l₀ .tallies) ≡ n =
+      tallies-length lent (entriesOf entry n 0) l₀ ∙ entries-length entry n 0
       in
       (rw (s, z) at (now .list), c ∙ rw k)

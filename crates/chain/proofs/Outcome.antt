@@ -2,7 +2,7 @@
 use Prim.Native.Nat.{ℕ, _%_, _≤_}
 use mathlib.Core.Path.{_≡_}
 use mathlib.Core.Bool.{Bool, true, false, not}
-use mathlib.Core.List.{List}
+use mathlib.Core.List.{List, []}
 use borrow.Author.Tests.{eq-eqb, ne-eqb, eqb-true, ltb-false, not-false}
 use lib.Dec.{eqb, ltb}
 use lib.ListN.{length}
@@ -11,6 +11,7 @@ use Rattle.sheet.specs.declared.Entry.{Entry}
 use Rattle.sheet.specs.declared.Refusal.{Refusal}
 use Rattle.sheet.specs.Rules.{ofCall, firstBroken}
 use Rattle.sheet.proofs.Order.{neither}
+use Rattle.plans.specs.Lent.{lentOf}
 use Rattle.chain.specs.Chain.{chainOf}
 use Rattle.chain.specs.Rules.{refusal9, refusal10, shiftRefusalOf, outcome, refusedAnswer, ranOutcome, outcomeOf}
 
@@ -36,7 +37,7 @@ module _ (own : Refusal) (deforms inverse : Bool) (es : List Entry) (l velocitie
   refused-10 h nine ten = rw (eq-eqb (own .number) 0 h, nine, ten)
 
   pub run-through : own .number ≡ 0 → refusal9 (length l) ≡ false → refusal10 deforms (length l) velocities marks ≡ false
-      → outcomeOf own deforms inverse es l velocities marks ≡ ranOutcome (chainOf inverse velocities marks es l)
+      → outcomeOf own deforms inverse es l velocities marks ≡ ranOutcome (chainOf inverse (lentOf velocities marks []) es l)
   unfolding outcomeOf shiftRefusalOf firstBroken
   run-through h nine ten = rw (eq-eqb (own .number) 0 h, nine, ten)
 

@@ -12,7 +12,7 @@ use lib.ListN.{length, replicate}
 use lib.Ieee.{Float}
 use Rattle.lists.specs.Run.{ranOf, countOf}
 use Rattle.bodies.specs.declared.Step.{Step}
-use Rattle.bodies.specs.declared.Step.the-variants.{Cart, Permtide, Deformation, Molodensky, Helmert}
+use Rattle.bodies.specs.declared.Step.the-variants.{Cart, Permtide, Deformation, Molodensky, Badekas, Helmert}
 use Rattle.sheet.specs.declared.Entry.{Entry}
 use Rattle.sheet.specs.Layout.{stepCountOf, entryAt}
 use Rattle.plans.specs.declared.Plan.{Plan}
@@ -26,13 +26,14 @@ use Rattle.plans.specs.Windows.{goneOf}
 use Rattle.plans.proofs.Arrays.{sixteen-or-fewer}
 use Rattle.sheet_plans.specs.Sheets.{planAt}
 use Rattle.windows.specs.Steps.{passIn, passesFrom, noStanding, startsFrom, talliesOf, goneOver}
+use Rattle.plans.specs.Lent.{Lent}
 use Rattle.chain.specs.Chain.{Run, turnsOf, metOf, passOf, stateOf, reversedOf, stepListOf, tuplesCountedOf, tuplesMetOf, stepTallyOf, chainForwardOf, chainInverseOf, chainOf, placesOf, entriesOf}
 use Rattle.chain.proofs.Laws.{tallies-length, entries-length, forward-tallies-length}
 
 -- ---- one step
 
-module _ (velocities : List Float) (marks : List ℕ) where
-  pub plan-turns : (inverse : Bool) (step : Step) → planTurnsOf velocities marks (planOf inverse step) ≡ turnsOf inverse velocities marks step
+module _ (lent : Lent) where
+  pub plan-turns : (inverse : Bool) (step : Step) → planTurnsOf lent (planOf inverse step) ≡ turnsOf inverse lent step
   unfolding planOf
   plan-turns true (Cart r) = refl
   plan-turns false (Cart r) = refl
@@ -40,16 +41,18 @@ module _ (velocities : List Float) (marks : List ℕ) where
   plan-turns inverse (Deformation r) = refl
   plan-turns inverse (Molodensky r) = refl
   plan-turns inverse (Helmert h) = refl
+  plan-turns inverse (Badekas r) = refl
 
 -- and tells of a tuple's angles what the step tells
-pub plan-met : (inverse : Bool) (marks : List ℕ) (step : Step) → planMetOf marks (planOf inverse step) ≡ metOf inverse marks step
+pub plan-met : (inverse : Bool) (lent : Lent) (step : Step) → planMetOf lent (planOf inverse step) ≡ metOf inverse lent step
 unfolding planOf
-plan-met true marks (Cart r) = refl
-plan-met false marks (Cart r) = refl
-plan-met inverse marks (Permtide r) = refl
-plan-met inverse marks (Deformation r) = refl
-plan-met inverse marks (Molodensky r) = refl
-plan-met inverse marks (Helmert h) = refl
+plan-met true lent (Cart r) = refl
+plan-met false lent (Cart r) = refl
+plan-met inverse lent (Permtide r) = refl
+plan-met inverse lent (Deformation r) = refl
+plan-met inverse lent (Molodensky r) = refl
+plan-met inverse lent (Helmert h) = refl
+plan-met inverse lent (Badekas r) = refl
 
 pub plan-start : (inverse : Bool) (step : Step) → planStartOf (planOf inverse step) ≡ stateOf step
 unfolding planOf
@@ -59,60 +62,61 @@ plan-start inverse (Permtide r) = refl
 plan-start inverse (Deformation r) = refl
 plan-start inverse (Molodensky r) = refl
 plan-start inverse (Helmert h) = refl
+plan-start inverse (Badekas r) = refl
 
-module _ (inverse : Bool) (velocities : List Float) (marks s : List ℕ) (i : ℕ) (below : i < stepCountOf s) where
-  turns-at : planTurnsOf velocities marks (planAt inverse s i) ≡ turnsOf (reversedOf inverse (entryAt s i)) velocities marks (entryAt s i .step)
+module _ (inverse : Bool) (lent : Lent) (s : List ℕ) (i : ℕ) (below : i < stepCountOf s) where
+  turns-at : planTurnsOf lent (planAt inverse s i) ≡ turnsOf (reversedOf inverse (entryAt s i)) lent (entryAt s i .step)
   unfolding planAt entryAt
-  turns-at = rw (lt-ltb i (stepCountOf s) below) (plan-turns velocities marks _ _)
+  turns-at = rw (lt-ltb i (stepCountOf s) below) (plan-turns lent _ _)
 
-  pass-at : planPassOf velocities marks (planAt inverse s i) ≡ passOf (reversedOf inverse (entryAt s i)) velocities marks (entryAt s i .step)
+  pass-at : planPassOf lent (planAt inverse s i) ≡ passOf (reversedOf inverse (entryAt s i)) lent (entryAt s i .step)
   unfolding planAt entryAt
-  pass-at = rw (lt-ltb i (stepCountOf s) below) (rw (plan-turns velocities marks _ _, plan-met _ marks _))
+  pass-at = rw (lt-ltb i (stepCountOf s) below) (rw (plan-turns lent _ _, plan-met _ lent _))
 
   start-at : planStartOf (planAt inverse s i) ≡ stateOf (entryAt s i .step)
   unfolding planAt entryAt
   start-at = rw (lt-ltb i (stepCountOf s) below) (plan-start _ _)
 
   module _ {plan : Plan} (e : plan ≡ planAt inverse s i) (l : List Float) where
-    pub list-at : ranOf (planTurnsOf velocities marks plan) 0 (planStartOf plan) l ≡ stepListOf inverse velocities marks (entryAt s i) l
+    pub list-at : ranOf (planTurnsOf lent plan) 0 (planStartOf plan) l ≡ stepListOf inverse lent (entryAt s i) l
     unfolding stepListOf
-    list-at = ap (λ (p : Plan). ranOf (planTurnsOf velocities marks p) 0 (planStartOf p) l) e ∙ rw (turns-at, start-at)
+    list-at = ap (λ (p : Plan). ranOf (planTurnsOf lent p) 0 (planStartOf p) l) e ∙ rw (turns-at, start-at)
 
-    pub tally-at : tallyOf (planPassOf velocities marks plan) 0 (planStartOf plan) l ≡ stepTallyOf inverse velocities marks (entryAt s i) l
+    pub tally-at : tallyOf (planPassOf lent plan) 0 (planStartOf plan) l ≡ stepTallyOf inverse lent (entryAt s i) l
     unfolding tuplesCountedOf tuplesMetOf
-    tally-at = ap (λ (p : Plan). tallyOf (planPassOf velocities marks p) 0 (planStartOf p) l) e ∙ (λ j. tallyOf (pass-at j) 0 (start-at j) l)
+    tally-at = ap (λ (p : Plan). tallyOf (planPassOf lent p) 0 (planStartOf p) l) e ∙ (λ j. tallyOf (pass-at j) 0 (start-at j) l)
 
-    pub tally-told : {tally : Tally} → tally .count ≡ countOf (planTurnsOf velocities marks plan) 0 (planStartOf plan) l
-        → tally .met ≡ countOf (planReachOf velocities marks plan) 0 (planStartOf plan) l → tally ≡ stepTallyOf inverse velocities marks (entryAt s i) l
-    tally-told ec em = tally-is {b = tallyOf (planPassOf velocities marks plan) 0 (planStartOf plan) l} ec em ∙ tally-at
+    pub tally-told : {tally : Tally} → tally .count ≡ countOf (planTurnsOf lent plan) 0 (planStartOf plan) l
+        → tally .met ≡ countOf (planReachOf lent plan) 0 (planStartOf plan) l → tally ≡ stepTallyOf inverse lent (entryAt s i) l
+    tally-told ec em = tally-is {b = tallyOf (planPassOf lent plan) 0 (planStartOf plan) l} ec em ∙ tally-at
 
 -- ---- a sheet of one step
 
-module _ (inverse : Bool) (velocities : List Float) (marks s : List ℕ) (below : 0 < stepCountOf s) (l : List Float) where
+module _ (inverse : Bool) (lent : Lent) (s : List ℕ) (below : 0 < stepCountOf s) (l : List Float) where
   one : Bool → Run
-  one inverted = record { list = stepListOf inverted velocities marks (entryAt s 0) l; tallies = stepTallyOf inverted velocities marks (entryAt s 0) l ∷ [] }
+  one inverted = record { list = stepListOf inverted lent (entryAt s 0) l; tallies = stepTallyOf inverted lent (entryAt s 0) l ∷ [] }
 
-  one-run : (inverted : Bool) → chainOf inverted velocities marks (entriesOf (entryAt s) 1 0) l ≡ one inverted
+  one-run : (inverted : Bool) → chainOf inverted lent (entriesOf (entryAt s) 1 0) l ≡ one inverted
   unfolding one entriesOf chainForwardOf chainInverseOf
   one-run true = refl
   one-run false = refl
 
-  pub one-step : {plan : Plan} {l′ : List Float} {tally : Tally} → plan ≡ planAt inverse s 0 → l′ ≡ ranOf (planTurnsOf velocities marks plan) 0 (planStartOf plan) l
-      → tally ≡ tallyOf (planPassOf velocities marks plan) 0 (planStartOf plan) l
-      → let run = chainOf inverse velocities marks (entriesOf (entryAt s) 1 0) l in (l′ ≡ run .list) × (tally ∷ replicate 15 noTally ≡ placesOf (run .tallies))
+  pub one-step : {plan : Plan} {l′ : List Float} {tally : Tally} → plan ≡ planAt inverse s 0 → l′ ≡ ranOf (planTurnsOf lent plan) 0 (planStartOf plan) l
+      → tally ≡ tallyOf (planPassOf lent plan) 0 (planStartOf plan) l
+      → let run = chainOf inverse lent (entriesOf (entryAt s) 1 0) l in (l′ ≡ run .list) × (tally ∷ replicate 15 noTally ≡ placesOf (run .tallies))
   unfolding one
   one-step e el et =
       let r = one-run inverse in (
-        el ∙ list-at inverse velocities marks s 0 below e l ∙ sym (ap (λ (run : Run). run .list) r),
-        ap (λ (a : Tally). a ∷ replicate 15 noTally) (et ∙ tally-at inverse velocities marks s 0 below e l) ∙ sym (ap (λ (run : Run). placesOf (run .tallies)) r),
+        el ∙ list-at inverse lent s 0 below e l ∙ sym (ap (λ (run : Run). run .list) r),
+        ap (λ (a : Tally). a ∷ replicate 15 noTally) (et ∙ tally-at inverse lent s 0 below e l) ∙ sym (ap (λ (run : Run). placesOf (run .tallies)) r),
       )
 
 -- ---- steps one after another
 
-module _ (velocities : List Float) (marks s : List ℕ) (plans : List Plan) where
+module _ (lent : Lent) (s : List ℕ) (plans : List Plan) where
   forward-gone : (n i : ℕ) (more : List Standing) (l : List Float) → i + n ≤ stepCountOf s → Ready (planAt false s) (i + n) plans
-      → let gone = goneOf false 0 (passesFrom (passIn velocities marks plans) n i) (startsFrom (planIn plans) n i ++ more) l in
-      let run = chainForwardOf velocities marks (entriesOf (entryAt s) n i) l in
+      → let gone = goneOf false 0 (passesFrom (passIn lent plans) n i) (startsFrom (planIn plans) n i ++ more) l in
+      let run = chainForwardOf lent (entriesOf (entryAt s) n i) l in
       (gone .list ≡ run .list) × (talliesOf (gone .standings) ≡ run .tallies ++ talliesOf more)
   unfolding goneOf passesFrom startsFrom entriesOf chainForwardOf talliesOf
   forward-gone zero i more l h ready = (refl, refl)
@@ -120,14 +124,14 @@ module _ (velocities : List Float) (marks s : List ℕ) (plans : List Plan) wher
       let below : i < stepCountOf s = omega (arith, h) in
       let next : suc i + n ≡ i + suc n = omega arith in
       let there = ready i (omega arith) in
-      let listed = list-at false velocities marks s i below there l in
-      let told = none-plus _ ∙ tally-at false velocities marks s i below there l in
-      let later = forward-gone n (suc i) more (stepListOf false velocities marks (entryAt s i) l) (omega (arith, h)) (rw next ready) in
-      (rw listed (later .0), rw (listed, told) (ap (λ (tallies : List Tally). stepTallyOf false velocities marks (entryAt s i) l ∷ tallies) (later .1)))
+      let listed = list-at false lent s i below there l in
+      let told = none-plus _ ∙ tally-at false lent s i below there l in
+      let later = forward-gone n (suc i) more (stepListOf false lent (entryAt s i) l) (omega (arith, h)) (rw next ready) in
+      (rw listed (later .0), rw (listed, told) (ap (λ (tallies : List Tally). stepTallyOf false lent (entryAt s i) l ∷ tallies) (later .1)))
 
   inverse-gone : (n i : ℕ) (more : List Standing) (l : List Float) → i + n ≤ stepCountOf s → Ready (planAt true s) (i + n) plans
-      → let gone = goneOf true 0 (passesFrom (passIn velocities marks plans) n i) (startsFrom (planIn plans) n i ++ more) l in
-      let run = chainInverseOf velocities marks (entriesOf (entryAt s) n i) l in
+      → let gone = goneOf true 0 (passesFrom (passIn lent plans) n i) (startsFrom (planIn plans) n i ++ more) l in
+      let run = chainInverseOf lent (entriesOf (entryAt s) n i) l in
       (gone .list ≡ run .list) × (talliesOf (gone .standings) ≡ run .tallies ++ talliesOf more)
   unfolding goneOf passesFrom startsFrom entriesOf chainInverseOf talliesOf
   inverse-gone zero i more l h ready = (refl, refl)
@@ -136,10 +140,10 @@ module _ (velocities : List Float) (marks s : List ℕ) (plans : List Plan) wher
       let next : suc i + n ≡ i + suc n = omega arith in
       let there = ready i (omega arith) in
       let later = inverse-gone n (suc i) more l (omega (arith, h)) (rw next ready) in
-      let run = chainInverseOf velocities marks (entriesOf (entryAt s) n (suc i)) l in
-      let listed = list-at true velocities marks s i below there (run .list) in
-      let told = none-plus _ ∙ tally-at true velocities marks s i below there (run .list) in
-      (rw (later .0) listed, rw (later .0, told) (ap (λ (tallies : List Tally). stepTallyOf true velocities marks (entryAt s i) (run .list) ∷ tallies) (later .1)))
+      let run = chainInverseOf lent (entriesOf (entryAt s) n (suc i)) l in
+      let listed = list-at true lent s i below there (run .list) in
+      let told = none-plus _ ∙ tally-at true lent s i below there (run .list) in
+      (rw (later .0) listed, rw (later .0, told) (ap (λ (tallies : List Tally). stepTallyOf true lent (entryAt s i) (run .list) ∷ tallies) (later .1)))
 
 -- no step, no tally
 none-told : (m : ℕ) → talliesOf (replicate m noStanding) ≡ replicate m noTally
@@ -148,16 +152,16 @@ none-told zero = refl
 none-told (suc m) = ap (λ (tallies : List Tally). noTally ∷ tallies) (none-told m)
 
 -- all steps in windows are the chain
-pub windows-are-the-chain : (inverse : Bool) (velocities : List Float) (marks s : List ℕ) (plans : List Plan) (n : ℕ) (l : List Float) → n ≤ stepCountOf s → n ≤ 16 → Ready (planAt inverse s) n plans
-    → let gone = goneOver inverse velocities marks plans n l in
-    let run = chainOf inverse velocities marks (entriesOf (entryAt s) n 0) l in
+pub windows-are-the-chain : (inverse : Bool) (lent : Lent) (s : List ℕ) (plans : List Plan) (n : ℕ) (l : List Float) → n ≤ stepCountOf s → n ≤ 16 → Ready (planAt inverse s) n plans
+    → let gone = goneOver inverse lent plans n l in
+    let run = chainOf inverse lent (entriesOf (entryAt s) n 0) l in
     (gone .list ≡ run .list) × (talliesOf (gone .standings) ≡ placesOf (run .tallies))
 unfolding goneOver
-windows-are-the-chain true velocities marks s plans n l h few ready =
-    let e = inverse-gone velocities marks s plans n 0 (replicate (16 - n) noStanding) l (omega (arith, h)) (rw (zero-add n) ready) in
-    let k = tallies-length velocities marks (entriesOf (entryAt s) n 0) l ∙ entries-length (entryAt s) n 0 in
+windows-are-the-chain true lent s plans n l h few ready =
+    let e = inverse-gone lent s plans n 0 (replicate (16 - n) noStanding) l (omega (arith, h)) (rw (zero-add n) ready) in
+    let k = tallies-length lent (entriesOf (entryAt s) n 0) l ∙ entries-length (entryAt s) n 0 in
     rw (sixteen-or-fewer n few) (e .0, e .1 ∙ rw (none-told, k))
-windows-are-the-chain false velocities marks s plans n l h few ready =
-    let e = forward-gone velocities marks s plans n 0 (replicate (16 - n) noStanding) l (omega (arith, h)) (rw (zero-add n) ready) in
-    let k = forward-tallies-length velocities marks (entriesOf (entryAt s) n 0) l ∙ entries-length (entryAt s) n 0 in
+windows-are-the-chain false lent s plans n l h few ready =
+    let e = forward-gone lent s plans n 0 (replicate (16 - n) noStanding) l (omega (arith, h)) (rw (zero-add n) ready) in
+    let k = forward-tallies-length lent (entriesOf (entryAt s) n 0) l ∙ entries-length (entryAt s) n 0 in
     rw (sixteen-or-fewer n few) (e .0, e .1 ∙ rw (none-told, k))

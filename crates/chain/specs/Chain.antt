@@ -1,5 +1,6 @@
 -- A chain: the steps of a sheet over a list, in order, inverse in reverse with each turned round.
--- Velocities and marks are those that the caller lends.
+-- What the caller lends for deformation, velocities and marks or a grid, is one record (plans,
+-- specs/Lent.antt).
 use Prim.Native.Nat.{ℕ, zero, suc, _-_}
 use mathlib.Core.Bool.{Bool, true, false, not, cond}
 use mathlib.Core.List.{List, [], _∷_, _++_}
@@ -8,40 +9,45 @@ use lib.ListN.{length, replicate}
 use lib.Ieee.{Float}
 use Rattle.helmert.specs.declared.State.{State}
 use Rattle.molodensky.specs.Step.{mopedOf}
+use Rattle.deformation.specs.Record.{directedOf}
 use Rattle.deformation.specs.Step.{motionOf}
 use Rattle.helmert.specs.Modes.{prepareOf, startOf}
+use Rattle.badekas.specs.Step.{shiftOf}
 use Rattle.bodies.specs.declared.Step.{Step}
-use Rattle.bodies.specs.declared.Step.the-variants.{Cart, Permtide, Deformation, Molodensky, Helmert}
+use Rattle.bodies.specs.declared.Step.the-variants.{Cart, Permtide, Deformation, Molodensky, Badekas, Helmert}
 use Rattle.sheet.specs.declared.Entry.{Entry}
 use Rattle.lists.specs.Run.{Turns, ranOf, countOf}
 use Rattle.helmert.specs.Turns.{noState, helmertTurns}
-use Rattle.turns.specs.Turns.{cartTurns, permtideTurns, molodenskyTurns, deformationTurns}
-use Rattle.reach.specs.Met.{Met, cartMet, permtideMet, molodenskyMet, deformationMet, helmertMet}
+use Rattle.turns.specs.Turns.{cartTurns, permtideTurns, molodenskyTurns}
+use Rattle.reach.specs.Met.{Met, cartMet, permtideMet, molodenskyMet, helmertMet}
 use Rattle.tally.specs.declared.Tally.{Tally}
 use Rattle.tally.specs.Tallies.{noTally}
+use Rattle.plans.specs.Lent.{Lent, lentTurns, lentMet}
 use Rattle.plans.specs.Passes.{Pass, meets}
 
 -- ---- one step over a list
 
 -- what a step makes of one tuple, by its kind
-abbrev pub turnsOf : Bool → List Float → List ℕ → Step → Turns State
-turnsOf inverse velocities marks (Cart r) = cartTurns inverse r
-turnsOf inverse velocities marks (Permtide r) = permtideTurns inverse r
-turnsOf inverse velocities marks (Deformation r) = deformationTurns inverse r velocities marks
-turnsOf inverse velocities marks (Molodensky r) = molodenskyTurns inverse r
-turnsOf inverse velocities marks (Helmert h) = helmertTurns inverse (prepareOf h)
+abbrev pub turnsOf : Bool → Lent → Step → Turns State
+turnsOf inverse lent (Cart r) = cartTurns inverse r
+turnsOf inverse lent (Permtide r) = permtideTurns inverse r
+turnsOf inverse lent (Deformation r) = lentTurns (motionOf r) (directedOf r inverse) lent
+turnsOf inverse lent (Molodensky r) = molodenskyTurns inverse r
+turnsOf inverse lent (Helmert h) = helmertTurns inverse (prepareOf h)
+turnsOf inverse lent (Badekas r) = helmertTurns inverse (shiftOf r)
 
 -- whether a tuple meets an angle out of reach of sine and cosine in it
-abbrev pub metOf : Bool → List ℕ → Step → Met State
-metOf inverse marks (Cart r) = cartMet inverse
-metOf inverse marks (Permtide r) = permtideMet
-metOf inverse marks (Deformation r) = deformationMet (motionOf r) marks
-metOf inverse marks (Molodensky r) = molodenskyMet (mopedOf r)
-metOf inverse marks (Helmert h) = helmertMet (prepareOf h)
+abbrev pub metOf : Bool → Lent → Step → Met State
+metOf inverse lent (Cart r) = cartMet inverse
+metOf inverse lent (Permtide r) = permtideMet
+metOf inverse lent (Deformation r) = lentMet (motionOf r) lent
+metOf inverse lent (Molodensky r) = molodenskyMet (mopedOf r)
+metOf inverse lent (Helmert h) = helmertMet (prepareOf h)
+metOf inverse lent (Badekas r) = helmertMet (shiftOf r)
 
 -- both together
-abbrev pub passOf : Bool → List Float → List ℕ → Step → Pass
-passOf inverse velocities marks step = record { turns = turnsOf inverse velocities marks step; met = metOf inverse marks step }
+abbrev pub passOf : Bool → Lent → Step → Pass
+passOf inverse lent step = record { turns = turnsOf inverse lent step; met = metOf inverse lent step }
 
 -- the state that a step starts each list in
 abbrev pub stateOf : Step → State
@@ -50,27 +56,28 @@ stateOf (Permtide r) = noState
 stateOf (Deformation r) = noState
 stateOf (Molodensky r) = noState
 stateOf (Helmert h) = startOf (prepareOf h)
+stateOf (Badekas r) = startOf (shiftOf r)
 
 -- a step runs in the chain's direction, turned round where its inverted word is 1
 abbrev pub reversedOf : Bool → Entry → Bool
 reversedOf inverse e = cond (eqb (e .inverted) 1) (not inverse) inverse
 
 -- the list after a step, how many tuples the step counted, and how many met an angle out of reach
-unfoldable pub stepListOf : Bool → List Float → List ℕ → Entry → List Float → List Float
-stepListOf inverse velocities marks e l =
-    ranOf (turnsOf (reversedOf inverse e) velocities marks (e .step)) 0 (stateOf (e .step)) l
+unfoldable pub stepListOf : Bool → Lent → Entry → List Float → List Float
+stepListOf inverse lent e l =
+    ranOf (turnsOf (reversedOf inverse e) lent (e .step)) 0 (stateOf (e .step)) l
 
-unfoldable pub tuplesCountedOf : Bool → List Float → List ℕ → Entry → List Float → ℕ
-tuplesCountedOf inverse velocities marks e l =
-    countOf (turnsOf (reversedOf inverse e) velocities marks (e .step)) 0 (stateOf (e .step)) l
+unfoldable pub tuplesCountedOf : Bool → Lent → Entry → List Float → ℕ
+tuplesCountedOf inverse lent e l =
+    countOf (turnsOf (reversedOf inverse e) lent (e .step)) 0 (stateOf (e .step)) l
 
-unfoldable pub tuplesMetOf : Bool → List Float → List ℕ → Entry → List Float → ℕ
-tuplesMetOf inverse velocities marks e l =
-    countOf (meets (passOf (reversedOf inverse e) velocities marks (e .step))) 0 (stateOf (e .step)) l
+unfoldable pub tuplesMetOf : Bool → Lent → Entry → List Float → ℕ
+tuplesMetOf inverse lent e l =
+    countOf (meets (passOf (reversedOf inverse e) lent (e .step))) 0 (stateOf (e .step)) l
 
-abbrev pub stepTallyOf : Bool → List Float → List ℕ → Entry → List Float → Tally
-stepTallyOf inverse velocities marks e l =
-    record { count = tuplesCountedOf inverse velocities marks e l; met = tuplesMetOf inverse velocities marks e l }
+abbrev pub stepTallyOf : Bool → Lent → Entry → List Float → Tally
+stepTallyOf inverse lent e l =
+    record { count = tuplesCountedOf inverse lent e l; met = tuplesMetOf inverse lent e l }
 
 -- ---- steps one after another
 
@@ -80,21 +87,21 @@ pub record Run : Type 0 where
   pub tallies : List Tally
 
 -- forward: the first step first
-unfoldable pub chainForwardOf : List Float → List ℕ → List Entry → List Float → Run
-chainForwardOf velocities marks [] l = record { list = l; tallies = [] }
-chainForwardOf velocities marks (e ∷ es) l =
-    let later = chainForwardOf velocities marks es (stepListOf false velocities marks e l) in
-    record { list = later .list; tallies = stepTallyOf false velocities marks e l ∷ later .tallies }
+unfoldable pub chainForwardOf : Lent → List Entry → List Float → Run
+chainForwardOf lent [] l = record { list = l; tallies = [] }
+chainForwardOf lent (e ∷ es) l =
+    let later = chainForwardOf lent es (stepListOf false lent e l) in
+    record { list = later .list; tallies = stepTallyOf false lent e l ∷ later .tallies }
 
 -- inverse: the last step first
-unfoldable pub chainInverseOf : List Float → List ℕ → List Entry → List Float → Run
-chainInverseOf velocities marks [] l = record { list = l; tallies = [] }
-chainInverseOf velocities marks (e ∷ es) l =
-    let later = chainInverseOf velocities marks es l in
-    record { list = stepListOf true velocities marks e (later .list); tallies = stepTallyOf true velocities marks e (later .list) ∷ later .tallies }
+unfoldable pub chainInverseOf : Lent → List Entry → List Float → Run
+chainInverseOf lent [] l = record { list = l; tallies = [] }
+chainInverseOf lent (e ∷ es) l =
+    let later = chainInverseOf lent es l in
+    record { list = stepListOf true lent e (later .list); tallies = stepTallyOf true lent e (later .list) ∷ later .tallies }
 
-abbrev pub chainOf : Bool → List Float → List ℕ → List Entry → List Float → Run
-chainOf inverse velocities marks es l = cond inverse (chainInverseOf velocities marks es l) (chainForwardOf velocities marks es l)
+abbrev pub chainOf : Bool → Lent → List Entry → List Float → Run
+chainOf inverse lent es l = cond inverse (chainInverseOf lent es l) (chainForwardOf lent es l)
 
 -- sixteen places: each step's tally, and zeros in the others
 abbrev pub placesOf : List Tally → List Tally

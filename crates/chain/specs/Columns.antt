@@ -11,6 +11,7 @@ use Rattle.sheet.specs.declared.Entry.{Entry}
 use Rattle.sheet.specs.declared.Refusal.{Refusal}
 use Rattle.sheet.specs.Layout.{stepCountOf, kindAt, entryAt}
 use Rattle.sheet.specs.Rules.{ofCall, rule, firstBroken, hasDeformation, refusalOf}
+use Rattle.plans.specs.Lent.{lentOf}
 use Rattle.chain.specs.declared.Answer.{Answer}
 use Rattle.chain.specs.Chain.{Run, chainOf, placesOf, entriesOf}
 use Rattle.chain.specs.Rules.{refusal10, refusedAnswer, ranAnswer}
@@ -45,7 +46,7 @@ unfoldable pub columnsOutcomeOf : Refusal → Bool → Bool → List Entry → C
 columnsOutcomeOf own deforms inverse es c velocities marks =
     let refusal = columnsRefusalOf own deforms c velocities marks in
     cond (eqb (refusal .number) 0)
-    (ranColumns (chainOf inverse velocities marks es (flatOf (c .x) (c .y) (c .z) (c .t))))
+    (ranColumns (chainOf inverse (lentOf velocities marks []) es (flatOf (c .x) (c .y) (c .z) (c .t))))
     (columnsOutcome (refusedAnswer refusal) c)
 
 -- over a sheet's bytes

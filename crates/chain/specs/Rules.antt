@@ -12,6 +12,7 @@ use Rattle.sheet.specs.Layout.{stepCountOf, kindAt, entryAt}
 use Rattle.sheet.specs.Rules.{accepted, ofCall, rule, firstBroken, hasDeformation, refusalOf}
 use Rattle.tally.specs.declared.Tally.{Tally}
 use Rattle.tally.specs.Tallies.{noTally}
+use Rattle.plans.specs.Lent.{lentOf}
 use Rattle.chain.specs.declared.Answer.{Answer}
 use Rattle.chain.specs.Chain.{Run, chainOf, placesOf, entriesOf}
 
@@ -69,7 +70,7 @@ ranOutcome run = outcome (ranAnswer (placesOf (run .tallies))) (run .list)
 unfoldable pub outcomeOf : Refusal → Bool → Bool → List Entry → List Float → List Float → List ℕ → Outcome
 outcomeOf own deforms inverse es l velocities marks =
     let refusal = shiftRefusalOf own deforms l velocities marks in
-    cond (eqb (refusal .number) 0) (ranOutcome (chainOf inverse velocities marks es l)) (outcome (refusedAnswer refusal) l)
+    cond (eqb (refusal .number) 0) (ranOutcome (chainOf inverse (lentOf velocities marks []) es l)) (outcome (refusedAnswer refusal) l)
 
 -- over a sheet's bytes
 unfoldable pub shiftOf : Bool → List ℕ → List Float → List Float → List ℕ → Outcome

@@ -11,14 +11,17 @@
 // Used by the program and by callers that keep lists.
 ghost use mathlib.Core.Path.{_≡_};
 ghost use mathlib.Core.Bool.{true, false};
+ghost use mathlib.Core.List.{[]};
 ghost use Prim.Native.Nat.{_*_, _%_, _≤_, _<_};
 ghost use lib.ListN.{length};
 ghost use Rattle.columns.specs.Columns.{columns, Level, flatOf};
 ghost use Rattle.sheet.specs.Layout.{stepCountOf, kindAt, entryAt};
 ghost use Rattle.sheet.specs.Rules.{hasDeformation};
+ghost use Rattle.plans.specs.Lent.{lentOf};
 ghost use Rattle.chain.specs.Chain.{reversedOf, stepListOf, stepTallyOf, chainForwardOf, chainInverseOf, chainOf, placesOf, entriesOf};
 ghost use Rattle.chain.specs.Rules.{refusal9, overOne, lentFor, refusal10, refusedAnswer, ranAnswer, outcome, shiftOf};
 ghost use Rattle.chain.specs.Columns.{refusal9Columns, columnsOutcome, shiftColumnsOf};
+ghost use Rattle.chain.specs.Grid.{shiftGridOf, shiftColumnsGridOf};
 use sheet::Entry;
 use sheet::Refusal;
 use tally::Tally;
@@ -50,15 +53,16 @@ fn step_at(
     t: &mut [f64],
     velocities: &[f64],
     marks: &[u8],
+    grid: &[u8],
 ) -> Tally
     requires { ⌜ (i < stepCountOf (now s)) × Level (now x) (now y) (now z) (now t) × (length (now x) ≤ 2048) ⌝ }
     ensures { λ r. ⌜ (flatOf (now (x .exit)) (now (y .exit)) (now (z .exit)) (now (t .exit))
-        ≡ stepListOf inverse (now (velocities .entry)) (now (marks .entry)) (entryAt (now (s .entry)) i) (flatOf (now (x .entry)) (now (y .entry)) (now (z .entry)) (now (t .entry))))
-        × (r ≡ stepTallyOf inverse (now (velocities .entry)) (now (marks .entry)) (entryAt (now (s .entry)) i) (flatOf (now (x .entry)) (now (y .entry)) (now (z .entry)) (now (t .entry)))) ⌝ }
+        ≡ stepListOf inverse (lentOf (now (velocities .entry)) (now (marks .entry)) (now (grid .entry))) (entryAt (now (s .entry)) i) (flatOf (now (x .entry)) (now (y .entry)) (now (z .entry)) (now (t .entry))))
+        × (r ≡ stepTallyOf inverse (lentOf (now (velocities .entry)) (now (marks .entry)) (now (grid .entry))) (entryAt (now (s .entry)) i) (flatOf (now (x .entry)) (now (y .entry)) (now (z .entry)) (now (t .entry)))) ⌝ }
 {
     let plan = sheet_plans::plan_at(inverse, s, i);
     let from = plans::start(plan);
-    let part = plan_columns::run(plan, 0, from, x, y, z, t, velocities, marks);
+    let part = plan_columns::run(plan, 0, from, x, y, z, t, velocities, marks, grid);
     Tally {
         count: part.count,
         met: part.met,
@@ -76,16 +80,17 @@ fn forward(
     t: &mut [f64],
     velocities: &[f64],
     marks: &[u8],
+    grid: &[u8],
 ) -> [Tally; 16]
     requires { ⌜ (n ≤ 16) × (n ≡ stepCountOf (now s)) × Level (now x) (now y) (now z) (now t) × (length (now x) ≤ 2048) ⌝ }
     ensures { λ r. ⌜ (flatOf (now (x .exit)) (now (y .exit)) (now (z .exit)) (now (t .exit))
-        ≡ chainForwardOf (now (velocities .entry)) (now (marks .entry)) (entriesOf (entryAt (now (s .entry))) n 0) (flatOf (now (x .entry)) (now (y .entry)) (now (z .entry)) (now (t .entry))) .list)
-        × (r ≡ placesOf (chainForwardOf (now (velocities .entry)) (now (marks .entry)) (entriesOf (entryAt (now (s .entry))) n 0) (flatOf (now (x .entry)) (now (y .entry)) (now (z .entry)) (now (t .entry))) .tallies)) ⌝ }
+        ≡ chainForwardOf (lentOf (now (velocities .entry)) (now (marks .entry)) (now (grid .entry))) (entriesOf (entryAt (now (s .entry))) n 0) (flatOf (now (x .entry)) (now (y .entry)) (now (z .entry)) (now (t .entry))) .list)
+        × (r ≡ placesOf (chainForwardOf (lentOf (now (velocities .entry)) (now (marks .entry)) (now (grid .entry))) (entriesOf (entryAt (now (s .entry))) n 0) (flatOf (now (x .entry)) (now (y .entry)) (now (z .entry)) (now (t .entry))) .tallies)) ⌝ }
 {
     let mut tallies = [tally::none(); 16];
     let mut i = 0;
     while i < n {
-        let tally = step_at(false, s, i, x, y, z, t, velocities, marks); // the first step first
+        let tally = step_at(false, s, i, x, y, z, t, velocities, marks, grid); // the first step first
         tallies[i] = tally; // in the sheet's order
         i += 1;
     }
@@ -101,17 +106,18 @@ fn backward(
     t: &mut [f64],
     velocities: &[f64],
     marks: &[u8],
+    grid: &[u8],
 ) -> [Tally; 16]
     requires { ⌜ (n ≤ 16) × (n ≡ stepCountOf (now s)) × Level (now x) (now y) (now z) (now t) × (length (now x) ≤ 2048) ⌝ }
     ensures { λ r. ⌜ (flatOf (now (x .exit)) (now (y .exit)) (now (z .exit)) (now (t .exit))
-        ≡ chainInverseOf (now (velocities .entry)) (now (marks .entry)) (entriesOf (entryAt (now (s .entry))) n 0) (flatOf (now (x .entry)) (now (y .entry)) (now (z .entry)) (now (t .entry))) .list)
-        × (r ≡ placesOf (chainInverseOf (now (velocities .entry)) (now (marks .entry)) (entriesOf (entryAt (now (s .entry))) n 0) (flatOf (now (x .entry)) (now (y .entry)) (now (z .entry)) (now (t .entry))) .tallies)) ⌝ }
+        ≡ chainInverseOf (lentOf (now (velocities .entry)) (now (marks .entry)) (now (grid .entry))) (entriesOf (entryAt (now (s .entry))) n 0) (flatOf (now (x .entry)) (now (y .entry)) (now (z .entry)) (now (t .entry))) .list)
+        × (r ≡ placesOf (chainInverseOf (lentOf (now (velocities .entry)) (now (marks .entry)) (now (grid .entry))) (entriesOf (entryAt (now (s .entry))) n 0) (flatOf (now (x .entry)) (now (y .entry)) (now (z .entry)) (now (t .entry))) .tallies)) ⌝ }
 {
     let mut tallies = [tally::none(); 16];
     let mut i = n;
     while 0 < i {
         i -= 1;
-        let tally = step_at(true, s, i, x, y, z, t, velocities, marks); // the last step first
+        let tally = step_at(true, s, i, x, y, z, t, velocities, marks, grid); // the last step first
         tallies[i] = tally;
     }
     tallies
@@ -128,16 +134,17 @@ fn over_columns(
     t: &mut [f64],
     velocities: &[f64],
     marks: &[u8],
+    grid: &[u8],
 ) -> [Tally; 16]
     requires { ⌜ (n ≤ 16) × (n ≡ stepCountOf (now s)) × Level (now x) (now y) (now z) (now t) × (length (now x) ≤ 2048) ⌝ }
     ensures { λ r. ⌜ (flatOf (now (x .exit)) (now (y .exit)) (now (z .exit)) (now (t .exit))
-        ≡ chainOf inverse (now (velocities .entry)) (now (marks .entry)) (entriesOf (entryAt (now (s .entry))) n 0) (flatOf (now (x .entry)) (now (y .entry)) (now (z .entry)) (now (t .entry))) .list)
-        × (r ≡ placesOf (chainOf inverse (now (velocities .entry)) (now (marks .entry)) (entriesOf (entryAt (now (s .entry))) n 0) (flatOf (now (x .entry)) (now (y .entry)) (now (z .entry)) (now (t .entry))) .tallies)) ⌝ }
+        ≡ chainOf inverse (lentOf (now (velocities .entry)) (now (marks .entry)) (now (grid .entry))) (entriesOf (entryAt (now (s .entry))) n 0) (flatOf (now (x .entry)) (now (y .entry)) (now (z .entry)) (now (t .entry))) .list)
+        × (r ≡ placesOf (chainOf inverse (lentOf (now (velocities .entry)) (now (marks .entry)) (now (grid .entry))) (entriesOf (entryAt (now (s .entry))) n 0) (flatOf (now (x .entry)) (now (y .entry)) (now (z .entry)) (now (t .entry))) .tallies)) ⌝ }
 {
     if inverse {
-        return backward(s, n, x, y, z, t, velocities, marks);
+        return backward(s, n, x, y, z, t, velocities, marks, grid);
     }
-    forward(s, n, x, y, z, t, velocities, marks)
+    forward(s, n, x, y, z, t, velocities, marks, grid)
 }
 
 // ----- a flat list -----------------------------------------------------------------------------
@@ -154,13 +161,14 @@ fn through(
     t: &mut [f64],
     velocities: &[f64],
     marks: &[u8],
+    grid: &[u8],
 ) -> [Tally; 16]
     requires { ⌜ (n ≤ 16) × (n ≡ stepCountOf (now s)) × Level (now x) (now y) (now z) (now t) × (length (now list) ≡ 4 * length (now x)) × (length (now x) ≤ 16) ⌝ }
-    ensures { λ r. ⌜ (now (list .exit) ≡ chainOf inverse (now (velocities .entry)) (now (marks .entry)) (entriesOf (entryAt (now (s .entry))) n 0) (now (list .entry)) .list)
-        × (r ≡ placesOf (chainOf inverse (now (velocities .entry)) (now (marks .entry)) (entriesOf (entryAt (now (s .entry))) n 0) (now (list .entry)) .tallies)) ⌝ }
+    ensures { λ r. ⌜ (now (list .exit) ≡ chainOf inverse (lentOf (now (velocities .entry)) (now (marks .entry)) (now (grid .entry))) (entriesOf (entryAt (now (s .entry))) n 0) (now (list .entry)) .list)
+        × (r ≡ placesOf (chainOf inverse (lentOf (now (velocities .entry)) (now (marks .entry)) (now (grid .entry))) (entriesOf (entryAt (now (s .entry))) n 0) (now (list .entry)) .tallies)) ⌝ }
 {
     columns::to_columns(list, x, y, z, t);
-    let tallies = over_columns(inverse, s, n, x, y, z, t, velocities, marks);
+    let tallies = over_columns(inverse, s, n, x, y, z, t, velocities, marks, grid);
     columns::to_flat(x, y, z, t, list);
     tallies
 }
@@ -180,10 +188,11 @@ fn short(
     list: &mut [f64],
     velocities: &[f64],
     marks: &[u8],
+    grid: &[u8],
 ) -> [Tally; 16]
     requires { ⌜ (n ≤ 16) × (n ≡ stepCountOf (now s)) × (length (now list) % 4 ≡ 0) × (length (now list) ≤ 64) ⌝ }
-    ensures { λ r. ⌜ (now (list .exit) ≡ chainOf inverse (now (velocities .entry)) (now (marks .entry)) (entriesOf (entryAt (now (s .entry))) n 0) (now (list .entry)) .list)
-        × (r ≡ placesOf (chainOf inverse (now (velocities .entry)) (now (marks .entry)) (entriesOf (entryAt (now (s .entry))) n 0) (now (list .entry)) .tallies)) ⌝ }
+    ensures { λ r. ⌜ (now (list .exit) ≡ chainOf inverse (lentOf (now (velocities .entry)) (now (marks .entry)) (now (grid .entry))) (entriesOf (entryAt (now (s .entry))) n 0) (now (list .entry)) .list)
+        × (r ≡ placesOf (chainOf inverse (lentOf (now (velocities .entry)) (now (marks .entry)) (now (grid .entry))) (entriesOf (entryAt (now (s .entry))) n 0) (now (list .entry)) .tallies)) ⌝ }
 {
     let mut x = zeros();
     let mut y = zeros();
@@ -201,17 +210,18 @@ fn short(
         &mut t[..m],
         velocities,
         marks,
+        grid,
     )
 }
 
 // A sheet of one step over a long list: its plan alone is made.
-fn alone(inverse: bool, s: &[u8], list: &mut [f64], velocities: &[f64], marks: &[u8]) -> [Tally; 16]
+fn alone(inverse: bool, s: &[u8], list: &mut [f64], velocities: &[f64], marks: &[u8], grid: &[u8]) -> [Tally; 16]
     requires { ⌜ 0 < stepCountOf (now s) ⌝ }
-    ensures { λ r. ⌜ (now (list .exit) ≡ chainOf inverse (now (velocities .entry)) (now (marks .entry)) (entriesOf (entryAt (now (s .entry))) 1 0) (now (list .entry)) .list)
-        × (r ≡ placesOf (chainOf inverse (now (velocities .entry)) (now (marks .entry)) (entriesOf (entryAt (now (s .entry))) 1 0) (now (list .entry)) .tallies)) ⌝ }
+    ensures { λ r. ⌜ (now (list .exit) ≡ chainOf inverse (lentOf (now (velocities .entry)) (now (marks .entry)) (now (grid .entry))) (entriesOf (entryAt (now (s .entry))) 1 0) (now (list .entry)) .list)
+        × (r ≡ placesOf (chainOf inverse (lentOf (now (velocities .entry)) (now (marks .entry)) (now (grid .entry))) (entriesOf (entryAt (now (s .entry))) 1 0) (now (list .entry)) .tallies)) ⌝ }
 {
     let plan = sheet_plans::plan_at(inverse, s, 0);
-    let tally = step_windows::over(plan, list, velocities, marks);
+    let tally = step_windows::over(plan, list, velocities, marks, grid);
     let mut tallies = [tally::none(); 16];
     tallies[0] = tally;
     tallies
@@ -225,19 +235,65 @@ fn over_list(
     list: &mut [f64],
     velocities: &[f64],
     marks: &[u8],
+    grid: &[u8],
 ) -> [Tally; 16]
     requires { ⌜ (n ≤ 16) × (n ≡ stepCountOf (now s)) × (length (now list) % 4 ≡ 0) × (length (now list) ≤ 8192) ⌝ }
-    ensures { λ r. ⌜ (now (list .exit) ≡ chainOf inverse (now (velocities .entry)) (now (marks .entry)) (entriesOf (entryAt (now (s .entry))) n 0) (now (list .entry)) .list)
-        × (r ≡ placesOf (chainOf inverse (now (velocities .entry)) (now (marks .entry)) (entriesOf (entryAt (now (s .entry))) n 0) (now (list .entry)) .tallies)) ⌝ }
+    ensures { λ r. ⌜ (now (list .exit) ≡ chainOf inverse (lentOf (now (velocities .entry)) (now (marks .entry)) (now (grid .entry))) (entriesOf (entryAt (now (s .entry))) n 0) (now (list .entry)) .list)
+        × (r ≡ placesOf (chainOf inverse (lentOf (now (velocities .entry)) (now (marks .entry)) (now (grid .entry))) (entriesOf (entryAt (now (s .entry))) n 0) (now (list .entry)) .tallies)) ⌝ }
 {
     if list.len() <= 64 {
-        return short(inverse, s, n, list, velocities, marks);
+        return short(inverse, s, n, list, velocities, marks, grid);
     }
     if n == 1 {
-        return alone(inverse, s, list, velocities, marks);
+        return alone(inverse, s, list, velocities, marks, grid);
     }
     let plans = sheet_plans::plans_of(inverse, s, n);
-    windows::over(inverse, plans, n, list, velocities, marks)
+    windows::over(inverse, plans, n, list, velocities, marks, grid)
+}
+
+// ----- without a grid --------------------------------------------------------------------------
+
+// A grid of no bytes, which is none.
+pub fn no_grid(s: &[u8]) -> &[u8]
+    ensures { λ r. ⌜ now r ≡ [] ⌝ }
+{
+    &s[0..0]
+}
+
+fn list_without_grid(
+    inverse: bool,
+    s: &[u8],
+    n: usize,
+    list: &mut [f64],
+    velocities: &[f64],
+    marks: &[u8],
+) -> [Tally; 16]
+    requires { ⌜ (n ≤ 16) × (n ≡ stepCountOf (now s)) × (length (now list) % 4 ≡ 0) × (length (now list) ≤ 8192) ⌝ }
+    ensures { λ r. ⌜ (now (list .exit) ≡ chainOf inverse (lentOf (now (velocities .entry)) (now (marks .entry)) []) (entriesOf (entryAt (now (s .entry))) n 0) (now (list .entry)) .list)
+        × (r ≡ placesOf (chainOf inverse (lentOf (now (velocities .entry)) (now (marks .entry)) []) (entriesOf (entryAt (now (s .entry))) n 0) (now (list .entry)) .tallies)) ⌝ }
+{
+    let none = no_grid(s);
+    over_list(inverse, s, n, list, velocities, marks, none)
+}
+
+fn columns_without_grid(
+    inverse: bool,
+    s: &[u8],
+    n: usize,
+    x: &mut [f64],
+    y: &mut [f64],
+    z: &mut [f64],
+    t: &mut [f64],
+    velocities: &[f64],
+    marks: &[u8],
+) -> [Tally; 16]
+    requires { ⌜ (n ≤ 16) × (n ≡ stepCountOf (now s)) × Level (now x) (now y) (now z) (now t) × (length (now x) ≤ 2048) ⌝ }
+    ensures { λ r. ⌜ (flatOf (now (x .exit)) (now (y .exit)) (now (z .exit)) (now (t .exit))
+        ≡ chainOf inverse (lentOf (now (velocities .entry)) (now (marks .entry)) []) (entriesOf (entryAt (now (s .entry))) n 0) (flatOf (now (x .entry)) (now (y .entry)) (now (z .entry)) (now (t .entry))) .list)
+        × (r ≡ placesOf (chainOf inverse (lentOf (now (velocities .entry)) (now (marks .entry)) []) (entriesOf (entryAt (now (s .entry))) n 0) (flatOf (now (x .entry)) (now (y .entry)) (now (z .entry)) (now (t .entry))) .tallies)) ⌝ }
+{
+    let none = no_grid(s);
+    over_columns(inverse, s, n, x, y, z, t, velocities, marks, none)
 }
 
 // ----- the rules of the lent lists --------------------------------------------------------------
@@ -360,7 +416,7 @@ pub fn shift_columns(
     if lent_broken(deforms(s, n), 4 * x.len(), velocities, marks) {
         return refused(Refusal::of_call(10));
     }
-    let tallies = over_columns(inverse, s, n, x, y, z, t, velocities, marks);
+    let tallies = columns_without_grid(inverse, s, n, x, y, z, t, velocities, marks);
     ran(tallies)
 }
 
@@ -379,6 +435,72 @@ pub fn shift(inverse: bool, s: &[u8], list: &mut [f64], velocities: &[f64], mark
     if lent_broken(deforms(s, n), list.len(), velocities, marks) {
         return refused(Refusal::of_call(10));
     }
-    let tallies = over_list(inverse, s, n, list, velocities, marks);
+    let tallies = list_without_grid(inverse, s, n, list, velocities, marks);
+    ran(tallies)
+}
+
+// ----- the entries with a grid ------------------------------------------------------------------
+
+// A sheet's bytes over columns, with a velocity grid.
+pub fn shift_columns_grid(
+    inverse: bool,
+    s: &[u8],
+    x: &mut [f64],
+    y: &mut [f64],
+    z: &mut [f64],
+    t: &mut [f64],
+    velocities: &[f64],
+    marks: &[u8],
+    grid: &[u8],
+) -> Answer
+    ensures { λ r. ⌜ columnsOutcome r (columns (now (x .exit)) (now (y .exit)) (now (z .exit)) (now (t .exit)))
+        ≡ shiftColumnsGridOf inverse (now (s .entry)) (columns (now (x .entry)) (now (y .entry)) (now (z .entry)) (now (t .entry))) (now (velocities .entry)) (now (marks .entry)) (now (grid .entry)) ⌝ }
+{
+    let own = sheet::check(s);
+    if own.number != 0 {
+        return refused(own);
+    }
+    if columns_broken(x.len(), y.len(), z.len(), t.len()) {
+        return refused(Refusal::of_call(9));
+    }
+    if lent_broken(false, 0, velocities, marks) {
+        return refused(Refusal::of_call(10));
+    }
+    let broken = grid_rules::check_grid(grid);
+    if broken != 0 {
+        return refused(Refusal::of_call(broken));
+    }
+    let n = sheet::step_count(s);
+    let tallies = over_columns(inverse, s, n, x, y, z, t, velocities, marks, grid);
+    ran(tallies)
+}
+
+// A sheet's bytes over a flat list, with a velocity grid.
+pub fn shift_grid(
+    inverse: bool,
+    s: &[u8],
+    list: &mut [f64],
+    velocities: &[f64],
+    marks: &[u8],
+    grid: &[u8],
+) -> Answer
+    ensures { λ r. ⌜ outcome r (now (list .exit)) ≡ shiftGridOf inverse (now (s .entry)) (now (list .entry)) (now (velocities .entry)) (now (marks .entry)) (now (grid .entry)) ⌝ }
+{
+    let own = sheet::check(s);
+    if own.number != 0 {
+        return refused(own);
+    }
+    if list_broken(list.len()) {
+        return refused(Refusal::of_call(9));
+    }
+    if lent_broken(false, 0, velocities, marks) {
+        return refused(Refusal::of_call(10));
+    }
+    let broken = grid_rules::check_grid(grid);
+    if broken != 0 {
+        return refused(Refusal::of_call(broken));
+    }
+    let n = sheet::step_count(s);
+    let tallies = over_list(inverse, s, n, list, velocities, marks, grid);
     ran(tallies)
 }

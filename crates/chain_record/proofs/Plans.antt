@@ -9,32 +9,33 @@ use Rattle.lists.specs.Run.{ranOf}
 use Rattle.bodies.specs.declared.Step.{Step}
 use Rattle.sheet.specs.declared.Entry.{Entry}
 use Rattle.plans.specs.declared.Plan.{Plan}
+use Rattle.plans.specs.Lent.{Lent}
 use Rattle.plans.specs.Passes.{Pass, tallyOf}
 use Rattle.plans.specs.Plans.{planOf, planTurnsOf, planPassOf, planStartOf}
 use Rattle.chain.specs.Chain.{passOf, stateOf, reversedOf, stepListOf, tuplesCountedOf, tuplesMetOf, stepTallyOf}
 use Rattle.chain.proofs.Windows.{plan-turns, plan-met, plan-start}
 
-pass-of : (velocities : List Float) (marks : List ℕ) (reversed : Bool) (step : Step) → planPassOf velocities marks (planOf reversed step) ≡ passOf reversed velocities marks step
-pass-of velocities marks reversed step =
-    let et = plan-turns velocities marks reversed step in
-    let em = plan-met reversed marks step in
+pass-of : (lent : Lent) (reversed : Bool) (step : Step) → planPassOf lent (planOf reversed step) ≡ passOf reversed lent step
+pass-of lent reversed step =
+    let et = plan-turns lent reversed step in
+    let em = plan-met reversed lent step in
     λ j. record { turns = et j; met = em j }
 
-module _ (inverse : Bool) (velocities : List Float) (marks : List ℕ) (e : Entry) (l : List Float) {reversed : Bool} {plan : Plan}
+module _ (inverse : Bool) (lent : Lent) (e : Entry) (l : List Float) {reversed : Bool} {plan : Plan}
     (turned : reversed ≡ reversedOf inverse e) (there : plan ≡ planOf reversed (e .step)) where
   this : plan ≡ planOf (reversedOf inverse e) (e .step)
   this = there ∙ ap (λ (b : Bool). planOf b (e .step)) turned
 
-  pass : planPassOf velocities marks plan ≡ passOf (reversedOf inverse e) velocities marks (e .step)
-  pass = ap (planPassOf velocities marks) this ∙ pass-of velocities marks (reversedOf inverse e) (e .step)
+  pass : planPassOf lent plan ≡ passOf (reversedOf inverse e) lent (e .step)
+  pass = ap (planPassOf lent) this ∙ pass-of lent (reversedOf inverse e) (e .step)
 
   start : planStartOf plan ≡ stateOf (e .step)
   start = ap planStartOf this ∙ plan-start (reversedOf inverse e) (e .step)
 
-  pub plan-list : ranOf (planTurnsOf velocities marks plan) 0 (planStartOf plan) l ≡ stepListOf inverse velocities marks e l
+  pub plan-list : ranOf (planTurnsOf lent plan) 0 (planStartOf plan) l ≡ stepListOf inverse lent e l
   unfolding stepListOf
   plan-list = λ j. ranOf (pass j .turns) 0 (start j) l
 
-  pub plan-tally : tallyOf (planPassOf velocities marks plan) 0 (planStartOf plan) l ≡ stepTallyOf inverse velocities marks e l
+  pub plan-tally : tallyOf (planPassOf lent plan) 0 (planStartOf plan) l ≡ stepTallyOf inverse lent e l
   unfolding tuplesCountedOf tuplesMetOf
   plan-tally = λ j. tallyOf (pass j) 0 (start j) l

@@ -6,9 +6,11 @@
 // answer, the tallies and the list are fixed for every input by specs/Record.antt over chain's
 // definitions. No rounding but the steps' own. For callers that hold a sheet as a record.
 ghost use mathlib.Core.Path.{_≡_};
+ghost use mathlib.Core.List.{[]};
 ghost use Prim.Native.Nat.{_≤_};
 ghost use Rattle.sheet.specs.Layout.{entryOf, kindIn};
 ghost use Rattle.sheet.specs.Rules.{hasDeformation};
+ghost use Rattle.plans.specs.Lent.{lentOf};
 ghost use Rattle.chain.specs.Chain.{stepListOf, stepTallyOf, chainForwardOf, chainInverseOf, placesOf, entriesOf};
 ghost use Rattle.chain.specs.Rules.{outcome};
 ghost use Rattle.chain_record.specs.Record.{shiftRecordOf};
@@ -26,12 +28,14 @@ fn run_step(
     velocities: &[f64],
     marks: &[u8],
 ) -> Tally
-    ensures { λ r. ⌜ (now (list .exit) ≡ stepListOf inverse (now (velocities .entry)) (now (marks .entry)) entry (now (list .entry)))
-        × (r ≡ stepTallyOf inverse (now (velocities .entry)) (now (marks .entry)) entry (now (list .entry))) ⌝ }
+    ensures { λ r. ⌜ (now (list .exit) ≡ stepListOf inverse (lentOf (now (velocities .entry)) (now (marks .entry)) []) entry (now (list .entry)))
+        × (r ≡ stepTallyOf inverse (lentOf (now (velocities .entry)) (now (marks .entry)) []) entry (now (list .entry))) ⌝ }
 {
     let inv = chain::reversed(inverse, entry);
     let step = entry.step;
-    step_windows::over(plans::plan_of_step(inv, step), list, velocities, marks)
+    let plan = plans::plan_of_step(inv, step);
+    let none = chain::no_grid(marks);
+    step_windows::over(plan, list, velocities, marks, none)
 }
 
 fn forward_record(
@@ -42,8 +46,8 @@ fn forward_record(
     marks: &[u8],
 ) -> [Tally; 16]
     requires { ⌜ n ≤ 16 ⌝ }
-    ensures { λ r. ⌜ (now (list .exit) ≡ chainForwardOf (now (velocities .entry)) (now (marks .entry)) (entriesOf (entryOf kept) n 0) (now (list .entry)) .list)
-        × (r ≡ placesOf (chainForwardOf (now (velocities .entry)) (now (marks .entry)) (entriesOf (entryOf kept) n 0) (now (list .entry)) .tallies)) ⌝ }
+    ensures { λ r. ⌜ (now (list .exit) ≡ chainForwardOf (lentOf (now (velocities .entry)) (now (marks .entry)) []) (entriesOf (entryOf kept) n 0) (now (list .entry)) .list)
+        × (r ≡ placesOf (chainForwardOf (lentOf (now (velocities .entry)) (now (marks .entry)) []) (entriesOf (entryOf kept) n 0) (now (list .entry)) .tallies)) ⌝ }
 {
     let mut tallies = [tally::none(); 16];
     let mut i = 0;
@@ -64,8 +68,8 @@ fn backward_record(
     marks: &[u8],
 ) -> [Tally; 16]
     requires { ⌜ n ≤ 16 ⌝ }
-    ensures { λ r. ⌜ (now (list .exit) ≡ chainInverseOf (now (velocities .entry)) (now (marks .entry)) (entriesOf (entryOf kept) n 0) (now (list .entry)) .list)
-        × (r ≡ placesOf (chainInverseOf (now (velocities .entry)) (now (marks .entry)) (entriesOf (entryOf kept) n 0) (now (list .entry)) .tallies)) ⌝ }
+    ensures { λ r. ⌜ (now (list .exit) ≡ chainInverseOf (lentOf (now (velocities .entry)) (now (marks .entry)) []) (entriesOf (entryOf kept) n 0) (now (list .entry)) .list)
+        × (r ≡ placesOf (chainInverseOf (lentOf (now (velocities .entry)) (now (marks .entry)) []) (entriesOf (entryOf kept) n 0) (now (list .entry)) .tallies)) ⌝ }
 {
     let mut tallies = [tally::none(); 16];
     let mut i = n;

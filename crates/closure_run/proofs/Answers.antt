@@ -9,7 +9,6 @@ use borrow.Author.Tests.{eq-eqb, ne-eqb, ltb-false}
 use lib.Dec.{eqb, ltb}
 use lib.ListN.{length, drop}
 use lib.Ieee.{Float}
-use Rattle.sheet.specs.declared.Entry.{Entry}
 use Rattle.sheet.specs.declared.Refusal.{Refusal}
 use Rattle.sheet.specs.Layout.{stepCountOf, kindAt}
 use Rattle.sheet.specs.Rules.{Rule, rule, accepted, ofCall, firstBroken, hasDeformation, refusalOf}
@@ -17,10 +16,11 @@ use Rattle.sheet.specs.Given.{Unbroken}
 use Rattle.sheet.proofs.Order.{kept-then, broken-first, all-kept, none-broken, without-rule, without-append, Without, Numbered, kept-left, kept-right, kept-first, kept-rest}
 use Rattle.profile.specs.Profile.{profileOrder, profileRefusalOf}
 use Rattle.profile.proofs.Laws.{numbered-order, passed-is-read}
+use Rattle.plans.specs.Lent.{lentOf}
 use Rattle.chain.specs.declared.Answer.{Answer}
-use Rattle.chain.specs.Chain.{chainOf, chainForwardOf, chainInverseOf, stepListOf}
+use Rattle.chain.specs.Chain.{chainOf}
 use Rattle.chain.specs.Rules.{refusal9, refusal10, shiftOf, outcome as shifted, Outcome as Shifted}
-use Rattle.chain.proofs.Laws.{step-length}
+use Rattle.chain.proofs.Counts.{chain-length}
 use Rattle.chain.proofs.Outcome.{run-through}
 use Rattle.closure_report.specs.declared.Report.{Report}
 use Rattle.closure_report.specs.Report.{addedOf}
@@ -92,27 +92,17 @@ module _ (profile : ℕ) (s : List ℕ) (list room : ℕ) (velocities : List Flo
 
 -- ---- there and back
 
-module _ (velocities : List Float) (marks : List ℕ) where
-  forward-length : (es : List Entry) (l : List Float) → length (chainForwardOf velocities marks es l .list) ≡ length l
-  unfolding chainForwardOf
-  forward-length [] l = refl
-  forward-length (e ∷ es) l = forward-length es (stepListOf false velocities marks e l) ∙ step-length false velocities marks e l
-
-  inverse-length : (es : List Entry) (l : List Float) → length (chainInverseOf velocities marks es l .list) ≡ length l
-  unfolding chainInverseOf
-  inverse-length [] l = refl
-  inverse-length (e ∷ es) l = step-length true velocities marks e (chainInverseOf velocities marks es l .list) ∙ inverse-length es l
-
 -- the list that came back is as long
 pub back-length : (s : List ℕ) (velocities : List Float) (marks : List ℕ) (l : List Float) → length (thereAndBackOf s velocities marks l) ≡ length l
 unfolding thereAndBackOf
 back-length s velocities marks l =
-    inverse-length velocities marks (stepsOf s) (chainForwardOf velocities marks (stepsOf s) l .list) ∙ forward-length velocities marks (stepsOf s) l
+    let lent = lentOf velocities marks [] in
+    chain-length lent true (stepsOf s) (chainOf false lent (stepsOf s) l .list) ∙ chain-length lent false (stepsOf s) l
 
 module _ (s : List ℕ) (velocities : List Float) (marks : List ℕ) (l : List Float) (is-read : refusalOf s .number ≡ 0) (kept9 : refusal9 (length l) ≡ false)
     (kept10 : refusal10 (hasDeformation (kindAt s) (stepCountOf s)) (length l) velocities marks ≡ false) where
   -- where the rules are kept a shift runs
-  runs : (inverse : Bool) (a : Answer) (l′ : List Float) → shifted a l′ ≡ shiftOf inverse s l velocities marks → l′ ≡ chainOf inverse velocities marks (stepsOf s) l .list
+  runs : (inverse : Bool) (a : Answer) (l′ : List Float) → shifted a l′ ≡ shiftOf inverse s l velocities marks → l′ ≡ chainOf inverse (lentOf velocities marks []) (stepsOf s) l .list
   unfolding shiftOf
   runs inverse a l′ e =
       ap (λ (o : Shifted). o .list)
@@ -125,10 +115,11 @@ module _ (s : List ℕ) (velocities : List Float) (marks : List ℕ) (l : List F
       → l″ ≡ thereAndBackOf s velocities marks l
   unfolding thereAndBackOf
   both-run a b l′ l″ e f =
-      let there : l′ ≡ chainForwardOf velocities marks (stepsOf s) l .list = runs s velocities marks l is-read kept9 kept10 false a l′ e in
-      let same : length l′ ≡ length l = ap length there ∙ forward-length velocities marks (stepsOf s) l in
+      let lent = lentOf velocities marks [] in
+      let there : l′ ≡ chainOf false lent (stepsOf s) l .list = runs s velocities marks l is-read kept9 kept10 false a l′ e in
+      let same : length l′ ≡ length l = ap length there ∙ chain-length lent false (stepsOf s) l in
       runs s velocities marks l′ is-read (rw same kept9) (rw same kept10) true b l″ f
-      ∙ ap (λ (k : List Float). chainInverseOf velocities marks (stepsOf s) k .list) there
+      ∙ ap (λ (k : List Float). chainOf true lent (stepsOf s) k .list) there
 
 -- ---- the answer
 

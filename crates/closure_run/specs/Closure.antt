@@ -12,6 +12,7 @@ use Rattle.sheet.specs.declared.Refusal.{Refusal}
 use Rattle.sheet.specs.Layout.{stepCountOf, kindAt, entryAt}
 use Rattle.sheet.specs.Rules.{Rule, rule, ofCall, firstBroken, hasDeformation}
 use Rattle.profile.specs.Profile.{profileOrder}
+use Rattle.plans.specs.Lent.{lentOf}
 use Rattle.chain.specs.Chain.{chainOf, entriesOf}
 use Rattle.chain.specs.Rules.{refusal9, refusal10}
 use Rattle.closure_report.specs.declared.Report.{Report}
@@ -28,7 +29,7 @@ stepsOf s = entriesOf (entryAt s) (stepCountOf s) 0
 -- serve both ways, and no state goes over from the way there to the way back.
 unfoldable pub thereAndBackOf : List ℕ → List Float → List ℕ → List Float → List Float
 thereAndBackOf s velocities marks l =
-    chainOf true velocities marks (stepsOf s) (chainOf false velocities marks (stepsOf s) l .list) .list
+    let lent = lentOf velocities marks [] in chainOf true lent (stepsOf s) (chainOf false lent (stepsOf s) l .list) .list
 
 -- ---- the rules
 

@@ -34,6 +34,7 @@ use Rattle.lists.proofs.Places.{put-none, put-length, put-take}
 use Rattle.lists.proofs.Laws.{ran-length}
 use Rattle.lists.proofs.Results.{track-at, result-at}
 use Rattle.helmert.specs.Turns.{helmertTurns}
+use Rattle.plans.specs.Lent.{lentOf}
 use Rattle.chain.specs.Chain.{turnsOf, stateOf, reversedOf, stepListOf, Run, chainOf, entriesOf}
 use Rattle.chain.specs.Rules.{refusal10, overOne, ranOutcome, shiftOf}
 use Rattle.chain.proofs.Laws.{one-step-forward, one-step-inverse}
@@ -57,7 +58,7 @@ Shifts kind = (kind ≡ 1) ⊎ (kind ≡ 6)
 no-shift : {A : Type 0} (kind : ℕ) → (kind ≡ 1 → ⊥) → (kind ≡ 6 → ⊥) → Shifts kind → A
 no-shift kind a b e = absurd (⊎-elim a b e)
 
-shift-turns : (inverse : Bool) (st : Step) → Shifts (kindOf st) → turnsOf inverse [] [] st ≡ helmertTurns inverse (stepShiftOf st)
+shift-turns : (inverse : Bool) (st : Step) → Shifts (kindOf st) → turnsOf inverse (lentOf [] [] []) st ≡ helmertTurns inverse (stepShiftOf st)
 unfolding kindOf
 shift-turns inverse (step.Helmert h) e = refl
 shift-turns inverse (step.Badekas r) e = refl
@@ -123,15 +124,15 @@ module _ (s : List ℕ) (own : refusalOf s .number ≡ 0) (one : refusal12 s ≡
   unfolding entriesOf
   entries-are = rw one-step
 
-  step-list : (inverse : Bool) (l : List Float) → stepListOf inverse [] [] (entryAt s 0) l ≡ ranOf (helmertTurns (reversedIn inverse s) (shiftIn s)) 0 (startOf (shiftIn s)) l
+  step-list : (inverse : Bool) (l : List Float) → stepListOf inverse (lentOf [] [] []) (entryAt s 0) l ≡ ranOf (helmertTurns (reversedIn inverse s) (shiftIn s)) 0 (startOf (shiftIn s)) l
   unfolding stepListOf
   step-list inverse l =
       rw (shift-turns (reversedOf inverse (entryAt s 0)) (entryAt s 0 .step) a-shift, shift-start (entryAt s 0 .step) a-shift)
 
   chain-list : (inverse : Bool) (l : List Float)
-      → chainOf inverse [] [] (entriesOf (entryAt s) (stepCountOf s) 0) l .list ≡ ranOf (helmertTurns (reversedIn inverse s) (shiftIn s)) 0 (startOf (shiftIn s)) l
-  chain-list true l = rw entries-are (ap (λ (r : Run). r .list) (one-step-inverse [] [] (entryAt s 0) l) ∙ step-list true l)
-  chain-list false l = rw entries-are (ap (λ (r : Run). r .list) (one-step-forward [] [] (entryAt s 0) l) ∙ step-list false l)
+      → chainOf inverse (lentOf [] [] []) (entriesOf (entryAt s) (stepCountOf s) 0) l .list ≡ ranOf (helmertTurns (reversedIn inverse s) (shiftIn s)) 0 (startOf (shiftIn s)) l
+  chain-list true l = rw entries-are (ap (λ (r : Run). r .list) (one-step-inverse (lentOf [] [] []) (entryAt s 0) l) ∙ step-list true l)
+  chain-list false l = rw entries-are (ap (λ (r : Run). r .list) (one-step-forward (lentOf [] [] []) (entryAt s 0) l) ∙ step-list false l)
 
 -- ---- a fresh run
 
@@ -163,12 +164,12 @@ module _ (inverse : Bool) (s : List ℕ) (old : Kept) (passes : keepRefusalOf s 
 
   -- The results of a fresh run are the chain's, on the same sheet, direction and list: `shift`
   -- takes them too, and leaves that list.
-  pub results-are-the-chains : kept .results ≡ chainOf inverse [] [] (entriesOf (entryAt s) (stepCountOf s) 0) (old .list) .list
+  pub results-are-the-chains : kept .results ≡ chainOf inverse (lentOf [] [] []) (entriesOf (entryAt s) (stepCountOf s) 0) (old .list) .list
   unfolding freshOf
   results-are-the-chains =
       ap (λ (k : Kept). k .results) keep-runs ∙ sym (chain-list s (lists-pass .own) (lists-pass .one-shift) inverse (old .list))
 
-  pub shift-takes-them-too : shiftOf inverse s (old .list) [] [] ≡ ranOutcome (chainOf inverse [] [] (entriesOf (entryAt s) (stepCountOf s) 0) (old .list))
+  pub shift-takes-them-too : shiftOf inverse s (old .list) [] [] ≡ ranOutcome (chainOf inverse (lentOf [] [] []) (entriesOf (entryAt s) (stepCountOf s) 0) (old .list))
   unfolding shiftOf refusal10 overOne
   shift-takes-them-too =
       run-through (refusalOf s) (hasDeformation (kindAt s) (stepCountOf s)) inverse (entriesOf (entryAt s) (stepCountOf s) 0) (old .list) [] []

@@ -22,10 +22,13 @@ use Rattle.cart.specs.Step.{cartFwdOf, cartInvOf}
 use Rattle.permtide.specs.Step.{fwdOf, invOf}
 use Rattle.molodensky.specs.Step.{commonOf}
 use Rattle.turns.specs.Turns.{plainTurns, movedTurns}
-use Rattle.reach.specs.Met.{meetingOf, placeMet, latitudeMet, offsetsMet, movedMetTurns, helmertMet}
+use Rattle.reach.specs.Met.{Met, meetingOf, placeMet, latitudeMet, offsetsMet, deformationMet, movedMetTurns, helmertMet}
 use Rattle.reach.proofs.Laws.{met-by-tuple, none-of}
+use Rattle.deformation_grid.specs.Gridded.{griddedOf, griddedTurns}
 use Rattle.plans.specs.declared.Plan.{Plan}
 use Rattle.plans.specs.declared.Plan.the-variants.{CartForward, CartInverse, PermtideEither, DeformationEither, MolodenskyEither, HelmertEither}
+use Rattle.plans.specs.Lent.{Lent, lentOf, gridless, lentTurns, lentMetTurns, griddedMet}
+use Rattle.plans.proofs.Lent.{none-met-with-a-grid}
 use Rattle.plans.specs.Plans.{planTurnsOf, planReachOf}
 
 -- ---- two runs of a step over a list, from indices and states that it does not tell apart
@@ -154,25 +157,81 @@ carried-met-alike inverse shift k a j b v h =
     let f = meetingOf (helmertMet shift) (helmertTurns inverse shift) in
     record { tuple = ap (λ (u : State). f k u v .tuple) h; counted = ap (λ (u : State). f k u v .counted) h; onward = ap (λ (u : State). f k u v .state) h }
 
+-- ---- deformation: by the velocity and mark at the index, or by the grid
+
+module _ (k : ℕ) (from : State) (l : List Float) (op : Motion) (inverse : Bool) (lent : Lent) where
+  abbrev chosen : Bool → Turns State
+  chosen b = cond b (movedTurns op inverse (lent .velocities) (lent .marks)) (griddedTurns op inverse (lent .grid))
+
+  abbrev chosen-met : Bool → Met State
+  chosen-met b = cond b (deformationMet op (lent .marks)) (λ k state v. griddedMet op (lent .grid) v)
+
+  lent-moved : {l′ : List Float} {n : ℕ} → (l′ ≡ ranOf (lentTurns op inverse lent) k noState l) × (n ≡ countOf (lentTurns op inverse lent) k noState l)
+      → Ran (lentTurns op inverse lent) k from l l′ from n
+  lent-moved e = by-test (gridless lent) e
+    where
+      by-test : (b : Bool) {l′ : List Float} {n : ℕ} → (l′ ≡ ranOf (chosen b) k noState l) × (n ≡ countOf (chosen b) k noState l) → Ran (chosen b) k from l l′ from n
+      by-test true e = moved k from l op inverse (lent .velocities) (lent .marks) e
+      by-test false e =
+          let f = griddedTurns op inverse (lent .grid) in
+          let alike = plain-alike (griddedOf op inverse (lent .grid)) in (
+            e .0 ∙ alike-ran f Any alike k noState k from l refl,
+            sym (steady f (λ k state v. refl) k from l),
+            e .1 ∙ alike-count f Any alike k noState k from l refl,
+          )
+
+  lent-met : countOf (lentMetTurns op inverse lent) k noState l ≡ countOf (lentMetTurns op inverse lent) k from l
+  lent-met = by-test (gridless lent)
+    where
+      by-test : (b : Bool) → countOf (meetingOf (chosen-met b) (chosen b)) k noState l ≡ countOf (meetingOf (chosen-met b) (chosen b)) k from l
+      by-test true = alike-count (movedMetTurns op inverse (lent .velocities) (lent .marks)) SameIndex (moved-met-alike op inverse (lent .velocities) (lent .marks)) k noState k from l refl
+      by-test false =
+          let f = griddedTurns op inverse (lent .grid) in
+          none-met-with-a-grid op (lent .grid) f k noState l ∙ sym (none-met-with-a-grid op (lent .grid) f k from l)
+
+-- from what each of the two loops says, what holds of what is lent
+abbrev Told : Lent → ℕ → List Float → Motion → Bool → List Float → ℕ → ℕ → Type 0
+Told lent k l op inverse l′ n m =
+    (l′ ≡ ranOf (lentTurns op inverse lent) k noState l) × (n ≡ countOf (lentTurns op inverse lent) k noState l) × (m ≡ countOf (lentMetTurns op inverse lent) k noState l)
+
+pub by-what-is-lent : (lent : Lent) (k : ℕ) (l : List Float) (op : Motion) (inverse : Bool) {l′ : List Float} {n m : ℕ} → gridless lent ≡ true
+    → (l′ ≡ ranOf (movedTurns op inverse (lent .velocities) (lent .marks)) k noState l)
+    × (n ≡ countOf (movedTurns op inverse (lent .velocities) (lent .marks)) k noState l)
+    × (m ≡ countOf (movedMetTurns op inverse (lent .velocities) (lent .marks)) k noState l)
+    → Told lent k l op inverse l′ n m
+by-what-is-lent lent k l op inverse none e = rw none e
+
+pub by-a-grid : (lent : Lent) (k : ℕ) (l : List Float) (op : Motion) (inverse : Bool) {l′ : List Float} {n m : ℕ} → gridless lent ≡ false
+    → (l′ ≡ ranOf (griddedTurns op inverse (lent .grid)) 0 noState l) × (n ≡ countOf (griddedTurns op inverse (lent .grid)) 0 noState l) → m ≡ 0
+    → Told lent k l op inverse l′ n m
+by-a-grid lent k l op inverse some e z =
+    let f = griddedTurns op inverse (lent .grid) in
+    let alike = plain-alike (griddedOf op inverse (lent .grid)) in
+    rw some (
+      e .0 ∙ alike-ran f Any alike 0 noState k noState l refl,
+      e .1 ∙ alike-count f Any alike 0 noState k noState l refl,
+      z ∙ sym (none-met-with-a-grid op (lent .grid) f k noState l),
+    )
+
 -- what the pass of a plan's kind says
-abbrev pub Passing : List Float → List ℕ → ℕ → State → List Float → ℕ → Plan → Type 0
-Passing velocities marks k from l m (CartForward ellps) = m ≡ numberOf placeMet l
-Passing velocities marks k from l m (CartInverse c) = m ≡ 0
-Passing velocities marks k from l m (PermtideEither op inverse) = m ≡ numberOf latitudeMet l
-Passing velocities marks k from l m (DeformationEither op inverse) = m ≡ countOf (movedMetTurns op inverse velocities marks) k noState l
-Passing velocities marks k from l m (MolodenskyEither op inverse) = m ≡ numberOf (offsetsMet (op .abridged)) l
-Passing velocities marks k from l m (HelmertEither shift inverse) = m ≡ countOf (meetingOf (helmertMet shift) (helmertTurns inverse shift)) 0 from l
+abbrev pub Passing : Lent → ℕ → State → List Float → ℕ → Plan → Type 0
+Passing lent k from l m (CartForward ellps) = m ≡ numberOf placeMet l
+Passing lent k from l m (CartInverse c) = m ≡ 0
+Passing lent k from l m (PermtideEither op inverse) = m ≡ numberOf latitudeMet l
+Passing lent k from l m (DeformationEither op inverse) = m ≡ countOf (lentMetTurns op inverse lent) k noState l
+Passing lent k from l m (MolodenskyEither op inverse) = m ≡ numberOf (offsetsMet (op .abridged)) l
+Passing lent k from l m (HelmertEither shift inverse) = m ≡ countOf (meetingOf (helmertMet shift) (helmertTurns inverse shift)) 0 from l
 
 -- and what follows
-met-told : (velocities : List Float) (marks : List ℕ) (k : ℕ) (from : State) (l : List Float) {m : ℕ} (plan : Plan) → Passing velocities marks k from l m plan
-    → m ≡ countOf (planReachOf velocities marks plan) k from l
-met-told velocities marks k from l (CartForward ellps) e = e ∙ sym (met-by-tuple placeMet (plainTurns (cartFwdOf ellps)) k from l)
-met-told velocities marks k from l (CartInverse c) e = e ∙ sym (met-by-tuple (λ (v : Tuple). false) (plainTurns (cartInvOf c)) k from l ∙ none-of l)
-met-told velocities marks k from l (PermtideEither op inverse) e = e ∙ sym (met-by-tuple latitudeMet (cond inverse (allTurns (invOf op)) (allTurns (fwdOf op))) k from l)
-met-told velocities marks k from l (DeformationEither op inverse) e =
-    e ∙ alike-count (movedMetTurns op inverse velocities marks) SameIndex (moved-met-alike op inverse velocities marks) k noState k from l refl
-met-told velocities marks k from l (MolodenskyEither op inverse) e = e ∙ sym (met-by-tuple (offsetsMet (op .abridged)) (allTurns (commonOf op inverse)) k from l)
-met-told velocities marks k from l (HelmertEither shift inverse) e =
+met-told : (lent : Lent) (k : ℕ) (from : State) (l : List Float) {m : ℕ} (plan : Plan) → Passing lent k from l m plan
+    → m ≡ countOf (planReachOf lent plan) k from l
+met-told lent k from l (CartForward ellps) e = e ∙ sym (met-by-tuple placeMet (plainTurns (cartFwdOf ellps)) k from l)
+met-told lent k from l (CartInverse c) e = e ∙ sym (met-by-tuple (λ (v : Tuple). false) (plainTurns (cartInvOf c)) k from l ∙ none-of l)
+met-told lent k from l (PermtideEither op inverse) e = e ∙ sym (met-by-tuple latitudeMet (cond inverse (allTurns (invOf op)) (allTurns (fwdOf op))) k from l)
+met-told lent k from l (DeformationEither op inverse) e =
+    e ∙ lent-met k from l op inverse lent
+met-told lent k from l (MolodenskyEither op inverse) e = e ∙ sym (met-by-tuple (offsetsMet (op .abridged)) (allTurns (commonOf op inverse)) k from l)
+met-told lent k from l (HelmertEither shift inverse) e =
     e ∙ alike-count (meetingOf (helmertMet shift) (helmertTurns inverse shift)) SameState (carried-met-alike inverse shift) 0 from k from l refl
 
 -- four numbers a row
@@ -181,14 +240,14 @@ rows x y z t level e = rw (flat-length x y z t level) (omega (arith, e))
 
 -- ---- what the loop of a plan's kind says, and what follows
 
-abbrev pub Looped : List Float → List ℕ → ℕ → State → List Float → List Float → ℕ → Plan → Type 0
-Looped velocities marks k from l l′ n (CartForward ellps) = (l′ ≡ ranOf (plainTurns (cartFwdOf ellps)) 0 noState l) × (n ≡ countOf (plainTurns (cartFwdOf ellps)) 0 noState l)
-Looped velocities marks k from l l′ n (CartInverse c) = (l′ ≡ ranOf (plainTurns (cartInvOf c)) 0 noState l) × (n ≡ countOf (plainTurns (cartInvOf c)) 0 noState l)
-Looped velocities marks k from l l′ n (PermtideEither op inverse) = (l′ ≡ ranOf (cond inverse (allTurns (invOf op)) (allTurns (fwdOf op))) 0 noState l) × (n ≡ length l / 4)
-Looped velocities marks k from l l′ n (DeformationEither op inverse) =
-    (l′ ≡ ranOf (movedTurns op inverse velocities marks) k noState l) × (n ≡ countOf (movedTurns op inverse velocities marks) k noState l)
-Looped velocities marks k from l l′ n (MolodenskyEither op inverse) = (l′ ≡ ranOf (allTurns (commonOf op inverse)) 0 noState l) × (n ≡ length l / 4)
-Looped velocities marks k from l l′ n (HelmertEither shift inverse) = ⊥
+abbrev pub Looped : Lent → ℕ → State → List Float → List Float → ℕ → Plan → Type 0
+Looped lent k from l l′ n (CartForward ellps) = (l′ ≡ ranOf (plainTurns (cartFwdOf ellps)) 0 noState l) × (n ≡ countOf (plainTurns (cartFwdOf ellps)) 0 noState l)
+Looped lent k from l l′ n (CartInverse c) = (l′ ≡ ranOf (plainTurns (cartInvOf c)) 0 noState l) × (n ≡ countOf (plainTurns (cartInvOf c)) 0 noState l)
+Looped lent k from l l′ n (PermtideEither op inverse) = (l′ ≡ ranOf (cond inverse (allTurns (invOf op)) (allTurns (fwdOf op))) 0 noState l) × (n ≡ length l / 4)
+Looped lent k from l l′ n (DeformationEither op inverse) =
+    (l′ ≡ ranOf (lentTurns op inverse lent) k noState l) × (n ≡ countOf (lentTurns op inverse lent) k noState l)
+Looped lent k from l l′ n (MolodenskyEither op inverse) = (l′ ≡ ranOf (allTurns (commonOf op inverse)) 0 noState l) × (n ≡ length l / 4)
+Looped lent k from l l′ n (HelmertEither shift inverse) = ⊥
 
 abbrev pub Carried : State → List Float → List Float → ℕ → State → Plan → Type 0
 Carried from l l′ n state (CartForward ellps) = ⊥
@@ -198,18 +257,18 @@ Carried from l l′ n state (DeformationEither op inverse) = ⊥
 Carried from l l′ n state (MolodenskyEither op inverse) = ⊥
 Carried from l l′ n state (HelmertEither shift inverse) = Ran (helmertTurns inverse shift) 0 from l l′ state n
 
-module _ (velocities : List Float) (marks : List ℕ) (k : ℕ) (from : State) (l : List Float) {l′ : List Float} {n : ℕ} where
+module _ (lent : Lent) (k : ℕ) (from : State) (l : List Float) {l′ : List Float} {n : ℕ} where
   -- a kind that leaves the state alone
-  looped : (plan : Plan) → Looped velocities marks k from l l′ n plan → Ran (planTurnsOf velocities marks plan) k from l l′ from n
+  looped : (plan : Plan) → Looped lent k from l l′ n plan → Ran (planTurnsOf lent plan) k from l l′ from n
   looped (CartForward ellps) e = plain k from l (cartFwdOf ellps) e
   looped (CartInverse c) e = plain k from l (cartInvOf c) e
   looped (PermtideEither op inverse) e = either k from l inverse (invOf op) (fwdOf op) e
-  looped (DeformationEither op inverse) e = moved k from l op inverse velocities marks e
+  looped (DeformationEither op inverse) e = lent-moved k from l op inverse lent e
   looped (MolodenskyEither op inverse) e = every k from l (commonOf op inverse) e
   looped (HelmertEither shift inverse) e = absurd e
 
   -- Helmert, which hands its state on
-  handed-on : {state : State} (plan : Plan) → Carried from l l′ n state plan → Ran (planTurnsOf velocities marks plan) k from l l′ state n
+  handed-on : {state : State} (plan : Plan) → Carried from l l′ n state plan → Ran (planTurnsOf lent plan) k from l l′ state n
   handed-on (CartForward ellps) e = absurd e
   handed-on (CartInverse c) e = absurd e
   handed-on (PermtideEither op inverse) e = absurd e
@@ -222,13 +281,13 @@ module _ (velocities : List Float) (marks : List ℕ) (k : ℕ) (from : State) (
 abbrev RanMet : Turns State → Turns State → ℕ → State → List Float → List Float → State → ℕ → ℕ → Type 0
 RanMet f g k from l l′ state n m = (l′ ≡ ranOf f k from l) × (state ≡ stateAfterOf f k from l) × (n ≡ countOf f k from l) × (m ≡ countOf g k from l)
 
-module _ (velocities : List Float) (marks : List ℕ) (k : ℕ) (from : State) (l : List Float) {l′ : List Float} {n m : ℕ} where
-  pub looped-met : (plan : Plan) → Looped velocities marks k from l l′ n plan → Passing velocities marks k from l m plan
-      → RanMet (planTurnsOf velocities marks plan) (planReachOf velocities marks plan) k from l l′ from n m
+module _ (lent : Lent) (k : ℕ) (from : State) (l : List Float) {l′ : List Float} {n m : ℕ} where
+  pub looped-met : (plan : Plan) → Looped lent k from l l′ n plan → Passing lent k from l m plan
+      → RanMet (planTurnsOf lent plan) (planReachOf lent plan) k from l l′ from n m
   looped-met plan e p =
-      let r = looped velocities marks k from l plan e in (r .0, r .1, r .2, met-told velocities marks k from l plan p)
+      let r = looped lent k from l plan e in (r .0, r .1, r .2, met-told lent k from l plan p)
 
-  pub handed-on-met : {state : State} (plan : Plan) → Carried from l l′ n state plan → Passing velocities marks k from l m plan
-      → RanMet (planTurnsOf velocities marks plan) (planReachOf velocities marks plan) k from l l′ state n m
+  pub handed-on-met : {state : State} (plan : Plan) → Carried from l l′ n state plan → Passing lent k from l m plan
+      → RanMet (planTurnsOf lent plan) (planReachOf lent plan) k from l l′ state n m
   handed-on-met plan e p =
-      let r = handed-on velocities marks k from l plan e in (r .0, r .1, r .2, met-told velocities marks k from l plan p)
+      let r = handed-on lent k from l plan e in (r .0, r .1, r .2, met-told lent k from l plan p)

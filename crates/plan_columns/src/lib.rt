@@ -1,7 +1,8 @@
 // A step made ready, run over four columns: any part of a list, from the state that the part before
 // it left.
 //
-// Here alone a step's kind is decided at run time; each kind has its own loop. What the contract
+// Here alone a step's kind is decided at run time; each kind has its own loop, and deformation one
+// for velocities and marks that are lent and one for a lent grid (document 02, A1). What the contract
 // says is the step's own definition over the flat list that the columns stand for
 // (plans, specs/Plans.antt): the columns afterwards, the count, how many tuples met an angle out of
 // reach of sine and cosine (document 02, A5), and the state that the next part goes on from. That
@@ -9,8 +10,12 @@
 // steps' own. Used by the chain and by what runs a record.
 ghost use mathlib.Core.Path.{_≡_};
 ghost use Rattle.lists.specs.Run.{ranOf, countOf, stateAfterOf};
+ghost use Rattle.helmert.specs.Turns.{noState};
 ghost use Rattle.columns.specs.Columns.{Level, flatOf};
+ghost use Rattle.plans.specs.Lent.{lentOf, lentTurns, lentMetTurns};
 ghost use Rattle.plans.specs.Plans.{planTurnsOf, planReachOf};
+use deformation::Motion;
+use deformation_columns::Moved;
 use helmert::State;
 use plans::Plan;
 
@@ -20,6 +25,34 @@ pub struct Part {
     pub count: usize,
     pub met: usize,
     pub state: State,
+}
+
+// Deformation by what is lent for each fix, or by a grid where one is lent.
+fn deform(
+    x: &mut [f64],
+    y: &mut [f64],
+    z: &mut [f64],
+    t: &mut [f64],
+    first: usize,
+    op: Motion,
+    inverse: bool,
+    velocities: &[f64],
+    marks: &[u8],
+    grid: &[u8],
+) -> Moved
+    ensures { λ r. ⌜ (flatOf (now (x .exit)) (now (y .exit)) (now (z .exit)) (now (t .exit))
+        ≡ ranOf (lentTurns op inverse (lentOf (now (velocities .entry)) (now (marks .entry)) (now (grid .entry)))) first noState (flatOf (now (x .entry)) (now (y .entry)) (now (z .entry)) (now (t .entry))))
+        × (r .count ≡ countOf (lentTurns op inverse (lentOf (now (velocities .entry)) (now (marks .entry)) (now (grid .entry)))) first noState (flatOf (now (x .entry)) (now (y .entry)) (now (z .entry)) (now (t .entry))))
+        × (r .met ≡ countOf (lentMetTurns op inverse (lentOf (now (velocities .entry)) (now (marks .entry)) (now (grid .entry)))) first noState (flatOf (now (x .entry)) (now (y .entry)) (now (z .entry)) (now (t .entry)))) ⌝ }
+{
+    if grid.len() != 0 {
+        let count = deformation_grid_columns::deformation(x, y, z, t, op, inverse, grid);
+        return Moved {
+            count: count,
+            met: 0, // a fix inside the grid has its angles within reach
+        };
+    }
+    deformation_columns::deformation(x, y, z, t, first, op, inverse, velocities, marks)
 }
 
 // Columns of one length.
@@ -33,13 +66,14 @@ fn run_level(
     t: &mut [f64],
     velocities: &[f64],
     marks: &[u8],
+    grid: &[u8],
 ) -> Part
     requires { ⌜ Level (now x) (now y) (now z) (now t) ⌝ }
     ensures { λ r. ⌜ (flatOf (now (x .exit)) (now (y .exit)) (now (z .exit)) (now (t .exit))
-        ≡ ranOf (planTurnsOf (now (velocities .entry)) (now (marks .entry)) plan) first from (flatOf (now (x .entry)) (now (y .entry)) (now (z .entry)) (now (t .entry))))
-        × (r .state ≡ stateAfterOf (planTurnsOf (now (velocities .entry)) (now (marks .entry)) plan) first from (flatOf (now (x .entry)) (now (y .entry)) (now (z .entry)) (now (t .entry))))
-        × (r .count ≡ countOf (planTurnsOf (now (velocities .entry)) (now (marks .entry)) plan) first from (flatOf (now (x .entry)) (now (y .entry)) (now (z .entry)) (now (t .entry))))
-        × (r .met ≡ countOf (planReachOf (now (velocities .entry)) (now (marks .entry)) plan) first from (flatOf (now (x .entry)) (now (y .entry)) (now (z .entry)) (now (t .entry)))) ⌝ }
+        ≡ ranOf (planTurnsOf (lentOf (now (velocities .entry)) (now (marks .entry)) (now (grid .entry))) plan) first from (flatOf (now (x .entry)) (now (y .entry)) (now (z .entry)) (now (t .entry))))
+        × (r .state ≡ stateAfterOf (planTurnsOf (lentOf (now (velocities .entry)) (now (marks .entry)) (now (grid .entry))) plan) first from (flatOf (now (x .entry)) (now (y .entry)) (now (z .entry)) (now (t .entry))))
+        × (r .count ≡ countOf (planTurnsOf (lentOf (now (velocities .entry)) (now (marks .entry)) (now (grid .entry))) plan) first from (flatOf (now (x .entry)) (now (y .entry)) (now (z .entry)) (now (t .entry))))
+        × (r .met ≡ countOf (planReachOf (lentOf (now (velocities .entry)) (now (marks .entry)) (now (grid .entry))) plan) first from (flatOf (now (x .entry)) (now (y .entry)) (now (z .entry)) (now (t .entry)))) ⌝ }
 {
     match plan {
         Plan::CartForward(ellps) => {
@@ -69,7 +103,7 @@ fn run_level(
             };
         }
         Plan::DeformationEither(op, inverse) => {
-            let moved = deformation_columns::deformation(
+            let tally = deform(
                 x,
                 y,
                 z,
@@ -79,10 +113,11 @@ fn run_level(
                 inverse,
                 velocities,
                 marks,
+                grid,
             );
             return Part {
-                count: moved.count,
-                met: moved.met,
+                count: tally.count,
+                met: tally.met,
                 state: from,
             };
         }
@@ -120,15 +155,16 @@ pub fn run(
     t: &mut [f64],
     velocities: &[f64],
     marks: &[u8],
+    grid: &[u8],
 ) -> Part
     ensures { λ r. ⌜ (flatOf (now (x .exit)) (now (y .exit)) (now (z .exit)) (now (t .exit))
-        ≡ ranOf (planTurnsOf (now (velocities .entry)) (now (marks .entry)) plan) first from (flatOf (now (x .entry)) (now (y .entry)) (now (z .entry)) (now (t .entry))))
-        × (r .state ≡ stateAfterOf (planTurnsOf (now (velocities .entry)) (now (marks .entry)) plan) first from (flatOf (now (x .entry)) (now (y .entry)) (now (z .entry)) (now (t .entry))))
-        × (r .count ≡ countOf (planTurnsOf (now (velocities .entry)) (now (marks .entry)) plan) first from (flatOf (now (x .entry)) (now (y .entry)) (now (z .entry)) (now (t .entry))))
-        × (r .met ≡ countOf (planReachOf (now (velocities .entry)) (now (marks .entry)) plan) first from (flatOf (now (x .entry)) (now (y .entry)) (now (z .entry)) (now (t .entry)))) ⌝ }
+        ≡ ranOf (planTurnsOf (lentOf (now (velocities .entry)) (now (marks .entry)) (now (grid .entry))) plan) first from (flatOf (now (x .entry)) (now (y .entry)) (now (z .entry)) (now (t .entry))))
+        × (r .state ≡ stateAfterOf (planTurnsOf (lentOf (now (velocities .entry)) (now (marks .entry)) (now (grid .entry))) plan) first from (flatOf (now (x .entry)) (now (y .entry)) (now (z .entry)) (now (t .entry))))
+        × (r .count ≡ countOf (planTurnsOf (lentOf (now (velocities .entry)) (now (marks .entry)) (now (grid .entry))) plan) first from (flatOf (now (x .entry)) (now (y .entry)) (now (z .entry)) (now (t .entry))))
+        × (r .met ≡ countOf (planReachOf (lentOf (now (velocities .entry)) (now (marks .entry)) (now (grid .entry))) plan) first from (flatOf (now (x .entry)) (now (y .entry)) (now (z .entry)) (now (t .entry)))) ⌝ }
 {
     if columns::level(x, y, z, t) {
-        return run_level(plan, first, from, x, y, z, t, velocities, marks);
+        return run_level(plan, first, from, x, y, z, t, velocities, marks, grid);
     }
     Part {
         count: 0,

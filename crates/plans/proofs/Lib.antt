@@ -1,4 +1,5 @@
 -- What the proofs of this crate share, and the laws that callers cite.
 mod Bodies
+pub mod Lent
 pub mod Windows
 pub mod Arrays

@@ -22,8 +22,9 @@ use Rattle.bodies.specs.declared.Step.the-variants.{Cart, Permtide, Deformation
 use Rattle.bodies.specs.Kinds.{lengthOf}
 use Rattle.lists.specs.Run.{Turns}
 use Rattle.helmert.specs.Turns.{noState, allTurns, helmertTurns}
-use Rattle.turns.specs.Turns.{plainTurns, movedTurns}
-use Rattle.reach.specs.Met.{Met, meetingOf, cartMet, permtideMet, molodenskyMet, deformationMet, helmertMet}
+use Rattle.turns.specs.Turns.{plainTurns}
+use Rattle.reach.specs.Met.{Met, meetingOf, cartMet, permtideMet, molodenskyMet, helmertMet}
+use Rattle.plans.specs.Lent.{Lent, lentTurns, lentMet}
 use Rattle.plans.specs.Passes.{Pass}
 use Rattle.plans.specs.declared.Plan.{Plan}
 use Rattle.plans.specs.declared.Plan.the-variants.{CartForward, CartInverse, PermtideEither, DeformationEither, MolodenskyEither, HelmertEither}
@@ -58,30 +59,30 @@ abbrev pub Ready : (ℕ → Plan) → ℕ → List Plan → Type 0
 Ready plan n plans = (i : ℕ) → i < n → planIn plans i ≡ plan i
 
 -- what a plan makes of one tuple
-abbrev pub planTurnsOf : List Float → List ℕ → Plan → Turns State
-planTurnsOf velocities marks (CartForward ellps) = plainTurns (cartFwdOf ellps)
-planTurnsOf velocities marks (CartInverse k) = plainTurns (cartInvOf k)
-planTurnsOf velocities marks (PermtideEither op inverse) = cond inverse (allTurns (invOf op)) (allTurns (fwdOf op))
-planTurnsOf velocities marks (DeformationEither op inverse) = movedTurns op inverse velocities marks
-planTurnsOf velocities marks (MolodenskyEither op inverse) = allTurns (commonOf op inverse)
-planTurnsOf velocities marks (HelmertEither shift inverse) = helmertTurns inverse shift
+abbrev pub planTurnsOf : Lent → Plan → Turns State
+planTurnsOf lent (CartForward ellps) = plainTurns (cartFwdOf ellps)
+planTurnsOf lent (CartInverse k) = plainTurns (cartInvOf k)
+planTurnsOf lent (PermtideEither op inverse) = cond inverse (allTurns (invOf op)) (allTurns (fwdOf op))
+planTurnsOf lent (DeformationEither op inverse) = lentTurns op inverse lent
+planTurnsOf lent (MolodenskyEither op inverse) = allTurns (commonOf op inverse)
+planTurnsOf lent (HelmertEither shift inverse) = helmertTurns inverse shift
 
 -- whether a tuple meets an angle out of reach of sine and cosine in it
-abbrev pub planMetOf : List ℕ → Plan → Met State
-planMetOf marks (CartForward ellps) = cartMet false
-planMetOf marks (CartInverse k) = cartMet true
-planMetOf marks (PermtideEither op inverse) = permtideMet
-planMetOf marks (DeformationEither op inverse) = deformationMet op marks
-planMetOf marks (MolodenskyEither op inverse) = molodenskyMet op
-planMetOf marks (HelmertEither shift inverse) = helmertMet shift
+abbrev pub planMetOf : Lent → Plan → Met State
+planMetOf lent (CartForward ellps) = cartMet false
+planMetOf lent (CartInverse k) = cartMet true
+planMetOf lent (PermtideEither op inverse) = permtideMet
+planMetOf lent (DeformationEither op inverse) = lentMet op lent
+planMetOf lent (MolodenskyEither op inverse) = molodenskyMet op
+planMetOf lent (HelmertEither shift inverse) = helmertMet shift
 
 -- the plan's turns that count such tuples
-abbrev pub planReachOf : List Float → List ℕ → Plan → Turns State
-planReachOf velocities marks plan = meetingOf (planMetOf marks plan) (planTurnsOf velocities marks plan)
+abbrev pub planReachOf : Lent → Plan → Turns State
+planReachOf lent plan = meetingOf (planMetOf lent plan) (planTurnsOf lent plan)
 
 -- both together
-abbrev pub planPassOf : List Float → List ℕ → Plan → Pass
-planPassOf velocities marks plan = record { turns = planTurnsOf velocities marks plan; met = planMetOf marks plan }
+abbrev pub planPassOf : Lent → Plan → Pass
+planPassOf lent plan = record { turns = planTurnsOf lent plan; met = planMetOf lent plan }
 
 -- the state that a plan starts each list in
 abbrev pub planStartOf : Plan → State

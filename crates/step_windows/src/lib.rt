@@ -10,6 +10,7 @@ ghost use Prim.Native.Nat.{_+_, _*_, _≤_, _<_};
 ghost use lib.ListN.{length};
 ghost use Rattle.lists.specs.Run.{ranOf, countOf, stateAfterOf};
 ghost use Rattle.columns.specs.Columns.{Level};
+ghost use Rattle.plans.specs.Lent.{lentOf};
 ghost use Rattle.plans.specs.Passes.{tallyOf};
 ghost use Rattle.plans.specs.Plans.{planTurnsOf, planReachOf, planPassOf, planStartOf};
 use helmert::State;
@@ -50,23 +51,24 @@ fn window(
     t: &mut [f64],
     velocities: &[f64],
     marks: &[u8],
+    grid: &[u8],
 ) -> Part
     requires { ⌜ Level (now x) (now y) (now z) (now t) × (length (now list) ≡ 4 * length (now x)) × (first + length (now x) < 4611686018427387904) ⌝ }
-    ensures { λ r. ⌜ (now (list .exit) ≡ ranOf (planTurnsOf (now (velocities .entry)) (now (marks .entry)) plan) first from (now (list .entry)))
-        × (r .state ≡ stateAfterOf (planTurnsOf (now (velocities .entry)) (now (marks .entry)) plan) first from (now (list .entry)))
-        × (r .count ≡ countOf (planTurnsOf (now (velocities .entry)) (now (marks .entry)) plan) first from (now (list .entry)))
-        × (r .met ≡ countOf (planReachOf (now (velocities .entry)) (now (marks .entry)) plan) first from (now (list .entry))) ⌝ }
+    ensures { λ r. ⌜ (now (list .exit) ≡ ranOf (planTurnsOf (lentOf (now (velocities .entry)) (now (marks .entry)) (now (grid .entry))) plan) first from (now (list .entry)))
+        × (r .state ≡ stateAfterOf (planTurnsOf (lentOf (now (velocities .entry)) (now (marks .entry)) (now (grid .entry))) plan) first from (now (list .entry)))
+        × (r .count ≡ countOf (planTurnsOf (lentOf (now (velocities .entry)) (now (marks .entry)) (now (grid .entry))) plan) first from (now (list .entry)))
+        × (r .met ≡ countOf (planReachOf (lentOf (now (velocities .entry)) (now (marks .entry)) (now (grid .entry))) plan) first from (now (list .entry))) ⌝ }
 {
     columns::to_columns(list, x, y, z, t);
-    let part = plan_columns::run(plan, first, from, x, y, z, t, velocities, marks);
+    let part = plan_columns::run(plan, first, from, x, y, z, t, velocities, marks, grid);
     columns::to_flat(x, y, z, t, list);
     part
 }
 
 // The whole list: how many tuples the step counts, and how many meet an angle out of reach.
-pub fn over(plan: Plan, list: &mut [f64], velocities: &[f64], marks: &[u8]) -> Tally
-    ensures { λ r. ⌜ (now (list .exit) ≡ ranOf (planTurnsOf (now (velocities .entry)) (now (marks .entry)) plan) 0 (planStartOf plan) (now (list .entry)))
-        × (r ≡ tallyOf (planPassOf (now (velocities .entry)) (now (marks .entry)) plan) 0 (planStartOf plan) (now (list .entry))) ⌝ }
+pub fn over(plan: Plan, list: &mut [f64], velocities: &[f64], marks: &[u8], grid: &[u8]) -> Tally
+    ensures { λ r. ⌜ (now (list .exit) ≡ ranOf (planTurnsOf (lentOf (now (velocities .entry)) (now (marks .entry)) (now (grid .entry))) plan) 0 (planStartOf plan) (now (list .entry)))
+        × (r ≡ tallyOf (planPassOf (lentOf (now (velocities .entry)) (now (marks .entry)) (now (grid .entry))) plan) 0 (planStartOf plan) (now (list .entry))) ⌝ }
 {
     let mut x = room();
     let mut y = room();
@@ -92,6 +94,7 @@ pub fn over(plan: Plan, list: &mut [f64], velocities: &[f64], marks: &[u8]) -> T
             &mut t[..m],
             velocities,
             marks,
+            grid,
         );
         state = part.state; // from there the next window goes on
         count += part.count;

@@ -3,7 +3,7 @@
 use Prim.Native.Nat.{ℕ}
 use mathlib.Core.Path.{_≡_, sym, ap, _∙_}
 use mathlib.Core.Bool.{Bool}
-use mathlib.Core.List.{List}
+use mathlib.Core.List.{List, []}
 use lib.Ieee.{Float}
 use Rattle.tuple.specs.declared.Tuple.{Tuple}
 use Rattle.cart.specs.declared.Cart.{Cart}
@@ -14,6 +14,7 @@ use Rattle.sheet.specs.declared.Entry.{Entry}
 use Rattle.lists.specs.Run.{ranOf}
 use Rattle.helmert.specs.Turns.{noState, helmertTurns}
 use Rattle.turns.specs.Turns.{cartTurns}
+use Rattle.plans.specs.Lent.{lentOf}
 use Rattle.chain.specs.declared.Answer.{Answer}
 use Rattle.reach.specs.Met.{cartMet, helmertMet}
 use Rattle.plans.specs.Passes.{tallyOf}
@@ -26,11 +27,11 @@ module _ (inverse : Bool) (velocities : List Float) (marks : List ℕ) (us : Lis
   -- ---- a step of any kind: `chain`'s step over the flat list
 
   pub step-is-flat : (e : Entry)
-      → (flatOf (stepTuplesOf (reversedOf inverse e) velocities marks (e .step) us) ≡ stepListOf inverse velocities marks e (flatOf us))
-      × (stepTuplesTallyOf (reversedOf inverse e) velocities marks (e .step) us ≡ stepTallyOf inverse velocities marks e (flatOf us))
+      → (flatOf (stepTuplesOf (reversedOf inverse e) velocities marks (e .step) us) ≡ stepListOf inverse (lentOf velocities marks []) e (flatOf us))
+      × (stepTuplesTallyOf (reversedOf inverse e) velocities marks (e .step) us ≡ stepTallyOf inverse (lentOf velocities marks []) e (flatOf us))
   unfolding stepListOf tuplesCountedOf tuplesMetOf
   step-is-flat e =
-      let pass = passOf (reversedOf inverse e) velocities marks (e .step) in
+      let pass = passOf (reversedOf inverse e) (lentOf velocities marks []) (e .step) in
       (flat-tuples (pass .turns) 0 (stateOf (e .step)) us, flat-tally pass 0 (stateOf (e .step)) us)
 
   -- ---- Helmert in every mode, with its carried state: the flat list and its two numbers
@@ -39,14 +40,14 @@ module _ (inverse : Bool) (velocities : List Float) (marks : List ℕ) (us : Lis
       → (flatOf (stepTuplesOf inverse velocities marks (helmertStep h) us) ≡ ranOf (helmertTurns inverse (prepareOf h)) 0 (startOf (prepareOf h)) (flatOf us))
       × (stepTuplesTallyOf inverse velocities marks (helmertStep h) us ≡ tallyOf (record { turns = helmertTurns inverse (prepareOf h); met = helmertMet (prepareOf h) }) 0 (startOf (prepareOf h)) (flatOf us))
   helmert-is-flat h =
-      (flat-tuples (helmertTurns inverse (prepareOf h)) 0 (startOf (prepareOf h)) us, flat-tally (passOf inverse velocities marks (helmertStep h)) 0 (startOf (prepareOf h)) us)
+      (flat-tuples (helmertTurns inverse (prepareOf h)) 0 (startOf (prepareOf h)) us, flat-tally (passOf inverse (lentOf velocities marks []) (helmertStep h)) 0 (startOf (prepareOf h)) us)
 
   -- ---- cart, which has no state: `cart_columns`'s
 
   pub cart-is-flat : (r : Cart)
       → (flatOf (stepTuplesOf inverse velocities marks (cartStep r) us) ≡ ranOf (cartTurns inverse r) 0 noState (flatOf us))
       × (stepTuplesTallyOf inverse velocities marks (cartStep r) us ≡ tallyOf (record { turns = cartTurns inverse r; met = cartMet inverse }) 0 noState (flatOf us))
-  cart-is-flat r = (flat-tuples (cartTurns inverse r) 0 noState us, flat-tally (passOf inverse velocities marks (cartStep r)) 0 noState us)
+  cart-is-flat r = (flat-tuples (cartTurns inverse r) 0 noState us, flat-tally (passOf inverse (lentOf velocities marks []) (cartStep r)) 0 noState us)
 
 -- ---- two answers that meet `shift`'s contract are equal, and so are the lists afterwards
 

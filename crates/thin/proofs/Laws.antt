@@ -18,7 +18,7 @@ use Rattle.tuple.specs.declared.Tuple.{Tuple}
 use Rattle.tuple.specs.Sums.{nanTuple}
 use Rattle.helmert.specs.declared.State.{State}
 use Rattle.bodies.specs.declared.Step.{Step}
-use Rattle.bodies.specs.declared.Step.the-variants.{Cart, Permtide, Deformation, Molodensky, Helmert}
+use Rattle.bodies.specs.declared.Step.the-variants.{Cart, Permtide, Deformation, Molodensky, Badekas, Helmert}
 use Rattle.lists.specs.Flat.{fourOf, numbersOf}
 use Rattle.lists.specs.Run.{Turns, ranOf, countOf}
 use Rattle.sheet.specs.declared.Entry.{Entry}
@@ -26,6 +26,7 @@ use Rattle.sheet.specs.declared.Refusal.{Refusal}
 use Rattle.sheet.specs.Layout.{stepCountOf, kindAt, entryAt}
 use Rattle.sheet.specs.Rules.{accepted, ofCall, firstBroken, hasDeformation, refusalOf}
 use Rattle.sheet.proofs.Order.{not-zero, accepted-count}
+use Rattle.plans.specs.Lent.{lentOf}
 use Rattle.chain.specs.declared.Answer.{Answer}
 use Rattle.tally.specs.declared.Tally.{Tally}
 use Rattle.tally.specs.Tallies.{noTally, plusOf}
@@ -77,7 +78,7 @@ flat-injective us ws e = sym (tuples-in-flat us) ∙ ap tuplesIn e ∙ tuples-in
 
 -- ---- a plan makes of every tuple what its step makes of it
 
-pub plan-turns : (velocities : List Float) (marks : List ℕ) (inverse : Bool) (step : Step) → planTurnsOf velocities marks (planOf inverse step) ≡ turnsOf inverse velocities marks step
+pub plan-turns : (velocities : List Float) (marks : List ℕ) (inverse : Bool) (step : Step) → planTurnsOf velocities marks (planOf inverse step) ≡ turnsOf inverse (lentOf velocities marks []) step
 unfolding planOf
 plan-turns velocities marks true (Cart r) = refl
 plan-turns velocities marks false (Cart r) = refl
@@ -86,21 +87,23 @@ plan-turns velocities marks false (Permtide r) = refl
 plan-turns velocities marks inverse (Deformation r) = refl
 plan-turns velocities marks inverse (Molodensky r) = refl
 plan-turns velocities marks inverse (Helmert h) = refl
+plan-turns velocities marks inverse (Badekas r) = refl
 
-pub plan-met : (marks : List ℕ) (inverse : Bool) (step : Step) → planMetOf marks (planOf inverse step) ≡ metOf inverse marks step
+pub plan-met : (velocities : List Float) (marks : List ℕ) (inverse : Bool) (step : Step) → planMetOf marks (planOf inverse step) ≡ metOf inverse (lentOf velocities marks []) step
 unfolding planOf
-plan-met marks true (Cart r) = refl
-plan-met marks false (Cart r) = refl
-plan-met marks true (Permtide r) = refl
-plan-met marks false (Permtide r) = refl
-plan-met marks inverse (Deformation r) = refl
-plan-met marks inverse (Molodensky r) = refl
-plan-met marks inverse (Helmert h) = refl
+plan-met velocities marks true (Cart r) = refl
+plan-met velocities marks false (Cart r) = refl
+plan-met velocities marks true (Permtide r) = refl
+plan-met velocities marks false (Permtide r) = refl
+plan-met velocities marks inverse (Deformation r) = refl
+plan-met velocities marks inverse (Molodensky r) = refl
+plan-met velocities marks inverse (Helmert h) = refl
+plan-met velocities marks inverse (Badekas r) = refl
 
-pub plan-pass : (velocities : List Float) (marks : List ℕ) (inverse : Bool) (step : Step) → planPassOf velocities marks (planOf inverse step) ≡ passOf inverse velocities marks step
+pub plan-pass : (velocities : List Float) (marks : List ℕ) (inverse : Bool) (step : Step) → planPassOf velocities marks (planOf inverse step) ≡ passOf inverse (lentOf velocities marks []) step
 plan-pass velocities marks inverse step =
     let et = plan-turns velocities marks inverse step in
-    let em = plan-met marks inverse step in
+    let em = plan-met velocities marks inverse step in
     λ j. record { turns = et j; met = em j }
 
 pub plan-starts : (inverse : Bool) (step : Step) → startsOf (planOf inverse step) ≡ stateOf step
@@ -112,6 +115,7 @@ plan-starts false (Permtide r) = refl
 plan-starts inverse (Deformation r) = refl
 plan-starts inverse (Molodensky r) = refl
 plan-starts inverse (Helmert h) = refl
+plan-starts inverse (Badekas r) = refl
 
 pub turn-is : (velocities : List Float) (marks : List ℕ) (plan : Plan) (k : ℕ) (at : Carried) (u : Tuple)
     → turnOf velocities marks plan k at u ≡ tallied at (planTurnsOf velocities marks plan k (at .state) u) (planMetOf marks plan k (at .state) u)
@@ -248,17 +252,17 @@ steps-few s tuples velocities marks =
 -- ---- the loop over the steps, either way: `chain`'s invariants, of the same numbers
 
 abbrev pub Ahead : Bool → List Float → List ℕ → (ℕ → Entry) → ℕ → List Float → ℕ → List Float → List Tally → Type 0
-Ahead false velocities marks entry n l₀ i l tallies = Forward velocities marks entry n l₀ i l tallies
-Ahead true velocities marks entry n l₀ i l tallies = Backward velocities marks entry n l₀ (n - i) l tallies
+Ahead false velocities marks entry n l₀ i l tallies = Forward (lentOf velocities marks []) entry n l₀ i l tallies
+Ahead true velocities marks entry n l₀ i l tallies = Backward (lentOf velocities marks []) entry n l₀ (n - i) l tallies
 
 module _ (velocities : List Float) (marks : List ℕ) (entry : ℕ → Entry) (n : ℕ) (l₀ : List Float) (most : n ≤ 16) where
   pub ahead-start : (inverse : Bool) → Ahead inverse velocities marks entry n l₀ 0 l₀ (replicate 16 noTally)
-  ahead-start false = forward-start velocities marks entry n l₀ most
-  ahead-start true = let z : n - 0 ≡ n = omega arith in rw z (backward-start velocities marks entry n l₀ most)
+  ahead-start false = forward-start (lentOf velocities marks []) entry n l₀ most
+  ahead-start true = let z : n - 0 ≡ n = omega arith in rw z (backward-start (lentOf velocities marks []) entry n l₀ most)
 
   module _ (i : ℕ) (l : List Float) (tallies : List Tally) where
     pub ahead-again : (inverse : Bool) {l′ : List Float} {tally : Tally} → i < n
-        → l′ ≡ stepListOf inverse velocities marks (entry (stepIndexOf inverse n i)) l → tally ≡ stepTallyOf inverse velocities marks (entry (stepIndexOf inverse n i)) l
+        → l′ ≡ stepListOf inverse (lentOf velocities marks []) (entry (stepIndexOf inverse n i)) l → tally ≡ stepTallyOf inverse (lentOf velocities marks []) (entry (stepIndexOf inverse n i)) l
         → Ahead inverse velocities marks entry n l₀ i l tallies → Ahead inverse velocities marks entry n l₀ (i + 1) l′ (set tallies (stepIndexOf inverse n i) tally)
     ahead-again false h el ec now = forward-again most h refl el ec now
     ahead-again true h el ec now =
@@ -266,28 +270,28 @@ module _ (velocities : List Float) (marks : List ℕ) (entry : ℕ → Entry) (n
         rw z (backward-again most (n - 1 - i) (omega (arith, h)) refl el ec now)
 
     pub ahead-end : (inverse : Bool) → n ≤ i → Ahead inverse velocities marks entry n l₀ i l tallies
-        → (l ≡ chainOf inverse velocities marks (entriesOf entry n 0) l₀ .list) × (tallies ≡ placesOf (chainOf inverse velocities marks (entriesOf entry n 0) l₀ .tallies))
+        → (l ≡ chainOf inverse (lentOf velocities marks []) (entriesOf entry n 0) l₀ .list) × (tallies ≡ placesOf (chainOf inverse (lentOf velocities marks []) (entriesOf entry n 0) l₀ .tallies))
     ahead-end false h now = forward-end most h now
     ahead-end true h now = backward-end most (omega (arith, h)) now
 
 -- one step over the records is the chain's step over the same numbers
 module _ (inverse : Bool) (s : List ℕ) (velocities : List Float) (marks : List ℕ) (n i : ℕ) (todo : Todo) (zs zs′ : List Tuple) (tally : Tally) (et : todo ≡ todoOf inverse s n i)
-    (ez : zs′ ≡ tuplesOf (turnsOf (todo .inverse) velocities marks (todo .step)) 0 (stateOf (todo .step)) zs) (ec : tally ≡ tuplesTallyOf (passOf (todo .inverse) velocities marks (todo .step)) 0 (stateOf (todo .step)) zs) where
-  pub todo-list : flatOf zs′ ≡ stepListOf inverse velocities marks (entryAt s (stepIndexOf inverse n i)) (flatOf zs)
+    (ez : zs′ ≡ tuplesOf (turnsOf (todo .inverse) (lentOf velocities marks []) (todo .step)) 0 (stateOf (todo .step)) zs) (ec : tally ≡ tuplesTallyOf (passOf (todo .inverse) (lentOf velocities marks []) (todo .step)) 0 (stateOf (todo .step)) zs) where
+  pub todo-list : flatOf zs′ ≡ stepListOf inverse (lentOf velocities marks []) (entryAt s (stepIndexOf inverse n i)) (flatOf zs)
   unfolding todoOf stepListOf
-  todo-list = ap flatOf ez ∙ flat-tuples (turnsOf (todo .inverse) velocities marks (todo .step)) 0 (stateOf (todo .step)) zs ∙ rw et
+  todo-list = ap flatOf ez ∙ flat-tuples (turnsOf (todo .inverse) (lentOf velocities marks []) (todo .step)) 0 (stateOf (todo .step)) zs ∙ rw et
 
-  pub todo-tally : tally ≡ stepTallyOf inverse velocities marks (entryAt s (stepIndexOf inverse n i)) (flatOf zs)
+  pub todo-tally : tally ≡ stepTallyOf inverse (lentOf velocities marks []) (entryAt s (stepIndexOf inverse n i)) (flatOf zs)
   unfolding todoOf tuplesCountedOf tuplesMetOf
-  todo-tally = ec ∙ flat-tally (passOf (todo .inverse) velocities marks (todo .step)) 0 (stateOf (todo .step)) zs ∙ ap (λ (t : Todo). tallyOf (passOf (t .inverse) velocities marks (t .step)) 0 (stateOf (t .step)) (flatOf zs)) et
+  todo-tally = ec ∙ flat-tally (passOf (todo .inverse) (lentOf velocities marks []) (todo .step)) 0 (stateOf (todo .step)) zs ∙ ap (λ (t : Todo). tallyOf (passOf (t .inverse) (lentOf velocities marks []) (t .step)) 0 (stateOf (t .step)) (flatOf zs)) et
 
 -- no step: the list as it was, and no tallies
-no-tallies : (inverse : Bool) (velocities : List Float) (marks : List ℕ) (l : List Float) → placesOf (chainOf inverse velocities marks [] l .tallies) ≡ replicate 16 noTally
+no-tallies : (inverse : Bool) (velocities : List Float) (marks : List ℕ) (l : List Float) → placesOf (chainOf inverse (lentOf velocities marks []) [] l .tallies) ≡ replicate 16 noTally
 unfolding chainForwardOf chainInverseOf
 no-tallies true velocities marks l = refl
 no-tallies false velocities marks l = refl
 
-same-list : (inverse : Bool) (velocities : List Float) (marks : List ℕ) (l : List Float) → chainOf inverse velocities marks [] l .list ≡ l
+same-list : (inverse : Bool) (velocities : List Float) (marks : List ℕ) (l : List Float) → chainOf inverse (lentOf velocities marks []) [] l .list ≡ l
 unfolding chainForwardOf chainInverseOf
 same-list true velocities marks l = refl
 same-list false velocities marks l = refl
@@ -298,9 +302,9 @@ module _ (inverse : Bool) (s : List ℕ) (velocities : List Float) (marks : List
   flat-refusal = shiftRefusalOf (refusalOf s) (hasDeformation (kindAt s) (stepCountOf s)) (flatOf ys) velocities marks
 
   by-refusal : (t : Bool) → eqb (flat-refusal .number) 0 ≡ t → answer .refusal ≡ flat-refusal
-      → (flatOf zs ≡ chainOf inverse velocities marks (entriesOf (entryAt s) (cond t (stepCountOf s) 0) 0) (flatOf ys) .list)
-      → (answer .tallies ≡ placesOf (chainOf inverse velocities marks (entriesOf (entryAt s) (cond t (stepCountOf s) 0) 0) (flatOf ys) .tallies))
-      → outcome answer (flatOf zs) ≡ cond t (ranOutcome (chainOf inverse velocities marks (entriesOf (entryAt s) (stepCountOf s) 0) (flatOf ys))) (outcome (refusedAnswer flat-refusal) (flatOf ys))
+      → (flatOf zs ≡ chainOf inverse (lentOf velocities marks []) (entriesOf (entryAt s) (cond t (stepCountOf s) 0) 0) (flatOf ys) .list)
+      → (answer .tallies ≡ placesOf (chainOf inverse (lentOf velocities marks []) (entriesOf (entryAt s) (cond t (stepCountOf s) 0) 0) (flatOf ys) .tallies))
+      → outcome answer (flatOf zs) ≡ cond t (ranOutcome (chainOf inverse (lentOf velocities marks []) (entriesOf (entryAt s) (stepCountOf s) 0) (flatOf ys))) (outcome (refusedAnswer flat-refusal) (flatOf ys))
   unfolding entriesOf
   by-refusal true e er el ec = λ j. outcome (record { refusal = (er ∙ refusal-none _ _ _ velocities marks (eqb-true (flat-refusal .number) 0 e)) j; tallies = ec j }) (el j)
   by-refusal false e er el ec = λ j. outcome (record { refusal = er j; tallies = (ec ∙ no-tallies inverse velocities marks (flatOf ys)) j }) ((el ∙ same-list inverse velocities marks (flatOf ys)) j)
@@ -342,7 +346,7 @@ module _ (inverse : Bool) (s : List ℕ) (velocities : List Float) (marks : List
       }
 
   pub going-again : (i : ℕ) (zs zs′ : List Tuple) (answer answer′ : Answer) (todo : Todo) (tally : Tally) → i < n → todo ≡ todoOf inverse s n i → length zs′ ≡ length zs
-      → (zs′ ≡ tuplesOf (turnsOf (todo .inverse) velocities marks (todo .step)) 0 (stateOf (todo .step)) zs) × (tally ≡ tuplesTallyOf (passOf (todo .inverse) velocities marks (todo .step)) 0 (stateOf (todo .step)) zs)
+      → (zs′ ≡ tuplesOf (turnsOf (todo .inverse) (lentOf velocities marks []) (todo .step)) 0 (stateOf (todo .step)) zs) × (tally ≡ tuplesTallyOf (passOf (todo .inverse) (lentOf velocities marks []) (todo .step)) 0 (stateOf (todo .step)) zs)
       → answer′ ≡ notedOf answer (todo .place) tally → Going inverse s velocities marks ys refusal n i zs answer → Going inverse s velocities marks ys refusal n (i + 1) zs′ answer′
   unfolding notedOf
   going-again i zs zs′ answer answer′ todo tally h et el ran ea now =

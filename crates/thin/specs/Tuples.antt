@@ -12,6 +12,7 @@ use Rattle.helmert.specs.declared.State.{State}
 use Rattle.lists.specs.Run.{Turns}
 use Rattle.tally.specs.declared.Tally.{Tally}
 use Rattle.plans.specs.Passes.{Pass, meets}
+use Rattle.plans.specs.Lent.{lentOf}
 use Rattle.chain.specs.Chain.{turnsOf, passOf, stateOf}
 
 -- the list afterwards, the first fix having index k
@@ -31,10 +32,10 @@ tuplesTallyOf p k state us = record { count = countedAmong (p .turns) k state us
 -- ---- a step of a sheet over a list of tuple records: the list afterwards, and the step's tally
 
 abbrev pub stepTuplesOf : Bool → List Float → List ℕ → Step → List Tuple → List Tuple
-stepTuplesOf inverse velocities marks step us = tuplesOf (turnsOf inverse velocities marks step) 0 (stateOf step) us
+stepTuplesOf inverse velocities marks step us = tuplesOf (turnsOf inverse (lentOf velocities marks []) step) 0 (stateOf step) us
 
 abbrev pub stepTuplesTallyOf : Bool → List Float → List ℕ → Step → List Tuple → Tally
-stepTuplesTallyOf inverse velocities marks step us = tuplesTallyOf (passOf inverse velocities marks step) 0 (stateOf step) us
+stepTuplesTallyOf inverse velocities marks step us = tuplesTallyOf (passOf inverse (lentOf velocities marks []) step) 0 (stateOf step) us
 
 -- ---- the same numbers as a flat list, four a tuple
 abbrev pub flatOf : List Tuple → List Float

@@ -86,6 +86,9 @@ fn plan_of(inverse: bool, step: Step) -> Plan
         Step::Helmert(h) => {
             return Plan::HelmertEither(helmert::prepare(h), inverse);
         }
+        Step::Badekas(r) => {
+            return Plan::HelmertEither(badekas::prepare(r), inverse);
+        }
     }
 }
 

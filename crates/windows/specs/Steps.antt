@@ -10,6 +10,7 @@ use Rattle.tally.specs.declared.Tally.{Tally}
 use Rattle.tally.specs.Tallies.{noTally}
 use Rattle.plans.specs.declared.Plan.{Plan}
 use Rattle.plans.specs.declared.Standing.{Standing}
+use Rattle.plans.specs.Lent.{Lent}
 use Rattle.plans.specs.Passes.{Pass}
 use Rattle.plans.specs.Plans.{planIn, atMostSixteen, planPassOf, planStartOf}
 use Rattle.plans.specs.Windows.{Gone, goneOf}
@@ -17,8 +18,8 @@ use Rattle.plans.specs.Windows.{Gone, goneOf}
 -- ---- steps
 
 -- what the plan at an index does, tuple by tuple
-abbrev pub passIn : List Float → List ℕ → List Plan → ℕ → Pass
-passIn velocities marks plans i = planPassOf velocities marks (planIn plans i)
+abbrev pub passIn : Lent → List Plan → ℕ → Pass
+passIn lent plans i = planPassOf lent (planIn plans i)
 
 -- k steps from index i on
 unfoldable pub passesFrom : (ℕ → Pass) → ℕ → ℕ → List Pass
@@ -56,6 +57,6 @@ Few bound standings = (i : ℕ) → FewIn bound (getD standings i noStanding .ta
 
 -- ---- the first n plans over a list
 
-unfoldable pub goneOver : Bool → List Float → List ℕ → List Plan → ℕ → List Float → Gone
-goneOver inverse velocities marks plans n l =
-    goneOf inverse 0 (passesFrom (passIn velocities marks plans) (atMostSixteen n) 0) (startsOf (planIn plans) (atMostSixteen n)) l
+unfoldable pub goneOver : Bool → Lent → List Plan → ℕ → List Float → Gone
+goneOver inverse lent plans n l =
+    goneOf inverse 0 (passesFrom (passIn lent plans) (atMostSixteen n) 0) (startsOf (planIn plans) (atMostSixteen n)) l

@@ -13,6 +13,7 @@ ghost use Prim.Native.Nat.{_+_, _*_, _≤_, _<_};
 ghost use lib.ListN.{length};
 ghost use Rattle.lists.specs.Run.{ranOf};
 ghost use Rattle.columns.specs.Columns.{Level, flatOf};
+ghost use Rattle.plans.specs.Lent.{lentOf};
 ghost use Rattle.plans.specs.Plans.{planIn, planTurnsOf, planPassOf};
 ghost use Rattle.plans.specs.Windows.{movedOn, goneOf};
 ghost use Rattle.windows.specs.Steps.{passIn, passesFrom, atStart, noStanding, startsOf, talliesOf, FewIn, Few, goneOver};
@@ -88,13 +89,14 @@ fn moved_on(
     t: &mut [f64],
     velocities: &[f64],
     marks: &[u8],
+    grid: &[u8],
 ) -> Standing
     requires { ⌜ Level (now x) (now y) (now z) (now t) × (first + length (now x) < 4611686018427387904) × FewIn first (standing .tally) ⌝ }
     ensures { λ r. ⌜ (flatOf (now (x .exit)) (now (y .exit)) (now (z .exit)) (now (t .exit))
-        ≡ ranOf (planTurnsOf (now (velocities .entry)) (now (marks .entry)) plan) first (standing .state) (flatOf (now (x .entry)) (now (y .entry)) (now (z .entry)) (now (t .entry))))
-        × (r ≡ movedOn (planPassOf (now (velocities .entry)) (now (marks .entry)) plan) first standing (flatOf (now (x .entry)) (now (y .entry)) (now (z .entry)) (now (t .entry)))) ⌝ }
+        ≡ ranOf (planTurnsOf (lentOf (now (velocities .entry)) (now (marks .entry)) (now (grid .entry))) plan) first (standing .state) (flatOf (now (x .entry)) (now (y .entry)) (now (z .entry)) (now (t .entry))))
+        × (r ≡ movedOn (planPassOf (lentOf (now (velocities .entry)) (now (marks .entry)) (now (grid .entry))) plan) first standing (flatOf (now (x .entry)) (now (y .entry)) (now (z .entry)) (now (t .entry)))) ⌝ }
 {
-    let part = plan_columns::run(plan, first, standing.state, x, y, z, t, velocities, marks);
+    let part = plan_columns::run(plan, first, standing.state, x, y, z, t, velocities, marks, grid);
     let before = standing.tally;
     let state = part.state;
     let tally = Tally {
@@ -120,18 +122,19 @@ fn forward(
     t: &mut [f64],
     velocities: &[f64],
     marks: &[u8],
+    grid: &[u8],
 ) -> [Standing; 16]
     requires { ⌜ (n ≤ 16) × Level (now x) (now y) (now z) (now t) × (first + length (now x) < 4611686018427387904) × Few first before ⌝ }
     ensures { λ r. ⌜ (flatOf (now (x .exit)) (now (y .exit)) (now (z .exit)) (now (t .exit))
-        ≡ goneOf false first (passesFrom (passIn (now (velocities .entry)) (now (marks .entry)) plans) n 0) before (flatOf (now (x .entry)) (now (y .entry)) (now (z .entry)) (now (t .entry))) .list)
-        × (r ≡ goneOf false first (passesFrom (passIn (now (velocities .entry)) (now (marks .entry)) plans) n 0) before (flatOf (now (x .entry)) (now (y .entry)) (now (z .entry)) (now (t .entry))) .standings) ⌝ }
+        ≡ goneOf false first (passesFrom (passIn (lentOf (now (velocities .entry)) (now (marks .entry)) (now (grid .entry))) plans) n 0) before (flatOf (now (x .entry)) (now (y .entry)) (now (z .entry)) (now (t .entry))) .list)
+        × (r ≡ goneOf false first (passesFrom (passIn (lentOf (now (velocities .entry)) (now (marks .entry)) (now (grid .entry))) plans) n 0) before (flatOf (now (x .entry)) (now (y .entry)) (now (z .entry)) (now (t .entry))) .standings) ⌝ }
 {
     let mut standings = before;
     let mut i = 0;
     while i < n {
         let plan = plans[i]; // the first step first
         let standing = standings[i];
-        let next = moved_on(plan, first, standing, x, y, z, t, velocities, marks);
+        let next = moved_on(plan, first, standing, x, y, z, t, velocities, marks, grid);
         standings[i] = next; // from there the next window goes on
         i += 1;
     }
@@ -150,11 +153,12 @@ fn backward(
     t: &mut [f64],
     velocities: &[f64],
     marks: &[u8],
+    grid: &[u8],
 ) -> [Standing; 16]
     requires { ⌜ (n ≤ 16) × Level (now x) (now y) (now z) (now t) × (first + length (now x) < 4611686018427387904) × Few first before ⌝ }
     ensures { λ r. ⌜ (flatOf (now (x .exit)) (now (y .exit)) (now (z .exit)) (now (t .exit))
-        ≡ goneOf true first (passesFrom (passIn (now (velocities .entry)) (now (marks .entry)) plans) n 0) before (flatOf (now (x .entry)) (now (y .entry)) (now (z .entry)) (now (t .entry))) .list)
-        × (r ≡ goneOf true first (passesFrom (passIn (now (velocities .entry)) (now (marks .entry)) plans) n 0) before (flatOf (now (x .entry)) (now (y .entry)) (now (z .entry)) (now (t .entry))) .standings) ⌝ }
+        ≡ goneOf true first (passesFrom (passIn (lentOf (now (velocities .entry)) (now (marks .entry)) (now (grid .entry))) plans) n 0) before (flatOf (now (x .entry)) (now (y .entry)) (now (z .entry)) (now (t .entry))) .list)
+        × (r ≡ goneOf true first (passesFrom (passIn (lentOf (now (velocities .entry)) (now (marks .entry)) (now (grid .entry))) plans) n 0) before (flatOf (now (x .entry)) (now (y .entry)) (now (z .entry)) (now (t .entry))) .standings) ⌝ }
 {
     let mut standings = before;
     let mut i = n;
@@ -162,7 +166,7 @@ fn backward(
         i -= 1;
         let plan = plans[i]; // the last step first
         let standing = standings[i];
-        let next = moved_on(plan, first, standing, x, y, z, t, velocities, marks);
+        let next = moved_on(plan, first, standing, x, y, z, t, velocities, marks, grid);
         standings[i] = next;
     }
     standings
@@ -181,16 +185,17 @@ fn all_steps(
     t: &mut [f64],
     velocities: &[f64],
     marks: &[u8],
+    grid: &[u8],
 ) -> [Standing; 16]
     requires { ⌜ (n ≤ 16) × Level (now x) (now y) (now z) (now t) × (first + length (now x) < 4611686018427387904) × Few first before ⌝ }
     ensures { λ r. ⌜ (flatOf (now (x .exit)) (now (y .exit)) (now (z .exit)) (now (t .exit))
-        ≡ goneOf inverse first (passesFrom (passIn (now (velocities .entry)) (now (marks .entry)) plans) n 0) before (flatOf (now (x .entry)) (now (y .entry)) (now (z .entry)) (now (t .entry))) .list)
-        × (r ≡ goneOf inverse first (passesFrom (passIn (now (velocities .entry)) (now (marks .entry)) plans) n 0) before (flatOf (now (x .entry)) (now (y .entry)) (now (z .entry)) (now (t .entry))) .standings) ⌝ }
+        ≡ goneOf inverse first (passesFrom (passIn (lentOf (now (velocities .entry)) (now (marks .entry)) (now (grid .entry))) plans) n 0) before (flatOf (now (x .entry)) (now (y .entry)) (now (z .entry)) (now (t .entry))) .list)
+        × (r ≡ goneOf inverse first (passesFrom (passIn (lentOf (now (velocities .entry)) (now (marks .entry)) (now (grid .entry))) plans) n 0) before (flatOf (now (x .entry)) (now (y .entry)) (now (z .entry)) (now (t .entry))) .standings) ⌝ }
 {
     if inverse {
-        return backward(plans, n, first, before, x, y, z, t, velocities, marks);
+        return backward(plans, n, first, before, x, y, z, t, velocities, marks, grid);
     }
-    forward(plans, n, first, before, x, y, z, t, velocities, marks)
+    forward(plans, n, first, before, x, y, z, t, velocities, marks, grid)
 }
 
 // A window of a flat list, through columns that have its rows.
@@ -207,10 +212,11 @@ fn window(
     t: &mut [f64],
     velocities: &[f64],
     marks: &[u8],
+    grid: &[u8],
 ) -> [Standing; 16]
     requires { ⌜ (n ≤ 16) × Level (now x) (now y) (now z) (now t) × (length (now list) ≡ 4 * length (now x)) × (first + length (now x) < 4611686018427387904) × Few first before ⌝ }
-    ensures { λ r. ⌜ (now (list .exit) ≡ goneOf inverse first (passesFrom (passIn (now (velocities .entry)) (now (marks .entry)) plans) n 0) before (now (list .entry)) .list)
-        × (r ≡ goneOf inverse first (passesFrom (passIn (now (velocities .entry)) (now (marks .entry)) plans) n 0) before (now (list .entry)) .standings) ⌝ }
+    ensures { λ r. ⌜ (now (list .exit) ≡ goneOf inverse first (passesFrom (passIn (lentOf (now (velocities .entry)) (now (marks .entry)) (now (grid .entry))) plans) n 0) before (now (list .entry)) .list)
+        × (r ≡ goneOf inverse first (passesFrom (passIn (lentOf (now (velocities .entry)) (now (marks .entry)) (now (grid .entry))) plans) n 0) before (now (list .entry)) .standings) ⌝ }
 {
     columns::to_columns(list, x, y, z, t);
     let standings = all_steps(
@@ -225,6 +231,7 @@ fn window(
         t,
         velocities,
         marks,
+        grid,
     );
     columns::to_flat(x, y, z, t, list);
     standings
@@ -241,9 +248,10 @@ pub fn over(
     list: &mut [f64],
     velocities: &[f64],
     marks: &[u8],
+    grid: &[u8],
 ) -> [Tally; 16]
-    ensures { λ r. ⌜ (now (list .exit) ≡ goneOver inverse (now (velocities .entry)) (now (marks .entry)) plans n (now (list .entry)) .list)
-        × (r ≡ talliesOf (goneOver inverse (now (velocities .entry)) (now (marks .entry)) plans n (now (list .entry)) .standings)) ⌝ }
+    ensures { λ r. ⌜ (now (list .exit) ≡ goneOver inverse (lentOf (now (velocities .entry)) (now (marks .entry)) (now (grid .entry))) plans n (now (list .entry)) .list)
+        × (r ≡ talliesOf (goneOver inverse (lentOf (now (velocities .entry)) (now (marks .entry)) (now (grid .entry))) plans n (now (list .entry)) .standings)) ⌝ }
 {
     let mut x = step_windows::room();
     let mut y = step_windows::room();
@@ -270,6 +278,7 @@ pub fn over(
             &mut t[..m],
             velocities,
             marks,
+            grid,
         );
         standings = after;
         i += m;

@@ -4,6 +4,7 @@
 //! how many tuples met an angle out of reach, and through the columns entry, and they have to agree
 //! in the answer and in every number (`columns`).
 pub mod columns;
+pub mod grid;
 
 use job::{Answer, Job, sheet};
 

@@ -16,10 +16,10 @@
 //!   is inside from south to north and from west to east, both ends included. Smallest input that
 //!   parts this from a test of the quotient alone: south 0, spacing 0.1, four rows; north is
 //!   0.30000000000000004, whose quotient by 0.1 is 3.0000000000000004, beyond the last row.
-//! - A quotient beyond the last row, as that one, is not cut back: the weight is then over 1 by
-//!   as much. With a spacing far below the last place of south this can be much; smallest input:
-//!   south 1, two rows, spacing 0.6 units in the last place of 1: north is the next number after
-//!   1, the quotient there 1.67.
+//! - A place on the last row stands rows - 1 spacings from the first, whatever the quotient is, and
+//!   no place stands further: so its weight there is 1 and each corner gives its own node. Smallest
+//!   inputs: south 0.2, two rows, spacing 0.5, whose north is 0.7 with the quotient
+//!   0.9999999999999999; and the four rows above, whose north has a quotient over 3.
 //! - A node's row and column are the quotient's whole part, at most the last but one; so a place
 //!   on an inner node is the south-west node of its cell.
 //! - The longitude is `geographic`'s, from -π to π; no turn is added or taken. Smallest input:
@@ -101,12 +101,19 @@ impl Grid {
     }
 }
 
+/// How many spacings a place inside stands from the first row, or column: never more than the last.
+fn spacings(place: f64, first: f64, last: f64, spacing: f64, count: usize) -> f64 {
+    let quotient = (place - first) / spacing;
+    let most = (count - 1) as f64;
+    if place == last || quotient > most { most } else { quotient }
+}
+
 /// The velocity at a place, none where it is absent.
 ///
 /// 1. Inside: south <= latitude <= north and west <= longitude <= east, as binary64.
-/// 2. y = (latitude - south) / spacing, two roundings; its row is the whole part of y, at most
-///    the last row but one; v = y - row, one rounding. x, column and u likewise, from the
-///    longitude.
+/// 2. y = (latitude - south) / spacing, two roundings, at most rows - 1, and rows - 1 itself where
+///    the latitude is north; its row is the whole part of y, at most the last row but one; v = y -
+///    row, one rounding. x, column and u likewise, from the longitude.
 /// 3. v' = 1 - v and u' = 1 - u, one rounding each.
 /// 4. The weights, one rounding each: south-west v'·u', south-east v'·u, north-west v·u',
 ///    north-east v·u.
@@ -119,8 +126,8 @@ pub fn lookup(grid: &Grid, longitude: f64, latitude: f64) -> Option<[f64; 3]> {
     if !inside {
         return None;
     }
-    let y = (latitude - grid.south) / grid.latitude_spacing;
-    let x = (longitude - grid.west) / grid.longitude_spacing;
+    let y = spacings(latitude, e.south, e.north, grid.latitude_spacing, grid.rows);
+    let x = spacings(longitude, e.west, e.east, grid.longitude_spacing, grid.columns);
     let row = (y as usize).min(grid.rows - 2);
     let column = (x as usize).min(grid.columns - 2);
     let v = y - row as f64;

@@ -140,10 +140,14 @@ fn the_last_row_by_its_number() {
     grid.nodes = (0..8).map(|i| [i as f64; 3]).collect();
     let north = grid.extent().north;
     assert!(north == 0.30000000000000004 && north / 0.1 > 3.0);
-    assert!(lookup(&grid, -1.0, north).unwrap()[0] > 6.0);
+    assert_eq!(lookup(&grid, -1.0, north), Some(grid.nodes[6]));
     assert_eq!(lookup(&grid, -1.0, north.next_up()), None);
+    (grid.rows, grid.south, grid.latitude_spacing) = (2, 0.2, 0.5);
+    let north = grid.extent().north;
+    assert!(north == 0.7 && (north - 0.2) / 0.5 < 1.0);
+    assert_eq!(lookup(&grid, 0.0, north), Some(grid.nodes[3]));
     let unit = f64::EPSILON;
-    (grid.rows, grid.south, grid.latitude_spacing) = (2, 1.0, 0.6 * unit);
+    (grid.south, grid.latitude_spacing) = (1.0, 0.6 * unit);
     assert_eq!(grid.extent().north, 1.0 + unit);
-    assert!(lookup(&grid, -1.0, 1.0 + unit).unwrap()[0] > 3.0);
+    assert_eq!(lookup(&grid, -1.0, 1.0 + unit), Some(grid.nodes[2]));
 }

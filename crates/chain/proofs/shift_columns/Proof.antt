@@ -63,8 +63,8 @@ returns-3 c =
     rw (c .refused3 .ensures, c .before .of-call2 .ensures, ← c .before .before .before .before .before .before .before .before .before .before .check .ensures)
     (sym (columns-refused-10 (c .before .before .before .before .before .before .before .before .before .before .check .result) _ _ _ _ _ _ (c .before .before .before .before .before .before .before .before .if1 .left) (sym (c .before .before .before .before .before .before .before .columns-broken .ensures) ∙ c .before .before .before .before .before .before .if2 .left) (sym (rw (c .before .before .before .before .deforms .ensures, c .before .before .before .before .before .step-count .ensures .0) at (c .before .before .before .lent-broken .ensures)) ∙ c .before .before .if3 .taken)))
 
-over-columns-requires : tie.Need-over-columns-requires
-over-columns-requires c κs =
+columns-without-grid-requires : tie.Need-columns-without-grid-requires
+columns-without-grid-requires c κs =
     let count = c .before .before .before .before .before .before .before .step-count .ensures .0 in
     let none = ap (λ (r : Refusal). r .number) (sym (c .before .before .before .before .before .before .before .before .before .before .before .before .check .ensures)) ∙ c .before .before .before .before .before .before .before .before .before .before .if1 .left in
     let nine = nine-kept _ _ _ _ (sym (c .before .before .before .before .before .before .before .before .before .columns-broken .ensures) ∙ c .before .before .before .before .before .before .before .before .if2 .left) in
@@ -88,7 +88,7 @@ same-length-4 c = search needs
 returns-4 : tie.Need-returns-4
 unfolding shiftColumnsOf
 returns-4 c =
-    let e = c .before .before .before .before .before .before .before .before .before .over-columns .ensures in
+    let e = c .before .before .before .before .before .before .before .before .before .columns-without-grid .ensures in
     let kept = sym (c .before .before .before .before .before .before .before .before .before .before .before .before .before .before .before .before .before .before .before .columns-broken .ensures) ∙ c .before .before .before .before .before .before .before .before .before .before .before .before .before .before .before .before .before .before .if2 .left in
     let nine = nine-kept _ _ _ _ kept in
     rw (c .ran .ensures, columns-of _ _ _ _ (search (needs, nine .0), search (needs, nine .0), search (needs, nine .0)) (e .0), e .1, c .before .before .before .before .before .before .before .before .before .before .before .before .before .before .before .before .before .step-count .ensures .0, ← c .before .before .before .before .before .before .before .before .before .before .before .before .before .before .before .before .before .before .before .before .before .before .check .ensures)
@@ -112,7 +112,7 @@ shift-columns-spec =
     of-call-requires-2
     refused-requires-3
     returns-3
-    over-columns-requires
+    columns-without-grid-requires
     ran-requires
     same-length
     same-length-2

@@ -24,30 +24,30 @@ array-borrow-prefix-x : tie.Need-array-borrow-prefix-x
 array-borrow-prefix-x c = search needs
 
 slice-aggregate-through : tie.Need-slice-aggregate-through
-slice-aggregate-through c = sym (length-take-le (length (c .before .before .before .before .before .before .before .before .before .before .args .list .now) / 4) (c .before .before .before .before .before .zeros .result) (omega (arith, c .before .before .before .before .before .zeros .ensures, c .before .before .before .before .before .before .before .before .before .before .pre .3)))
+slice-aggregate-through c = sym (length-take-le (length (c .before .before .before .before .before .before .before .before .before .before .before .args .list .now) / 4) (c .before .before .before .before .before .zeros .result) (omega (arith, c .before .before .before .before .before .zeros .ensures, c .before .before .before .before .before .before .before .before .before .before .before .pre .3)))
 
 array-borrow-prefix-y : tie.Need-array-borrow-prefix-y
 array-borrow-prefix-y c = search needs
 
 slice-aggregate-through-2 : tie.Need-slice-aggregate-through-2
-slice-aggregate-through-2 c = sym (length-take-le (length (c .before .before .before .before .before .before .before .before .before .before .before .args .list .now) / 4) (c .before .before .before .before .before .zeros2 .result) (omega (arith, c .before .before .before .before .before .zeros2 .ensures, c .before .before .before .before .before .before .before .before .before .before .before .pre .3)))
+slice-aggregate-through-2 c = sym (length-take-le (length (c .before .before .before .before .before .before .before .before .before .before .before .before .args .list .now) / 4) (c .before .before .before .before .before .zeros2 .result) (omega (arith, c .before .before .before .before .before .zeros2 .ensures, c .before .before .before .before .before .before .before .before .before .before .before .before .pre .3)))
 
 array-borrow-prefix-z : tie.Need-array-borrow-prefix-z
 array-borrow-prefix-z c = search needs
 
 slice-aggregate-through-3 : tie.Need-slice-aggregate-through-3
-slice-aggregate-through-3 c = sym (length-take-le (length (c .before .before .before .before .before .before .before .before .before .before .before .before .args .list .now) / 4) (c .before .before .before .before .before .zeros3 .result) (omega (arith, c .before .before .before .before .before .zeros3 .ensures, c .before .before .before .before .before .before .before .before .before .before .before .before .pre .3)))
+slice-aggregate-through-3 c = sym (length-take-le (length (c .before .before .before .before .before .before .before .before .before .before .before .before .before .args .list .now) / 4) (c .before .before .before .before .before .zeros3 .result) (omega (arith, c .before .before .before .before .before .zeros3 .ensures, c .before .before .before .before .before .before .before .before .before .before .before .before .before .pre .3)))
 
 array-borrow-prefix-t : tie.Need-array-borrow-prefix-t
 array-borrow-prefix-t c = search needs
 
 slice-aggregate-through-4 : tie.Need-slice-aggregate-through-4
-slice-aggregate-through-4 c = sym (length-take-le (length (c .before .before .before .before .before .before .before .before .before .before .before .before .before .args .list .now) / 4) (c .before .before .before .before .before .zeros4 .result) (omega (arith, c .before .before .before .before .before .zeros4 .ensures, c .before .before .before .before .before .before .before .before .before .before .before .before .before .pre .3)))
+slice-aggregate-through-4 c = sym (length-take-le (length (c .before .before .before .before .before .before .before .before .before .before .before .before .before .before .args .list .now) / 4) (c .before .before .before .before .before .zeros4 .result) (omega (arith, c .before .before .before .before .before .zeros4 .ensures, c .before .before .before .before .before .before .before .before .before .before .before .before .before .before .pre .3)))
 
 through-requires : tie.Need-through-requires
 through-requires c κs =
-    let m = length (c .before .before .before .before .before .before .before .before .before .before .before .before .before .args .list .now) / 4 in
-    let p = c .before .before .before .before .before .before .before .before .before .before .before .before .before .pre in
+    let m = length (c .before .before .before .before .before .before .before .before .before .before .before .before .before .before .args .list .now) / 4 in
+    let p = c .before .before .before .before .before .before .before .before .before .before .before .before .before .before .pre in
     let x = length-take-le m (c .before .before .before .before .before .before .before .before .zeros .result) (omega (arith, c .before .before .before .before .before .before .before .before .zeros .ensures, p .3)) in
     let y = length-take-le m (c .before .before .before .before .before .before .before .zeros2 .result) (omega (arith, c .before .before .before .before .before .before .before .zeros2 .ensures, p .3)) in
     let z = length-take-le m (c .before .before .before .before .before .before .zeros3 .result) (omega (arith, c .before .before .before .before .before .before .zeros3 .ensures, p .3)) in

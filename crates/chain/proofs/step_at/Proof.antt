@@ -30,10 +30,10 @@ same-length-4 c = search needs
 
 returns : tie.Need-returns
 returns c =
-    let below = c .before .before .before .before .before .before .before .before .before .before .before .before .before .before .before .before .before .before .before .before .before .before .pre .0 in
+    let below = c .before .before .before .before .before .before .before .before .before .before .before .before .before .before .before .before .before .before .before .before .before .before .before .pre .0 in
     let there = c .before .before .before .before .before .before .before .before .before .before .before .before .before .before .plan-at .ensures in
     let e = rw (c .before .before .before .before .before .before .before .before .before .before .before .before .before .start .ensures) at (c .before .before .before .before .before .before .before .before .run .ensures) in
-    (e .0 ∙ list-at _ _ _ _ _ below there _, tally-told _ _ _ _ _ below there _ (e .2) (e .3))
+    (e .0 ∙ list-at _ _ _ _ below there _, tally-told _ _ _ _ below there _ (e .2) (e .3))
 
 pub step-at-spec : {M : Type 1} → statement M
 step-at-spec =

@@ -10,7 +10,7 @@ to-columns-requires c κs = search needs
 
 over-columns-requires : tie.Need-over-columns-requires
 over-columns-requires c κs =
-    let p = c .before .before .before .before .before .before .before .before .before .before .before .before .before .before .before .before .before .before .before .before .before .before .before .before .before .before .pre in
+    let p = c .before .before .before .before .before .before .before .before .before .before .before .before .before .before .before .before .before .before .before .before .before .before .before .before .before .before .before .pre in
     (p .0, p .1, (search (needs, c .before .before .before .before .before .before .before .before .before .before .before .x .given, c .before .before .before .before .before .before .before .before .before .y .given, p .2 .0), search (needs, c .before .before .before .before .before .before .before .before .before .before .before .x .given, c .before .before .before .before .before .before .before .z .given, p .2 .1), search (needs, c .before .before .before .before .before .before .before .before .before .before .before .x .given, c .before .before .before .before .before .t .given, p .2 .2)), search (needs, c .before .before .before .before .before .before .before .before .before .before .before .x .given, p .4))
 
 to-flat-requires : tie.Need-to-flat-requires
@@ -33,7 +33,7 @@ same-length-5 c = search needs
 
 returns : tie.Need-returns
 returns c =
-    let p = c .before .before .before .before .before .before .before .before .before .before .before .before .before .before .before .before .before .before .before .before .before .before .before .before .before .before .before .before .before .before .before .before .before .before .before .before .before .before .before .before .before .before .before .pre in
+    let p = c .before .before .before .before .before .before .before .before .before .before .before .before .before .before .before .before .before .before .before .before .before .before .before .before .before .before .before .before .before .before .before .before .before .before .before .before .before .before .before .before .before .before .before .before .pre in
     let there = to-rows _ _ _ _ _ (c .before .before .before .before .before .before .before .before .before .before .before .before .before .before .before .before .before .before .before .before .before .before .before .before .before .before .before .before .before .to-columns .ensures) (p .2) (p .3) in
     let e = c .before .before .before .before .before .before .before .before .before .before .before .before .before .before .before .before .over-columns .ensures in
     let back = from-rows _ _ _ _ _ (c .before .before .to-flat .ensures) (

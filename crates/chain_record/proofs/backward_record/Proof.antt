@@ -8,12 +8,14 @@ use native.Mathlib.Omega.{arith}
 use Prim.Native.Nat.{_+_, _-_}
 use mathlib.Core.Path.{_≡_, refl}
 use Rattle.sheet.specs.Layout.{entryOf}
+use mathlib.Core.List.{[]}
+use Rattle.plans.specs.Lent.{lentOf}
 use Rattle.chain.proofs.Laws.{Backward, backward-start, backward-again, backward-end}
 use Rattle.chain_record.proofs.backward_record.Statement.{statement}
 use Rattle.chain_record.proofs.backward_record.Tie as tie
 
 abbrev Inv-loop : tie.InvT-loop
-Inv-loop n list₀ velocities marks kept tallies₀ i₀ list tallies i = Backward velocities marks (entryOf kept) n list₀ i list tallies
+Inv-loop n list₀ velocities marks kept tallies₀ i₀ list tallies i = Backward (lentOf velocities marks []) (entryOf kept) n list₀ i list tallies
 
 abbrev μ-loop : tie.MeasureT-loop
 μ-loop n list₀ velocities marks kept tallies₀ i₀ list tallies i = i
@@ -22,7 +24,7 @@ none-requires : tie.Need-none-requires Inv-loop μ-loop
 none-requires c κs = search needs
 
 loop-holds : tie.Need-loop-holds Inv-loop μ-loop
-loop-holds c = rw (c .none .ensures) (backward-start _ _ _ _ _ (c .before .before .before .before .pre))
+loop-holds c = rw (c .none .ensures) (backward-start _ _ _ _ (c .before .before .before .before .pre))
 
 sub-i : tie.Need-sub-i Inv-loop μ-loop
 sub-i c = search needs

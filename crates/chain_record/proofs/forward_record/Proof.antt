@@ -9,12 +9,14 @@ use borrow.Author.Needs.{needs}
 use Prim.Native.Nat.{_-_}
 use mathlib.Core.Path.{refl}
 use Rattle.sheet.specs.Layout.{entryOf}
+use mathlib.Core.List.{[]}
+use Rattle.plans.specs.Lent.{lentOf}
 use Rattle.chain.proofs.Laws.{Forward, forward-start, forward-again, forward-end}
 use Rattle.chain_record.proofs.forward_record.Statement.{statement}
 use Rattle.chain_record.proofs.forward_record.Tie as tie
 
 abbrev Inv-loop : tie.InvT-loop
-Inv-loop n list₀ velocities marks kept tallies₀ i₀ list tallies i = Forward velocities marks (entryOf kept) n list₀ i list tallies
+Inv-loop n list₀ velocities marks kept tallies₀ i₀ list tallies i = Forward (lentOf velocities marks []) (entryOf kept) n list₀ i list tallies
 
 abbrev μ-loop : tie.MeasureT-loop
 μ-loop n list₀ velocities marks kept tallies₀ i₀ list tallies i = n - i
@@ -23,7 +25,7 @@ none-requires : tie.Need-none-requires Inv-loop μ-loop
 none-requires c κs = search needs
 
 loop-holds : tie.Need-loop-holds Inv-loop μ-loop
-loop-holds c = rw (c .none .ensures) (forward-start _ _ _ _ _ (c .before .before .before .before .pre))
+loop-holds c = rw (c .none .ensures) (forward-start _ _ _ _ (c .before .before .before .before .pre))
 
 mul-entry : tie.Need-mul-entry Inv-loop μ-loop
 mul-entry c = search needs

@@ -13,6 +13,9 @@ reversed-requires c κs = search needs
 plan-of-step-requires : tie.Need-plan-of-step-requires
 plan-of-step-requires c κs = search needs
 
+no-grid-requires : tie.Need-no-grid-requires
+no-grid-requires c κs = search needs
+
 over-requires : tie.Need-over-requires
 over-requires c κs = search needs
 
@@ -21,10 +24,10 @@ same-length c = search needs
 
 returns : tie.Need-returns
 returns c =
-    let there = c .before .before .before .before .plan-of-step .ensures in
-    let turned = c .before .before .before .before .before .reversed .ensures in
-    let e = c .before .before .over .ensures in
-    (e .0 ∙ plan-list _ _ _ _ _ turned there, e .1 ∙ plan-tally _ _ _ _ _ turned there)
+    let there = c .before .before .before .before .before .plan-of-step .ensures in
+    let turned = c .before .before .before .before .before .before .reversed .ensures in
+    let e = rw (c .before .before .before .before .no-grid .ensures) at (c .before .before .over .ensures) in
+    (e .0 ∙ plan-list _ _ _ _ turned there, e .1 ∙ plan-tally _ _ _ _ turned there)
 
 pub run-step-spec : {M : Type 1} → statement M
-run-step-spec = tie.close (tie.spec reversed-requires plan-of-step-requires over-requires same-length returns)
+run-step-spec = tie.close (tie.spec reversed-requires plan-of-step-requires no-grid-requires over-requires same-length returns)

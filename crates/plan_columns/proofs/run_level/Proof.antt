@@ -3,6 +3,7 @@
 -- from what the pass before it ensures, how many met an angle out of reach. Assumes nothing.
 use Rattle.plan_columns.proofs.Blind.{rows, looped-met, handed-on-met}
 use Rattle.columns.specs.Columns.{flatOf}
+use Rattle.plans.specs.Lent.{lentOf}
 use borrow.Author.Needs.{needs}
 use mathlib.Core.Path.{refl}
 use Rattle.plan_columns.proofs.run_level.Statement.{statement}
@@ -31,10 +32,10 @@ same-length-4 c = search needs
 
 returns : tie.Need-returns
 returns c =
-    let a = c .before .before .before .before .before .before .before .before .before .before .before .before .before .before .before .before .before .before .before .before .before .before .before .before .before .args in
+    let a = c .before .before .before .before .before .before .before .before .before .before .before .before .before .before .before .before .before .before .before .before .before .before .before .before .before .before .args in
     let kind = c .before .before .before .before .before .before .before .before .before .before .before .before .before .before .before .before .before .plan .given .1 in
     let l = flatOf (a .x .now) (a .y .now) (a .z .now) (a .t .now) in
-    looped-met (a .velocities .now) (a .marks .now) (a .first) (a .from) l (a .plan) (rw kind (c .before .before .before .before .before .before .cart-forward .ensures)) (rw kind (c .before .before .before .before .before .before .before .before .before .before .before .place .ensures))
+    looped-met (lentOf (a .velocities .now) (a .marks .now) (a .grid .now)) (a .first) (a .from) l (a .plan) (rw kind (c .before .before .before .before .before .before .cart-forward .ensures)) (rw kind (c .before .before .before .before .before .before .before .before .before .before .before .place .ensures))
 
 enum-known-plan-2 : tie.Need-enum-known-plan-2
 enum-known-plan-2 c = search needs
@@ -56,10 +57,10 @@ same-length-8 c = search needs
 
 returns-2 : tie.Need-returns-2
 returns-2 c =
-    let a = c .before .before .before .before .before .before .before .before .before .before .before .before .before .before .before .before .before .before .before .before .args in
+    let a = c .before .before .before .before .before .before .before .before .before .before .before .before .before .before .before .before .before .before .before .before .before .args in
     let kind = c .before .before .before .before .before .before .before .before .before .before .before .before .plan2 .given .1 in
     let l = flatOf (a .x .now) (a .y .now) (a .z .now) (a .t .now) in
-    looped-met (a .velocities .now) (a .marks .now) (a .first) (a .from) l (a .plan) (rw kind (c .before .before .before .before .before .before .cart-inverse .ensures)) (rw kind refl)
+    looped-met (lentOf (a .velocities .now) (a .marks .now) (a .grid .now)) (a .first) (a .from) l (a .plan) (rw kind (c .before .before .before .before .before .before .cart-inverse .ensures)) (rw kind refl)
 
 enum-known-plan-3 : tie.Need-enum-known-plan-3
 enum-known-plan-3 c = search needs
@@ -84,16 +85,16 @@ same-length-12 c = search needs
 
 returns-3 : tie.Need-returns-3
 returns-3 c =
-    let a = c .before .before .before .before .before .before .before .before .before .before .before .before .before .before .before .before .before .before .before .before .before .args in
+    let a = c .before .before .before .before .before .before .before .before .before .before .before .before .before .before .before .before .before .before .before .before .before .before .args in
     let kind = c .before .before .before .before .before .before .before .before .before .before .before .before .before .plan3 .given .1 in
     let l = flatOf (a .x .now) (a .y .now) (a .z .now) (a .t .now) in
-    looped-met (a .velocities .now) (a .marks .now) (a .first) (a .from) l (a .plan) (rw kind (c .before .before .permtide .ensures, rows _ _ _ _ (c .before .before .before .before .before .before .before .before .before .before .before .before .before .before .before .before .before .before .before .before .before .pre) (search needs))) (rw kind (c .before .before .before .before .before .before .before .latitude .ensures))
+    looped-met (lentOf (a .velocities .now) (a .marks .now) (a .grid .now)) (a .first) (a .from) l (a .plan) (rw kind (c .before .before .permtide .ensures, rows _ _ _ _ (c .before .before .before .before .before .before .before .before .before .before .before .before .before .before .before .before .before .before .before .before .before .before .pre) (search needs))) (rw kind (c .before .before .before .before .before .before .before .latitude .ensures))
 
 enum-known-plan-4 : tie.Need-enum-known-plan-4
 enum-known-plan-4 c = search needs
 
-deformation-requires : tie.Need-deformation-requires
-deformation-requires c κs = search needs
+deform-requires : tie.Need-deform-requires
+deform-requires c κs = search needs
 
 same-length-13 : tie.Need-same-length-13
 same-length-13 c = search needs
@@ -109,10 +110,10 @@ same-length-16 c = search needs
 
 returns-4 : tie.Need-returns-4
 returns-4 c =
-    let a = c .before .before .before .before .before .before .before .before .before .before .before .before .before .before .before .before .before .before .before .before .before .before .args in
+    let a = c .before .before .before .before .before .before .before .before .before .before .before .before .before .before .before .before .before .before .before .before .before .before .before .args in
     let kind = c .before .before .before .before .before .before .before .before .before .before .before .before .before .before .plan4 .given .1 in
     let l = flatOf (a .x .now) (a .y .now) (a .z .now) (a .t .now) in
-    looped-met (a .velocities .now) (a .marks .now) (a .first) (a .from) l (a .plan) (rw kind (c .before .before .before .before .before .before .before .before .deformation .ensures .0, c .before .before .before .before .before .before .before .before .deformation .ensures .1)) (rw kind (c .before .before .before .before .before .before .before .before .deformation .ensures .2))
+    looped-met (lentOf (a .velocities .now) (a .marks .now) (a .grid .now)) (a .first) (a .from) l (a .plan) (rw kind (c .before .before .before .before .before .before .before .before .deform .ensures .0, c .before .before .before .before .before .before .before .before .deform .ensures .1)) (rw kind (c .before .before .before .before .before .before .before .before .deform .ensures .2))
 
 enum-known-plan-5 : tie.Need-enum-known-plan-5
 enum-known-plan-5 c = search needs
@@ -137,10 +138,10 @@ same-length-20 c = search needs
 
 returns-5 : tie.Need-returns-5
 returns-5 c =
-    let a = c .before .before .before .before .before .before .before .before .before .before .before .before .before .before .before .before .before .before .before .before .before .before .before .before .before .args in
+    let a = c .before .before .before .before .before .before .before .before .before .before .before .before .before .before .before .before .before .before .before .before .before .before .before .before .before .before .args in
     let kind = c .before .before .before .before .before .before .before .before .before .before .before .before .before .before .before .before .before .plan5 .given .1 in
     let l = flatOf (a .x .now) (a .y .now) (a .z .now) (a .t .now) in
-    looped-met (a .velocities .now) (a .marks .now) (a .first) (a .from) l (a .plan) (rw kind (c .before .before .before .before .before .before .molodensky .ensures, rows _ _ _ _ (c .before .before .before .before .before .before .before .before .before .before .before .before .before .before .before .before .before .before .before .before .before .before .before .before .before .pre) (search (needs, c .before .before .before .before .before .x4 .given)))) (rw kind (c .before .before .before .before .before .before .before .before .before .before .before .offsets .ensures))
+    looped-met (lentOf (a .velocities .now) (a .marks .now) (a .grid .now)) (a .first) (a .from) l (a .plan) (rw kind (c .before .before .before .before .before .before .molodensky .ensures, rows _ _ _ _ (c .before .before .before .before .before .before .before .before .before .before .before .before .before .before .before .before .before .before .before .before .before .before .before .before .before .before .pre) (search (needs, c .before .before .before .before .before .x4 .given)))) (rw kind (c .before .before .before .before .before .before .before .before .before .before .before .offsets .ensures))
 
 enum-known-plan-6 : tie.Need-enum-known-plan-6
 enum-known-plan-6 c = search needs
@@ -165,10 +166,10 @@ same-length-24 c = search needs
 
 returns-6 : tie.Need-returns-6
 returns-6 c =
-    let a = c .before .before .before .before .before .before .before .before .before .before .before .before .before .before .before .before .before .before .before .before .before .before .before .before .before .before .args in
+    let a = c .before .before .before .before .before .before .before .before .before .before .before .before .before .before .before .before .before .before .before .before .before .before .before .before .before .before .before .args in
     let kind = c .before .before .before .before .before .before .before .before .before .before .before .before .before .before .before .before .before .before .plan6 .given .1 in
     let l = flatOf (a .x .now) (a .y .now) (a .z .now) (a .t .now) in
-    handed-on-met (a .velocities .now) (a .marks .now) (a .first) (a .from) l (a .plan) (rw kind (c .before .before .before .before .before .before .before .run-helmert .ensures)) (rw kind (c .before .before .before .before .before .before .before .before .before .before .before .before .helmert .ensures))
+    handed-on-met (lentOf (a .velocities .now) (a .marks .now) (a .grid .now)) (a .first) (a .from) l (a .plan) (rw kind (c .before .before .before .before .before .before .before .run-helmert .ensures)) (rw kind (c .before .before .before .before .before .before .before .before .before .before .before .before .helmert .ensures))
 
 pub run-level-spec : {M : Type 1} → statement M
 run-level-spec =
@@ -198,7 +199,7 @@ run-level-spec =
     same-length-12
     returns-3
     enum-known-plan-4
-    deformation-requires
+    deform-requires
     same-length-13
     same-length-14
     same-length-15

@@ -9,16 +9,17 @@ use Rattle.columns.specs.Passed.{Passed}
 use Rattle.columns.proofs.Passed.{passed-none, passed-on}
 use Rattle.plans.specs.Plans.{planTurnsOf, planReachOf, planPassOf}
 use Rattle.step_windows.proofs.Parts.{room-rows, room-back, fits-list, last-left, part-taken, part-length, part-put, passed-window, passed-met, part-few, passed-list, passed-count}
+use Rattle.plans.specs.Lent.{lentOf}
 use borrow.Author.Needs.{needs}
 use Rattle.step_windows.proofs.over.Statement.{statement}
 use Rattle.step_windows.proofs.over.Tie as tie
 
 abbrev Inv-loop : tie.InvT-loop
-Inv-loop plan list₀ velocities marks x₀ y₀ z₀ t₀ rows state₀ count₀ met₀ i₀ list x y z t state count met i =
-    (i ≤ rows) × (128 ≡ length x) × (128 ≡ length y) × (128 ≡ length z) × (128 ≡ length t) × (length list ≡ length list₀) × Passed (planTurnsOf velocities marks plan) 0 state₀ list₀ i state list count × (rows < 4611686018427387904) × Passed (planReachOf velocities marks plan) 0 state₀ list₀ i state list met
+Inv-loop plan list₀ velocities marks grid x₀ y₀ z₀ t₀ rows state₀ count₀ met₀ i₀ list x y z t state count met i =
+    (i ≤ rows) × (128 ≡ length x) × (128 ≡ length y) × (128 ≡ length z) × (128 ≡ length t) × (length list ≡ length list₀) × Passed (planTurnsOf (lentOf velocities marks grid) plan) 0 state₀ list₀ i state list count × (rows < 4611686018427387904) × Passed (planReachOf (lentOf velocities marks grid) plan) 0 state₀ list₀ i state list met
 
 abbrev μ-loop : tie.MeasureT-loop
-μ-loop plan list₀ velocities marks x₀ y₀ z₀ t₀ rows state₀ count₀ met₀ i₀ list x y z t state count met i = rows - i
+μ-loop plan list₀ velocities marks grid x₀ y₀ z₀ t₀ rows state₀ count₀ met₀ i₀ list x y z t state count met i = rows - i
 
 room-requires : tie.Need-room-requires Inv-loop μ-loop
 room-requires c κs = search needs
@@ -135,7 +136,7 @@ loop-again c =
     let e = c .before .before .before .before .before .before .before .before .before .window .ensures in
     let more = c .before .before .before .before .before .before .before .before .before .before .before .before .before .before .before .before .loop-test .taken in
     let fits = fits-list (l .i) m (l .inv .0) (l .inv .5) (r .0) more in
-    let a = c .before .before .before .before .before .before .before .before .before .before .before .before .before .before .before .before .before .before .before .before .before .before .before .before .before .before .args in
+    let a = c .before .before .before .before .before .before .before .before .before .before .before .before .before .before .before .before .before .before .before .before .before .before .before .before .before .before .before .args in
     let k = part-taken (l .list) (l .i) m in
     let w = c .before .before .before .before .before .before .before .before .before .window .last in (
       omega (arith, l .inv .0, r .0, more),
@@ -146,7 +147,7 @@ loop-again c =
       search (needs, l .inv .5, c .before .before .before .before .before .before .before .before .list .given),
       passed-on (l .inv .6) (passed-window m fits (part-put (l .list) (l .i) m _) (rw k at (e .0)) (rw k at (e .1)) (rw k at (e .2))),
       l .inv .7,
-      passed-on (l .inv .8) (passed-met (planPassOf (a .velocities .now) (a .marks .now) (a .plan)) m fits (part-put (l .list) (l .i) m _) (rw k at (e .0)) (rw k at (e .1)) (rw k at (e .3))),
+      passed-on (l .inv .8) (passed-met (planPassOf (lentOf (a .velocities .now) (a .marks .now) (a .grid .now)) (a .plan)) m fits (part-put (l .list) (l .i) m _) (rw k at (e .0)) (rw k at (e .1)) (rw k at (e .3))),
     )
 
 same-length : tie.Need-same-length Inv-loop μ-loop

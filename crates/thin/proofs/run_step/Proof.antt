@@ -67,6 +67,7 @@ use Rattle.tally.specs.declared.Tally.{Tally}
 use Rattle.tally.proofs.Tally as Ta
 use Rattle.tally.proofs.Tally.Laws as Ta′
 use Rattle.plans.specs.Passes.{Pass}
+use Rattle.plans.specs.Lent.{lentOf}
 use Rattle.chain.specs.Chain.{turnsOf, passOf, stateOf}
 use Rattle.thin.specs.declared.Plan.{Plan}
 use Rattle.thin.specs.declared.Carried.{Carried}
@@ -365,7 +366,7 @@ module _ {M : Type 1} (𝓤 : URA M) (H : Heap 𝓤) (A : Atoms 𝓤) (W : Given
   Post = walkOf 𝓤 H A f.ended stayed (f.clauses 𝓤 H A mem run) .post (((κ, (κ₁, (κ₂, tt))), (q, (q₁, (q₂, tt))), tt, a, vals), tt)
 
   abbrev Ran : List Tuple → Tally → Type 0
-  Ran zs tally = (zs ≡ tuplesOf (turnsOf inverse (velocities .now) (marks .now) step) 0 (stateOf step) ys) × (tally ≡ tuplesTallyOf (passOf inverse (velocities .now) (marks .now) step) 0 (stateOf step) ys)
+  Ran zs tally = (zs ≡ tuplesOf (turnsOf inverse (lentOf (velocities .now) (marks .now) []) step) 0 (stateOf step) ys) × (tally ≡ tuplesTallyOf (passOf inverse (lentOf (velocities .now) (marks .now) []) step) 0 (stateOf step) ys)
 
   exits : (zs : List Tuple) (tally : Tally) → length zs ≡ n → Is Ta.the-row tally (tally-val tally ∷ []) → Ran zs tally
       → ent 𝓤 (⋆ 𝓤 H A (‵ (fobs γ (codedHoleys T.the-row .code (heres T.the-row zs))) ∷ ‵ (fbor κ (Held T.the-row (length zs) b o γ)) ∷ ‵ (flft κ q) ∷ lent ∷ [])) (Post (tally-val tally))

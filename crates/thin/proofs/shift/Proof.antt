@@ -62,6 +62,7 @@ use Rattle.sheet.proofs.Refusal.Laws as Rf′
 use Rattle.tally.specs.declared.Tally.{Tally}
 use Rattle.tally.proofs.Tally as Ta
 use Rattle.tally.proofs.Tally.Laws as Ta′
+use Rattle.plans.specs.Lent.{lentOf}
 use Rattle.chain.specs.declared.Answer.{Answer}
 use Rattle.chain.specs.Chain.{turnsOf, passOf, stateOf}
 use Rattle.chain.specs.Rules.{refusedAnswer, outcome, shiftOf}
@@ -415,7 +416,7 @@ module _ {M : Type 1} (𝓤 : URA M) (H : Heap 𝓤) (A : Atoms 𝓤) (W : Given
         move ! (5 ∷ 4 ∷ []) $ join ! $ move ! (0 ∷ 5 ∷ 3 ∷ 1 ∷ []) $ group ! 4 $ use1 W (raw (RunStep 𝓤 H A mem run .pre to-run)) (passes-run is) $ frame ! $ move ! (1 ∷ 0 ∷ []) $ done !
 
     abbrev Ran : List Tuple → Tally → Type 0
-    Ran zs′ tally = (zs′ ≡ tuplesOf (turnsOf (d .inverse) (velocities .now) (marks .now) (d .step)) 0 (stateOf (d .step)) zs) × (tally ≡ tuplesTallyOf (passOf (d .inverse) (velocities .now) (marks .now) (d .step)) 0 (stateOf (d .step)) zs)
+    Ran zs′ tally = (zs′ ≡ tuplesOf (turnsOf (d .inverse) (lentOf (velocities .now) (marks .now) []) (d .step)) 0 (stateOf (d .step)) zs) × (tally ≡ tuplesTallyOf (passOf (d .inverse) (lentOf (velocities .now) (marks .now) []) (d .step)) 0 (stateOf (d .step)) zs)
 
     abbrev Run-ensured : Tally → SProp 𝓤
     Run-ensured r = ensured 𝓤 H A run-step.ended (run-step.clauses 𝓤 H A mem run) (ν ∷ [], (κ₂, (κ₃, tt))) (lent, (d .inverse, (d .step, (velocities, (marks, tt))))) tt r

@@ -9,19 +9,20 @@ use lib.ListN.{length}
 use Rattle.columns.specs.Columns.{Level, flatOf}
 use Rattle.windows.specs.Steps.{passIn}
 use Rattle.windows.proofs.Steps.{Backward, absentStanding, backward-start, backward-few, backward-again, backward-end}
+use Rattle.plans.specs.Lent.{lentOf}
 use borrow.Author.Needs.{needs}
 use Rattle.windows.proofs.backward.Statement.{statement}
 use Rattle.windows.proofs.backward.Tie as tie
 
 abbrev Inv-loop : tie.InvT-loop
-Inv-loop n first x₀ y₀ z₀ t₀ velocities marks plans standings₀ i₀ x y z t standings i =
-    Level x y z t × (length x ≡ length x₀) × Backward (passIn velocities marks plans) n first standings₀ (flatOf x₀ y₀ z₀ t₀) i standings (flatOf x y z t)
+Inv-loop n first x₀ y₀ z₀ t₀ velocities marks grid plans standings₀ i₀ x y z t standings i =
+    Level x y z t × (length x ≡ length x₀) × Backward (passIn (lentOf velocities marks grid) plans) n first standings₀ (flatOf x₀ y₀ z₀ t₀) i standings (flatOf x y z t)
 
 abbrev μ-loop : tie.MeasureT-loop
-μ-loop n first x₀ y₀ z₀ t₀ velocities marks plans standings₀ i₀ x y z t standings i = i
+μ-loop n first x₀ y₀ z₀ t₀ velocities marks grid plans standings₀ i₀ x y z t standings i = i
 
 loop-holds : tie.Need-loop-holds Inv-loop μ-loop
-loop-holds c = let p = c .before .before .before .before .before .before .pre in (p .1, refl, backward-start _ _ _ _ _ (search needs))
+loop-holds c = let p = c .before .before .before .before .before .before .before .pre in (p .1, refl, backward-start _ _ _ _ _ (search needs))
 
 sub-i : tie.Need-sub-i Inv-loop μ-loop
 sub-i c = search needs
@@ -41,7 +42,7 @@ array-copy-out-standing c = search needs
 moved-on-requires : tie.Need-moved-on-requires Inv-loop μ-loop
 moved-on-requires c κs =
     let l = c .before .before .before .before .before .before .before .loop in
-    let p = c .before .before .before .before .before .before .before .before .before .before .before .before .before .before .pre in
+    let p = c .before .before .before .before .before .before .before .before .before .before .before .before .before .before .before .pre in
     (l .inv .0, omega (arith, l .inv .1, p .2), backward-few (p .0) absentStanding (l .i - 1) (omega (arith, c .before .before .before .before .before .before .loop-test .taken)) (p .3) (l .inv .2))
 
 mul-standings : tie.Need-mul-standings Inv-loop μ-loop
@@ -56,7 +57,7 @@ loop-less c = omega (arith, c .before .before .before .before .before .before .b
 loop-again : tie.Need-loop-again Inv-loop μ-loop
 loop-again c =
     let l = c .before .before .before .before .before .before .before .before .before .before .before .before .before .before .before .before .loop in
-    let p = c .before .before .before .before .before .before .before .before .before .before .before .before .before .before .before .before .before .before .before .before .before .before .before .pre in
+    let p = c .before .before .before .before .before .before .before .before .before .before .before .before .before .before .before .before .before .before .before .before .before .before .before .before .pre in
     let e = c .before .before .before .before .before .before .before .before .moved-on .ensures in
     ((search needs, search needs, search needs), search needs, backward-again (p .0) absentStanding (l .i - 1) (omega (arith, c .before .before .before .before .before .before .before .before .before .before .before .before .before .before .before .loop-test .taken)) refl (e .0) (e .1) (l .inv .2))
 
@@ -73,7 +74,7 @@ same-length-4 : tie.Need-same-length-4 Inv-loop μ-loop
 same-length-4 c = search needs
 
 returns : tie.Need-returns Inv-loop μ-loop
-returns c = backward-end (c .before .before .before .before .before .before .before .before .pre .0) (search needs) (c .before .loop .inv .2)
+returns c = backward-end (c .before .before .before .before .before .before .before .before .before .pre .0) (search needs) (c .before .loop .inv .2)
 
 pub backward-spec : {M : Type 1} → statement M
 backward-spec =

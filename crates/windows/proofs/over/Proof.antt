@@ -9,16 +9,17 @@ use Rattle.plans.proofs.Arrays.{at-most-sixteen}
 use Rattle.step_windows.proofs.Parts.{room-rows, room-back, fits-list, last-left, part-taken, part-length, part-put}
 use Rattle.windows.specs.Steps.{passIn, passesFrom, talliesOf, goneOver}
 use Rattle.windows.proofs.Steps.{Going, going-start, going-again, going-end, starts-few, passes-few}
+use Rattle.plans.specs.Lent.{lentOf}
 use borrow.Author.Needs.{needs}
 use Rattle.windows.proofs.over.Statement.{statement}
 use Rattle.windows.proofs.over.Tie as tie
 
 abbrev Inv-loop : tie.InvT-loop
-Inv-loop inverse plans n list₀ velocities marks x₀ y₀ z₀ t₀ steps rows standings₀ i₀ list x y z t standings i =
-    (i ≤ rows) × (128 ≡ length x) × (128 ≡ length y) × (128 ≡ length z) × (128 ≡ length t) × (steps ≤ 16) × Going inverse (passesFrom (passIn velocities marks plans) steps 0) standings₀ list₀ i standings list × (rows < 4611686018427387904)
+Inv-loop inverse plans n list₀ velocities marks grid x₀ y₀ z₀ t₀ steps rows standings₀ i₀ list x y z t standings i =
+    (i ≤ rows) × (128 ≡ length x) × (128 ≡ length y) × (128 ≡ length z) × (128 ≡ length t) × (steps ≤ 16) × Going inverse (passesFrom (passIn (lentOf velocities marks grid) plans) steps 0) standings₀ list₀ i standings list × (rows < 4611686018427387904)
 
 abbrev μ-loop : tie.MeasureT-loop
-μ-loop inverse plans n list₀ velocities marks x₀ y₀ z₀ t₀ steps rows standings₀ i₀ list x y z t standings i = rows - i
+μ-loop inverse plans n list₀ velocities marks grid x₀ y₀ z₀ t₀ steps rows standings₀ i₀ list x y z t standings i = rows - i
 
 room-requires : tie.Need-room-requires Inv-loop μ-loop
 room-requires c κs = search needs

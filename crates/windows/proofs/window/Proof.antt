@@ -10,7 +10,7 @@ to-columns-requires c κs = search needs
 
 all-steps-requires : tie.Need-all-steps-requires
 all-steps-requires c κs =
-    let p = c .before .before .before .before .before .before .before .before .before .before .before .before .before .before .before .before .before .before .before .before .before .before .before .before .before .pre in
+    let p = c .before .before .before .before .before .before .before .before .before .before .before .before .before .before .before .before .before .before .before .before .before .before .before .before .before .before .pre in
     (p .0, (search (needs, c .before .before .before .before .before .before .before .before .before .before .before .x .given, c .before .before .before .before .before .before .before .before .before .y .given, p .1 .0), search (needs, c .before .before .before .before .before .before .before .before .before .before .before .x .given, c .before .before .before .before .before .before .before .z .given, p .1 .1), search (needs, c .before .before .before .before .before .before .before .before .before .before .before .x .given, c .before .before .before .before .before .t .given, p .1 .2)), search (needs, c .before .before .before .before .before .before .before .before .before .before .before .x .given, p .3), p .4)
 
 to-flat-requires : tie.Need-to-flat-requires
@@ -33,7 +33,7 @@ same-length-5 c = search needs
 
 returns : tie.Need-returns
 returns c =
-    let p = c .before .before .before .before .before .before .before .before .before .before .before .before .before .before .before .before .before .before .before .before .before .before .before .before .before .before .before .before .before .before .before .before .before .before .before .before .before .before .before .before .before .before .pre in
+    let p = c .before .before .before .before .before .before .before .before .before .before .before .before .before .before .before .before .before .before .before .before .before .before .before .before .before .before .before .before .before .before .before .before .before .before .before .before .before .before .before .before .before .before .before .pre in
     let there = to-rows _ _ _ _ _ (c .before .before .before .before .before .before .before .before .before .before .before .before .before .before .before .before .before .before .before .before .before .before .before .before .before .before .before .before .before .to-columns .ensures) (p .1) (p .2) in
     let e = c .before .before .before .before .before .before .before .before .before .before .before .before .before .before .before .before .all-steps .ensures in
     let back = from-rows _ _ _ _ _ (c .before .before .to-flat .ensures) (

@@ -1,0 +1,56 @@
+-- What the lookup finds where a chain's deformation step is reached, as velocities and marks could
+-- be lent for it. The law `grid-run-is-lent-run-of-a-chain` speaks of these; no code makes them.
+use Prim.Native.Nat.{ℕ}
+use mathlib.Core.Bool.{Bool, true, false, not, cond, _||_}
+use mathlib.Core.List.{List, [], _∷_}
+use lib.Ieee.{Float}
+use Rattle.deformation.specs.Step.{motionOf}
+use Rattle.bodies.specs.declared.Step.{Step}
+use Rattle.bodies.specs.declared.Step.the-variants.{Cart, Permtide, Deformation, Molodensky, Helmert}
+use Rattle.sheet.specs.declared.Entry.{Entry}
+use Rattle.deformation_grid.specs.Found.{velocitiesFound, marksFound}
+use Rattle.plans.specs.Lent.{Lent, lentOf}
+use Rattle.chain.specs.Chain.{stepListOf, chainInverseOf}
+
+-- nothing is lent
+abbrev pub nothingLent : Lent
+nothingLent = lentOf [] [] []
+
+unfoldable pub isDeformation : Step → Bool
+isDeformation (Cart r) = false
+isDeformation (Permtide r) = false
+isDeformation (Deformation r) = true
+isDeformation (Molodensky r) = false
+isDeformation (Helmert h) = false
+
+-- for a step over a list, where the list reaches it
+abbrev pub foundAt : List ℕ → Step → List Float → Lent
+foundAt grid (Cart r) l = nothingLent
+foundAt grid (Permtide r) l = nothingLent
+foundAt grid (Deformation r) l = lentOf (velocitiesFound (motionOf r .ellps) grid l) (marksFound (motionOf r .ellps) grid l) []
+foundAt grid (Molodensky r) l = nothingLent
+foundAt grid (Helmert h) l = nothingLent
+
+-- one of these steps deforms, and at most one does (rule 11)
+unfoldable pub someDeforms : List Entry → Bool
+someDeforms [] = false
+someDeforms (e ∷ es) = isDeformation (e .step) || someDeforms es
+
+unfoldable pub atMostOneDeforms : List Entry → Bool
+atMostOneDeforms [] = true
+atMostOneDeforms (e ∷ es) = cond (isDeformation (e .step)) (not (someDeforms es)) (atMostOneDeforms es)
+
+-- forward: what the steps before the deformation step have made of the list reaches it
+unfoldable pub foundForward : List ℕ → List Entry → List Float → Lent
+foundForward grid [] l = nothingLent
+foundForward grid (e ∷ es) l =
+    cond (isDeformation (e .step)) (foundAt grid (e .step) l) (foundForward grid es (stepListOf false nothingLent e l))
+
+-- inverse: what the steps after it have made
+unfoldable pub foundInverse : List ℕ → List Entry → List Float → Lent
+foundInverse grid [] l = nothingLent
+foundInverse grid (e ∷ es) l =
+    cond (isDeformation (e .step)) (foundAt grid (e .step) (chainInverseOf nothingLent es l .list)) (foundInverse grid es l)
+
+abbrev pub foundOver : Bool → List ℕ → List Entry → List Float → Lent
+foundOver inverse grid es l = cond inverse (foundInverse grid es l) (foundForward grid es l)

@@ -1,0 +1,2 @@
+-- What the contracts of `grid` cite.
+pub mod Lookup

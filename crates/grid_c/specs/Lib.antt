@@ -1,0 +1,2 @@
+-- What the contracts of `grid_c` cite.
+pub mod Steps

@@ -1,0 +1,2 @@
+-- What the proofs of `grid_entries` share.
+pub mod Fit

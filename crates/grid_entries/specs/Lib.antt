@@ -1,0 +1,2 @@
+-- What the contracts of `grid_entries` cite.
+pub mod Codes
