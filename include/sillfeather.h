@@ -380,7 +380,7 @@ uint32_t sillfeather_add_badekas(uint8_t *room, size_t room_len, uint64_t *sheet
  *             *changed, how many such triples those are. `changes_len` counts uint32_t. A room of
  *             SILLFEATHER_SHEET_MAX bytes and SILLFEATHER_CHANGES_MAX words are never too short.
  *   Refuses   19, where it cannot be rebuilt: fewer than 16 bytes; a step count of 0 or over 16; a
- *             directory past the end; a kind outside 1 to 5 or an inverted word over 1; or bodies
+ *             directory past the end; a kind outside 1 to 6 or an inverted word over 1; or bodies
  *             that do not fill the remaining bytes exactly. Then 15, the room shorter than the sheet
  *             or the changes than three words a change. Then as sillfeather_check of the rebuilt
  *             sheet, of which only 5 to 8 and 11 are left, each with its step.

@@ -1,5 +1,5 @@
 // The kept run over columns: a list, its results and its track, four columns each, shifted under a
-// sheet of one Helmert step; and the correction of one fix.
+// sheet of one Helmert or ten-parameter step; and the correction of one fix.
 //
 // Document 01, "Kept run", over the columns of document 02, A7; the Rust has none. `keep` and
 // `correct` are `kept`'s over columns: the same rules in the same order, where rule 9 is broken too
