@@ -220,29 +220,31 @@ module _ (velocities : List Float) (marks grid : List ℕ) (some : eqb (length g
   found-forward : (es : List Entry) (l : List Float) → atMostOneDeforms es ≡ true → chainForwardOf lent es l ≡ chainForwardOf (foundForward grid es l) es l
   unfolding chainForwardOf
   found-forward [] l h = refl
-  found-forward (e ∷ es) l h = by-test (isDeformation (e .step)) refl
+  found-forward (e ∷ es) l h = by-test (λ (k : List Float). λ (o : atMostOneDeforms es ≡ true). found-forward es k o) (isDeformation (e .step)) refl
     where
-      by-test : (b : Bool) → isDeformation (e .step) ≡ b → chainForwardOf lent (e ∷ es) l ≡ chainForwardOf (foundForward grid (e ∷ es) l) (e ∷ es) l
-      by-test true d =
+      by-test : ((k : List Float) → atMostOneDeforms es ≡ true → chainForwardOf lent es k ≡ chainForwardOf (foundForward grid es k) es k) → (b : Bool) → isDeformation (e .step) ≡ b
+          → chainForwardOf lent (e ∷ es) l ≡ chainForwardOf (foundForward grid (e ∷ es) l) (e ∷ es) l
+      by-test later true d =
           let found = foundAt grid (e .step) l in
           both-forward lent found e es l (found-tally velocities marks grid some false e l d)
           (same-forward lent found es (stepListOf false lent e l) (one-here e es d h) ∙ ap (chainForwardOf found es) (found-list velocities marks grid some false e l d))
           ∙ ap (λ (x : Lent). chainForwardOf x (e ∷ es) l) (sym (forward-here e es grid l d))
-      by-test false d =
+      by-test later false d =
           let before = stepListOf false nothingLent e l in
           let found = foundForward grid es before in
           let here = same-list lent nothingLent false e l d in
           both-forward lent found e es l (same-tally lent found false e l d)
-          (ap (chainForwardOf lent es) here ∙ found-forward es before (one-later e es d h) ∙ ap (chainForwardOf found es) (same-list nothingLent found false e l d))
+          (ap (chainForwardOf lent es) here ∙ later before (one-later e es d h) ∙ ap (chainForwardOf found es) (same-list nothingLent found false e l d))
           ∙ ap (λ (x : Lent). chainForwardOf x (e ∷ es) l) (sym (forward-later e es grid l d))
 
   found-inverse : (es : List Entry) (l : List Float) → atMostOneDeforms es ≡ true → chainInverseOf lent es l ≡ chainInverseOf (foundInverse grid es l) es l
   unfolding chainInverseOf
   found-inverse [] l h = refl
-  found-inverse (e ∷ es) l h = by-test (isDeformation (e .step)) refl
+  found-inverse (e ∷ es) l h = by-test (λ (o : atMostOneDeforms es ≡ true). found-inverse es l o) (isDeformation (e .step)) refl
     where
-      by-test : (b : Bool) → isDeformation (e .step) ≡ b → chainInverseOf lent (e ∷ es) l ≡ chainInverseOf (foundInverse grid (e ∷ es) l) (e ∷ es) l
-      by-test true d =
+      by-test : (atMostOneDeforms es ≡ true → chainInverseOf lent es l ≡ chainInverseOf (foundInverse grid es l) es l) → (b : Bool) → isDeformation (e .step) ≡ b
+          → chainInverseOf lent (e ∷ es) l ≡ chainInverseOf (foundInverse grid (e ∷ es) l) (e ∷ es) l
+      by-test later true d =
           let run = chainInverseOf lent es l in
           let there = foundAt grid (e .step) (run .list) in
           let none = one-here e es d h in
@@ -250,10 +252,10 @@ module _ (velocities : List Float) (marks grid : List ℕ) (some : eqb (length g
           both-inverse lent there e es l (same-inverse lent there es l none)
           (found-tally velocities marks grid some true e (run .list) d) (found-list velocities marks grid some true e (run .list) d)
           ∙ ap (λ (x : Lent). chainInverseOf x (e ∷ es) l) (same ∙ sym (inverse-here e es grid l d))
-      by-test false d =
+      by-test later false d =
           let run = chainInverseOf lent es l in
           let found = foundInverse grid es l in
-          both-inverse lent found e es l (found-inverse es l (one-later e es d h)) (same-tally lent found true e (run .list) d) (same-list lent found true e (run .list) d)
+          both-inverse lent found e es l (later (one-later e es d h)) (same-tally lent found true e (run .list) d) (same-list lent found true e (run .list) d)
           ∙ ap (λ (x : Lent). chainInverseOf x (e ∷ es) l) (sym (inverse-later e es grid l d))
 
   -- in either direction

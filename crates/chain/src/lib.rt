@@ -215,7 +215,14 @@ fn short(
 }
 
 // A sheet of one step over a long list: its plan alone is made.
-fn alone(inverse: bool, s: &[u8], list: &mut [f64], velocities: &[f64], marks: &[u8], grid: &[u8]) -> [Tally; 16]
+fn alone(
+    inverse: bool,
+    s: &[u8],
+    list: &mut [f64],
+    velocities: &[f64],
+    marks: &[u8],
+    grid: &[u8],
+) -> [Tally; 16]
     requires { ⌜ 0 < stepCountOf (now s) ⌝ }
     ensures { λ r. ⌜ (now (list .exit) ≡ chainOf inverse (lentOf (now (velocities .entry)) (now (marks .entry)) (now (grid .entry))) (entriesOf (entryAt (now (s .entry))) 1 0) (now (list .entry)) .list)
         × (r ≡ placesOf (chainOf inverse (lentOf (now (velocities .entry)) (now (marks .entry)) (now (grid .entry))) (entriesOf (entryAt (now (s .entry))) 1 0) (now (list .entry)) .tallies)) ⌝ }

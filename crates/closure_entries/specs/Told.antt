@@ -8,6 +8,7 @@ use lib.Ieee.{Float}
 use Rattle.codes.specs.Codes.{codeOf}
 use Rattle.closure_report.specs.Report.{numbersOf, reportOf}
 use Rattle.closure_run.specs.Closure.{Outcome, closureOf}
+use Rattle.closure_run.specs.Grid.{closureGridOf}
 
 pub record ClosureTold : Type 0 where
   pub code : ℕ
@@ -26,3 +27,8 @@ closureToldOf before o =
 abbrev pub closureInC : List ℕ → ℕ → List ℕ → List Float → List Float → List Float → List ℕ → ClosureTold
 closureInC report profile s list room velocities marks =
     closureToldOf report (closureOf (reportOf report) profile s list room velocities marks)
+
+-- with a velocity grid
+abbrev pub closureGridInC : List ℕ → ℕ → List ℕ → List Float → List Float → List Float → List ℕ → List ℕ → ClosureTold
+closureGridInC report profile s list room velocities marks grid =
+    closureToldOf report (closureGridOf (reportOf report) profile s list room velocities marks grid)

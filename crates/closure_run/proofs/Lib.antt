@@ -1,3 +1,4 @@
 -- What the proofs of this crate share, and the laws that callers cite.
 pub mod Answers
+pub mod GridAnswers
 pub mod Laws

@@ -3,8 +3,9 @@
 // `sillfeather_check_grid` tells whether a grid's bytes are in rule: 0, or 17 or 18. It carries no
 // step. `sillfeather_shift_grid` shifts a list by a sheet and a grid: a result of 0 is done;
 // otherwise it is the refusal's number plus 65536 times the step, and nothing was written but zeros
-// where numbers are asked for. include/sillfeather.h says to C what the contracts say here. Nothing
-// is computed here.
+// where numbers are asked for. include/sillfeather.h says to C what the contracts say here; its
+// `out_of_reach` is called `met`, because a name with an underscore reads badly in a contract.
+// Nothing is computed here.
 ghost use mathlib.Core.Path.{_≡_};
 ghost use Rattle.grid_rules.specs.Rules.{checkGridOf};
 ghost use Rattle.chain.specs.Grid.{shiftGridOf};
@@ -20,7 +21,7 @@ pub extern "C" fn sillfeather_check_grid(grid: &[u8]) -> u32
 }
 
 // A sheet over a list with a velocity grid, in place: forward where inverse is 0, else inverse.
-// `counts` and `out_of_reach` get each step's numbers in the sheet's order, 0 in the other places.
+// `counts` and `met` get each step's numbers in the sheet's order, 0 in the other places.
 #[no_mangle]
 pub extern "C" fn sillfeather_shift_grid(
     inverse: u32,
@@ -30,15 +31,15 @@ pub extern "C" fn sillfeather_shift_grid(
     marks: &[u8],
     grid: &[u8],
     counts: &mut [u32; 16],
-    out_of_reach: &mut [u32; 16],
+    met: &mut [u32; 16],
 ) -> u32
-    ensures { λ r. ⌜ gridTold r (now (counts .exit)) (now (out_of_reach .exit)) (now (list .exit))
+    ensures { λ r. ⌜ gridTold r (now (counts .exit)) (now (met .exit)) (now (list .exit))
         ≡ gridToldOf (shiftGridOf (isInverse inverse) (now (s .entry)) (now (list .entry)) (now (velocities .entry)) (now (marks .entry)) (now (grid .entry))) ⌝ }
 {
     let answer = chain::shift_grid(inverse != 0, s, list, velocities, marks, grid);
     let refusal = answer.refusal;
     let tallies = answer.tallies;
     *counts = codes::narrow(tally::counts(tallies));
-    *out_of_reach = codes::narrow(tally::mets(tallies));
+    *met = codes::narrow(tally::mets(tallies));
     codes::code(refusal)
 }

@@ -96,7 +96,18 @@ fn moved_on(
         ≡ ranOf (planTurnsOf (lentOf (now (velocities .entry)) (now (marks .entry)) (now (grid .entry))) plan) first (standing .state) (flatOf (now (x .entry)) (now (y .entry)) (now (z .entry)) (now (t .entry))))
         × (r ≡ movedOn (planPassOf (lentOf (now (velocities .entry)) (now (marks .entry)) (now (grid .entry))) plan) first standing (flatOf (now (x .entry)) (now (y .entry)) (now (z .entry)) (now (t .entry)))) ⌝ }
 {
-    let part = plan_columns::run(plan, first, standing.state, x, y, z, t, velocities, marks, grid);
+    let part = plan_columns::run(
+        plan,
+        first,
+        standing.state,
+        x,
+        y,
+        z,
+        t,
+        velocities,
+        marks,
+        grid,
+    );
     let before = standing.tally;
     let state = part.state;
     let tally = Tally {

@@ -4,6 +4,7 @@
 use borrow.Author.Needs.{needs}
 use borrow.Author.Tests.{eq-eqb, ne-eqb}
 use mathlib.Core.Path.{refl}
+use Rattle.columns.specs.Columns.{flatOf}
 use Rattle.plans.specs.Lent.{lentOf}
 use Rattle.plan_columns.proofs.Blind.{by-what-is-lent, by-a-grid}
 use Rattle.plan_columns.proofs.deform.Statement.{statement}
@@ -27,7 +28,8 @@ same-length-4 c = search needs
 returns : tie.Need-returns
 returns c =
     let a = c .before .before .before .before .before .before .before .before .before .before .before .before .before .before .before .before .before .before .before .before .before .args in
-    by-a-grid (lentOf (a .velocities .now) (a .marks .now) (a .grid .now)) (a .first) _ (a .op) (a .inverse) (ne-eqb _ 0 (c .before .before .before .before .before .before .before .before .before .before .before .before .before .if1 .taken)) (c .before .before .before .before .before .before .before .before .deformation .ensures) refl
+    let l = flatOf (a .x .now) (a .y .now) (a .z .now) (a .t .now) in
+    by-a-grid (lentOf (a .velocities .now) (a .marks .now) (a .grid .now)) (a .first) l (a .op) (a .inverse) (ne-eqb _ 0 (c .before .before .before .before .before .before .before .before .before .before .before .before .before .if1 .taken)) (c .before .before .before .before .before .before .before .before .deformation .ensures) refl
 
 deformation-requires-2 : tie.Need-deformation-requires-2
 deformation-requires-2 c κs = search needs
@@ -47,7 +49,8 @@ same-length-8 c = search needs
 returns-2 : tie.Need-returns-2
 returns-2 c =
     let a = c .before .before .before .before .before .before .before .before .before .before .before .before .before .before .before .before .before .before .before .before .before .args in
-    by-what-is-lent (lentOf (a .velocities .now) (a .marks .now) (a .grid .now)) (a .first) _ (a .op) (a .inverse) (eq-eqb _ 0 (c .before .before .before .before .before .before .before .before .before .before .before .before .before .if1 .left)) (c .before .before .before .before .before .before .before .before .deformation2 .ensures)
+    let l = flatOf (a .x .now) (a .y .now) (a .z .now) (a .t .now) in
+    by-what-is-lent (lentOf (a .velocities .now) (a .marks .now) (a .grid .now)) (a .first) l (a .op) (a .inverse) (eq-eqb _ 0 (c .before .before .before .before .before .before .before .before .before .before .before .before .before .if1 .left)) (c .before .before .before .before .before .before .before .before .deformation2 .ensures)
 
 pub deform-spec : {M : Type 1} → statement M
 deform-spec =

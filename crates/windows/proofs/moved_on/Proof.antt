@@ -10,11 +10,11 @@ use Rattle.windows.proofs.moved_on.Tie as tie
 run-requires : tie.Need-run-requires
 run-requires c κs = search needs
 
-add-t22 : tie.Need-add-t22
-add-t22 c = let p = c .before .before .before .before .before .before .before .before .before .before .before .before .before .before .before .before .before .before .before .before .before .before .before .before .pre in search (needs, p .1, p .2 .0, rows-few _ _ _ _ _ _ _ (p .0) (c .before .before .before .before .before .before .before .before .before .before .before .before .run .ensures .2))
-
 add-t23 : tie.Need-add-t23
-add-t23 c = let p = c .before .before .before .before .before .before .before .before .before .before .before .before .before .before .before .before .before .before .before .before .before .before .before .before .before .before .pre in search (needs, p .1, p .2 .1, rows-few _ _ _ _ _ _ _ (p .0) (c .before .before .before .before .before .before .before .before .before .before .before .before .before .before .run .ensures .3))
+add-t23 c = let p = c .before .before .before .before .before .before .before .before .before .before .before .before .before .before .before .before .before .before .before .before .before .before .before .before .pre in search (needs, p .1, p .2 .0, rows-few _ _ _ _ _ _ _ (p .0) (c .before .before .before .before .before .before .before .before .before .before .before .before .run .ensures .2))
+
+add-t24 : tie.Need-add-t24
+add-t24 c = let p = c .before .before .before .before .before .before .before .before .before .before .before .before .before .before .before .before .before .before .before .before .before .before .before .before .before .before .pre in search (needs, p .1, p .2 .1, rows-few _ _ _ _ _ _ _ (p .0) (c .before .before .before .before .before .before .before .before .before .before .before .before .before .before .run .ensures .3))
 
 same-length : tie.Need-same-length
 same-length c = search needs
@@ -36,8 +36,8 @@ moved-on-spec =
     tie.close
     (tie.spec
     run-requires
-    add-t22
     add-t23
+    add-t24
     same-length
     same-length-2
     same-length-3
