@@ -902,6 +902,8 @@ static void closures(void) {
             int passes = (flags & 1) == 0 && (mode == 0 || (flags & 8) != 0);
             result_is("the chart profile by flags", sillfeather_check_profile(twice.at, twice.len, 1), passes ? 0 : 25, passes ? 0 : 2);
         }
+}
+
 /* ----- a velocity grid ------------------------------------------------------------------------------------------------------------------------------------------- */
 
 /* Two rows by three columns, 184 bytes: the counts, four numbers of the place, eighteen of the nodes. */

@@ -13,9 +13,6 @@ enum { STACK = 1 << 20, FILL = 0xa5, ROWS = SILLFEATHER_TUPLES_MAX, NUMBERS = 4 
 /* every kind; one exact Helmert step, running and in own-epoch mode; one that the chart profile lets through */
 static uint8_t all_kinds[SILLFEATHER_SHEET_MAX], helmerts[2][SILLFEATHER_SHEET_MAX], chart[SILLFEATHER_SHEET_MAX], marks[ROWS];
 static uint64_t all_kinds_len, helmerts_len[2], chart_len;
-/* every kind; one exact Helmert step, running and in own-epoch mode */
-static uint8_t all_kinds[SILLFEATHER_SHEET_MAX], helmerts[2][SILLFEATHER_SHEET_MAX], marks[ROWS];
-static uint64_t all_kinds_len, helmerts_len[2];
 static double list[NUMBERS], results[NUMBERS], track[NUMBERS], velocities[3 * ROWS];
 static double columns[3][4][ROWS];
 static struct sillfeather_helmert helmert = SILLFEATHER_HELMERT_BLANK;

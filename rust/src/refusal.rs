@@ -4,9 +4,7 @@ use core::fmt;
 /// Why nothing was done. Each refusal has its number, given exactly when its rule is broken; those of a step carry the step, counted from 1.
 ///
 /// Where several rules are broken the first of this order is given: 1, 2, 3, 4; then step by step 5 to 8; then 25 where a profile is
-/// asked for; then 11, 12, 9, 13, 10, 14, 15. A rescue gives 19, then 15, before the sheet's own. What was lent holds what it held.
-/// Where several rules are broken the first of this order is given: 1, 2, 3, 4; then step by step 5 to 8; then 11, 12, 9, 13, 10, 14, 15. A rescue gives 19,
-/// then 15, before the sheet's own; a velocity grid's own are 17, then 18. What was lent holds what it held.
+/// asked for; then 11, 12, 9, 13, 10, 17, 18, 14, 15. A rescue gives 19, then 15, before the sheet's own. What was lent holds what it held.
 ///
 /// ```
 /// use sillfeather::{Helmert, Refusal, Sheet};
@@ -82,8 +80,7 @@ pub enum Refusal {
 }
 
 impl Refusal {
-    /// The rule's number, 1 to 16, 19 or 25.
-    /// The rule's number, 1 to 19.
+    /// The rule's number, 1 to 19 or 25.
     pub fn number(self) -> u32 {
         self.code() % 65536
     }
@@ -218,8 +215,7 @@ mod tests {
 
     #[test]
     fn each_number_has_its_name() {
-        for number in (1..=16).chain([19, 25]) {
-        for number in 1..=19 {
+        for number in (1..=19).chain([25]) {
             assert!(!matches!(Refusal::from(number), Refusal::Other(_)), "{number}");
         }
         assert_eq!(Refusal::from(6 + 65536 * 3), Refusal::Convention { step: 3 });

@@ -128,8 +128,8 @@ impl Sheet {
     /// # Ok::<(), sillfeather::Refusal>(())
     /// ```
     pub fn shift_grid(&self, direction: Direction, list: &mut [[f64; 4]], grid: &Grid) -> Result<Counts, Refusal> {
-        let (counts, _) = lent::shift_grid(direction, &self.bytes, list.as_flattened_mut(), grid.as_bytes())?;
-        Ok(Counts { counts, steps: self.step_count() })
+        let [counts, out_of_reach] = lent::shift_grid(direction, &self.bytes, list.as_flattened_mut(), grid.as_bytes())?;
+        Ok(Counts { counts, out_of_reach, steps: self.step_count() })
     }
 }
 
