@@ -44,7 +44,8 @@
  *             sillfeather_keep up to 12 kB, sillfeather_correct up to 10 kB, and so does each of
  *             these by the name that ends in _reach; over columns sillfeather_shift_columns up to
  *             10 kB, the other two up to 6 kB; sillfeather_rescue up to 6 kB,
- *             sillfeather_check_profile up to 4 kB, sillfeather_closure up to 20 kB, each
+ *             sillfeather_check_profile up to 4 kB, sillfeather_closure up to 20 kB,
+ *             sillfeather_check_grid up to 4 kB, sillfeather_shift_grid up to 20 kB, each
  *             sillfeather_add_ function up to 32 kB. examples/c/stack.c holds these limits.
  */
 #ifndef SILLFEATHER_H
