@@ -144,7 +144,9 @@ impl Refusal {
             Refusal::Index => "no fix has that index",
             Refusal::Room => "the room is too short for the sheet",
             Refusal::Job => "a bad job",
-            Refusal::Grid => "the bytes are not a whole velocity grid: a count outside 2 to 64, or another length than the counts say",
+            Refusal::Grid => {
+                "the bytes are not a whole velocity grid: a count outside 2 to 64, or another length than the counts say"
+            }
             Refusal::GridNumber => "a number of the velocity grid is not finite, or a spacing not positive",
             Refusal::Rescue => "the damaged sheet cannot be rebuilt from its step count, kinds, inverted words and length",
             Refusal::Profile { .. } => "outside the profile that was asked for",
