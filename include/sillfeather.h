@@ -22,9 +22,10 @@
  * rule before it in the function's order is.
  *
  * WHAT IS PROVED. For each function, and for every input, that the result and the memory afterwards
- * are what its definition says (crates/sillfeather, crates/reach_entries, crates/closure_entries and
- * crates/grid_entries have the contracts in src/lib.rt, docs/CONFORMANCE.md the way from the documents
- * to them); that it ends; and that it touches nothing but what it is lent.
+ * are what its definition says (crates/sillfeather, crates/badekas_entries, crates/reach_entries,
+ * crates/closure_entries and crates/grid_entries have the contracts in src/lib.rt,
+ * docs/CONFORMANCE.md the way from the documents to them); that it ends; and that it touches nothing
+ * but what it is lent.
  * What is said below of what a call reads, writes, refuses and leaves alone follows from that. The
  * compiler and the machine's binary64 arithmetic are assumed.
  *
@@ -132,7 +133,8 @@ uint32_t sillfeather_shift(uint32_t inverse, const uint8_t *sheet, size_t sheet_
  *   cart forward, and Molodensky both ways: longitude or latitude; abridged also twice the latitude.
  *   permtide: latitude. deformation: longitude or latitude of the place of a fix that is present.
  *   Helmert with exact angles, where it is rotated: the angles of the matrix that the fix uses, in
- *   running mode at the last time, in own-epoch mode at its own; a fix without a time uses none.
+ *   running mode at the last time, in own-epoch mode at its own; a fix without a time uses none. A
+ *   ten-parameter step with exact angles, where it is rotated: its angles, so all tuples or none.
  *   Writes    as sillfeather_shift; and all 16 of out_of_reach, in the sheet's order.
  *   Leaves    on refusal the list as it was, and zeros in counts and out_of_reach. */
 uint32_t sillfeather_shift_reach(uint32_t inverse, const uint8_t *sheet, size_t sheet_len, double *list, size_t list_len, const double *velocities,
