@@ -22,11 +22,10 @@
  * rule before it in the function's order is.
  *
  * WHAT IS PROVED. For each function, and for every input, that the result and the memory afterwards
- * are what its definition says (crates/sillfeather, crates/reach_entries and crates/closure_entries
- * have the contracts in src/lib.rt, docs/CONFORMANCE.md the way from the documents to them); that it
- * ends; and that it touches nothing but what it is lent.
- * are what its definition says (crates/sillfeather and crates/reach_entries have the contracts in
- * src/lib.rt, docs/CONFORMANCE.md the way from the documents to them); that it ends; and that it touches nothing but what it is lent.
+ * are what its definition says (crates/sillfeather, crates/badekas_entries, crates/reach_entries,
+ * crates/closure_entries and crates/grid_entries have the contracts in src/lib.rt,
+ * docs/CONFORMANCE.md the way from the documents to them); that it ends; and that it touches nothing
+ * but what it is lent.
  * What is said below of what a call reads, writes, refuses and leaves alone follows from that. The
  * compiler and the machine's binary64 arithmetic are assumed.
  *
@@ -46,7 +45,8 @@
  *             sillfeather_keep up to 12 kB, sillfeather_correct up to 10 kB, and so does each of
  *             these by the name that ends in _reach; over columns sillfeather_shift_columns up to
  *             10 kB, the other two up to 6 kB; sillfeather_rescue up to 6 kB,
- *             sillfeather_check_profile up to 4 kB, sillfeather_closure up to 20 kB, each
+ *             sillfeather_check_profile up to 4 kB, sillfeather_closure up to 20 kB,
+ *             sillfeather_check_grid up to 4 kB, sillfeather_shift_grid up to 20 kB, each
  *             sillfeather_add_ function up to 32 kB. examples/c/stack.c holds these limits.
  */
 #ifndef SILLFEATHER_H
@@ -96,16 +96,14 @@ enum {
                                              tuples */
     SILLFEATHER_REFUSED_ROOM = 15,        /* the room is too short for the sheet, or a rescue's list
                                              for its changes, or a closure's room for its list */
-    SILLFEATHER_REFUSED_RESCUE = 19,      /* the damaged sheet cannot be rebuilt */
-    SILLFEATHER_REFUSED_PROFILE = 25      /* the step is outside the profile that was asked for, or
-                                             nobody knows that profile */
-                                             for its changes */
     SILLFEATHER_REFUSED_GRID = 17,        /* a velocity grid of fewer than 8 bytes, with a count
                                              outside 2 to 64, or of another length than its counts
                                              say */
     SILLFEATHER_REFUSED_GRID_NUMBER = 18, /* a number of a velocity grid not finite, or a spacing not
                                              positive */
-    SILLFEATHER_REFUSED_RESCUE = 19       /* the damaged sheet cannot be rebuilt */
+    SILLFEATHER_REFUSED_RESCUE = 19,      /* the damaged sheet cannot be rebuilt */
+    SILLFEATHER_REFUSED_PROFILE = 25      /* the step is outside the profile that was asked for, or
+                                             nobody knows that profile */
 };
 
 /* ----- a sheet over a list ------------------------------------------------------------------- */
@@ -135,7 +133,8 @@ uint32_t sillfeather_shift(uint32_t inverse, const uint8_t *sheet, size_t sheet_
  *   cart forward, and Molodensky both ways: longitude or latitude; abridged also twice the latitude.
  *   permtide: latitude. deformation: longitude or latitude of the place of a fix that is present.
  *   Helmert with exact angles, where it is rotated: the angles of the matrix that the fix uses, in
- *   running mode at the last time, in own-epoch mode at its own; a fix without a time uses none.
+ *   running mode at the last time, in own-epoch mode at its own; a fix without a time uses none. A
+ *   ten-parameter step with exact angles, where it is rotated: its angles, so all tuples or none.
  *   Writes    as sillfeather_shift; and all 16 of out_of_reach, in the sheet's order.
  *   Leaves    on refusal the list as it was, and zeros in counts and out_of_reach. */
 uint32_t sillfeather_shift_reach(uint32_t inverse, const uint8_t *sheet, size_t sheet_len, double *list, size_t list_len, const double *velocities,

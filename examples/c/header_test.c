@@ -915,6 +915,8 @@ static void closures(void) {
             int passes = (flags & 1) == 0 && (mode == 0 || (flags & 8) != 0);
             result_is("the chart profile by flags", sillfeather_check_profile(twice.at, twice.len, 1), passes ? 0 : 25, passes ? 0 : 2);
         }
+}
+
 /* ----- a velocity grid ------------------------------------------------------------------------------------------------------------------------------------------- */
 
 /* Two rows by three columns, 184 bytes: the counts, four numbers of the place, eighteen of the nodes. */
@@ -946,6 +948,78 @@ static void grids(void) {
     result_is("a grid in rule again", sillfeather_check_grid(grid, 184), 0, 0);
 }
 
+/* A metre a year upwards within 0.1 radian of longitude and latitude 0: 2 rows by 2 columns, 136 bytes. */
+static void grid_shifts(void) {
+    static uint8_t grid[136];
+    static struct room r;
+    const uint32_t two[2] = {2, 2};
+    const double corner[4] = {-0.1, -0.1, 0.2, 0.2}, rising[3] = {0.0, 0.0, 1000.0};
+    memcpy(grid, two, 8);
+    memcpy(grid + 8, corner, sizeof corner);
+    for (int i = 0; i < 4; i++) memcpy(grid + 40 + 24 * i, rising, sizeof rising);
+    uint32_t counts[16], met[16];
+
+    /* on the grid, beside it, and without a place */
+    const double points[12] = {6378137.0, 0.0, 0.0, 2010.0, 0.0, 6378137.0, 0.0, 2010.0, NAN, 0.0, 0.0, 2010.0};
+    double list[12];
+    fresh(&r);
+    sillfeather_add_deformation(r.at, sizeof r.at, &r.len, 0, 0, SILLFEATHER_GRS80, SILLFEATHER_NOT_GIVEN, 2000.0);
+    size_t len = (size_t)r.len;
+    memcpy(list, points, sizeof list);
+    junk(counts);
+    junk(met);
+    result_is("a list with a grid", sillfeather_shift_grid(0, r.at, len, list, 12, NULL, 0, NULL, 0, grid, 136, counts, met), 0, 0);
+    const double risen[4] = {6378147.0, 0.0, 0.0, 2010.0};
+    holds("moved by what the grid gives", same_doubles(list, risen, 4));
+    int absent = 1;
+    for (int i = 4; i < 12; i++) absent = absent && list[i] != list[i];
+    holds("absent outside, and where the place is NaN", absent);
+    holds("one is counted", counts[0] == 1 && (counts[0] = 0, all_are(counts, 0)) && all_are(met, 0));
+    result_is("and back", sillfeather_shift_grid(1, r.at, len, list, 4, NULL, 0, NULL, 0, grid, 136, counts, met), 0, 0);
+    holds("the fix as it was", same_doubles(list, points, 4));
+
+    /* the place is the one at which the step is reached: a Helmert step before it brings the fix there */
+    fresh(&r);
+    struct sillfeather_helmert h = SILLFEATHER_HELMERT_BLANK;
+    h.translation[0] = 6378137.0;
+    h.translation[1] = -6378137.0;
+    sillfeather_add_helmert(r.at, sizeof r.at, &r.len, 0, 0, 0, SILLFEATHER_NUMBERS(&h));
+    sillfeather_add_deformation(r.at, sizeof r.at, &r.len, 0, 0, SILLFEATHER_GRS80, SILLFEATHER_NOT_GIVEN, 2000.0);
+    memcpy(list, points + 4, 32);
+    result_is("a step before", sillfeather_shift_grid(0, r.at, (size_t)r.len, list, 4, NULL, 0, NULL, 0, grid, 136, counts, met), 0, 0);
+    holds("its place after that step", same_doubles(list, risen, 4) && counts[0] == 1 && counts[1] == 1);
+
+    /* refused: the list as it was, and zeros */
+    double some[4] = {1, 2, 3, 4};
+    const double kept[4] = {1, 2, 3, 4};
+    uint8_t mark = 1, odd[136];
+    memcpy(odd, grid, sizeof odd);
+    memcpy(odd + 24, &ZERO, 8);
+#define REFUSED_GRID(what, call, number)                                       \
+    do {                                                                       \
+        junk(counts);                                                          \
+        junk(met);                                                             \
+        result_is(what, call, number, 0);                                      \
+        holds(what " leaves the list, and zeros", same_doubles(some, kept, 4) && all_are(counts, 0) && all_are(met, 0)); \
+    } while (0)
+    REFUSED_GRID("a sheet cut short, with a grid", sillfeather_shift_grid(0, r.at, len - 1, some, 3, &ZERO, 1, NULL, 0, odd, 135, counts, met), 1);
+    len = (size_t)r.len;
+    REFUSED_GRID("9 before 10 and 17", sillfeather_shift_grid(0, r.at, len, some, 3, &ZERO, 1, NULL, 0, NULL, 0, counts, met), 9);
+    REFUSED_GRID("10, velocities beside a grid", sillfeather_shift_grid(0, r.at, len, some, 4, rising, 3, &mark, 1, grid, 136, counts, met), 10);
+    REFUSED_GRID("10, a mark beside a grid", sillfeather_shift_grid(0, r.at, len, some, 4, NULL, 0, &mark, 1, grid, 136, counts, met), 10);
+    REFUSED_GRID("10 before 17", sillfeather_shift_grid(0, r.at, len, some, 4, rising, 3, NULL, 0, grid, 135, counts, met), 10);
+    REFUSED_GRID("17, no grid", sillfeather_shift_grid(0, r.at, len, some, 4, NULL, 0, NULL, 0, NULL, 0, counts, met), 17);
+    REFUSED_GRID("17 before 18", sillfeather_shift_grid(0, r.at, len, some, 4, NULL, 0, NULL, 0, odd, 135, counts, met), 17);
+    REFUSED_GRID("18, no spacing", sillfeather_shift_grid(0, r.at, len, some, 4, NULL, 0, NULL, 0, odd, 136, counts, met), 18);
+    fresh(&r);
+    sillfeather_add_cart(r.at, sizeof r.at, &r.len, 0, SILLFEATHER_GRS80);
+    REFUSED_GRID("17 of a sheet that does not deform", sillfeather_shift_grid(0, r.at, (size_t)r.len, some, 4, NULL, 0, NULL, 0, NULL, 0, counts, met), 17);
+    double origin[4] = {0, 0, 0, 0};
+    const double moved[4] = {6378137.0, 0.0, 0.0, 0.0};
+    result_is("a sheet that does not deform, with a grid", sillfeather_shift_grid(0, r.at, (size_t)r.len, origin, 4, NULL, 0, NULL, 0, grid, 136, counts, met), 0, 0);
+    holds("is shifted as without", same_doubles(origin, moved, 4) && counts[0] == 1);
+}
+
 int main(void) {
     holds("30 numbers in a Helmert record", sizeof(struct sillfeather_helmert) == 30 * sizeof(double));
     each_kind_by_hand();
@@ -963,6 +1037,7 @@ int main(void) {
     rescues();
     closures();
     grids();
+    grid_shifts();
     kernels();
     printf("%d passed, %d failed\n", passed, failed);
     return failed != 0;

@@ -13,11 +13,9 @@ enum { STACK = 1 << 20, FILL = 0xa5, ROWS = SILLFEATHER_TUPLES_MAX, NUMBERS = 4 
 /* every kind; one exact Helmert step, running and in own-epoch mode; one that the chart profile lets through */
 static uint8_t all_kinds[SILLFEATHER_SHEET_MAX], helmerts[2][SILLFEATHER_SHEET_MAX], chart[SILLFEATHER_SHEET_MAX], marks[ROWS];
 static uint64_t all_kinds_len, helmerts_len[2], chart_len;
-/* every kind; one exact Helmert step, running and in own-epoch mode */
-static uint8_t all_kinds[SILLFEATHER_SHEET_MAX], helmerts[2][SILLFEATHER_SHEET_MAX], marks[ROWS];
-static uint64_t all_kinds_len, helmerts_len[2];
 static double list[NUMBERS], results[NUMBERS], track[NUMBERS], velocities[3 * ROWS];
 static double columns[3][4][ROWS];
+static uint8_t grid[SILLFEATHER_GRID_MAX]; /* 64 by 64, from the equator and longitude 0 over the poles */
 static struct sillfeather_helmert helmert = SILLFEATHER_HELMERT_BLANK;
 
 static void make(void) {
@@ -35,6 +33,10 @@ static void make(void) {
     sillfeather_add_permtide(all_kinds, room, &all_kinds_len, 0, SILLFEATHER_GRS80, SILLFEATHER_TIDE_MEAN, SILLFEATHER_TIDE_FREE, SILLFEATHER_PERMTIDE_K);
     sillfeather_add_deformation(all_kinds, room, &all_kinds_len, 0, 0, SILLFEATHER_GRS80, SILLFEATHER_NOT_GIVEN, 2000.0);
     memset(marks, 1, sizeof marks);
+    const uint32_t lines[2] = {64, 64};
+    const double corner[4] = {0.0, 0.0, 0.05, 0.05};
+    memcpy(grid, lines, 8);
+    memcpy(grid + 8, corner, sizeof corner);
     for (int i = 0; i < NUMBERS; i++) list[i] = columns[0][i % 4][i / 4] = i;
 }
 
@@ -53,6 +55,16 @@ static uint32_t shift(void) {
             for (int own = 0; own < 2; own++)
                 told |= sillfeather_shift(inverse, helmerts[own], (size_t)helmerts_len[own], list, 4 * rows, velocities, 0, marks, 0, counts);
         }
+    return told;
+}
+
+static uint32_t check_grid(void) { return sillfeather_check_grid(grid, sizeof grid); }
+
+static uint32_t shift_grid(void) {
+    uint32_t counts[16], out_of_reach[16], told = 0;
+    for (uint32_t inverse = 0; inverse < 2; inverse++)
+        for (size_t rows = 16; rows <= ROWS; rows += ROWS - 16)
+            told |= sillfeather_shift_grid(inverse, all_kinds, (size_t)all_kinds_len, list, 4 * rows, NULL, 0, NULL, 0, grid, sizeof grid, counts, out_of_reach);
     return told;
 }
 
@@ -173,6 +185,8 @@ int main(void) {
                  {"rescue", rescue, 6144},
                  {"check with a profile", check_profile, 4096},
                  {"closure", closure, 20480},
+                 {"check of a grid", check_grid, 4096},
+                 {"shift with a grid", shift_grid, 20480},
                  {"add", add, 32768}};
     int passed = 0, failed = 0;
     void *stack;

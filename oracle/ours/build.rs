@@ -1,6 +1,5 @@
-//! Links the library's archive for the machine at hand, SILLFEATHER_ARCHIVE, else what `tools/archive sillfeather` writes.
-//! Links the library's archive for the machine at hand, SILLFEATHER_ARCHIVE, else what `tools/archive sillfeather` writes; and beside it the columns entries,
-//! which C does not have yet (`tools/archive columns_entries`), and a grid's lookup and step (`tools/archive grid_c`).
+//! Links the library's archive for the machine at hand, SILLFEATHER_ARCHIVE, else what `tools/archive sillfeather` writes; and beside it a grid's lookup and
+//! step, which C does not have (`tools/archive grid_c`).
 use std::{env, path::Path, path::PathBuf};
 
 fn link(archive: &Path) {
@@ -15,6 +14,5 @@ fn main() {
     let given = env::var("SILLFEATHER_ARCHIVE").map(PathBuf::from);
     let native = PathBuf::from(env::var("CARGO_MANIFEST_DIR").unwrap()).join("../../target/native");
     link(&given.unwrap_or_else(|_| native.join("libsillfeather.a")));
-    link(&native.join("libcolumns_entries.a"));
     link(&native.join("libgrid_c.a"));
 }

@@ -181,6 +181,11 @@ unsafe extern "C" {
         list_len: usize,
         room: *mut f64,
         room_len: usize,
+        velocities: *const f64,
+        velocities_len: usize,
+        marks: *const u8,
+        marks_len: usize,
+    ) -> u32;
     fn sillfeather_check_grid(grid: *const u8, grid_len: usize) -> u32;
     fn sillfeather_shift_grid(
         inverse: u32,
@@ -491,8 +496,12 @@ pub fn closure(
             velocities.len(),
             marks.as_ptr(),
             marks.len(),
+        )
+    }
+}
+
 pub fn check_grid(grid: &[u8]) -> u32 {
-    // SAFETY: a slice with its length.
+    // SAFETY: a slice with its length, only read.
     unsafe { sillfeather_check_grid(grid.as_ptr(), grid.len()) }
 }
 
@@ -516,9 +525,9 @@ pub fn shift_grid(
             list.as_mut_ptr(),
             list.len(),
             velocities.as_ptr(),
-            0,
+            velocities.len(),
             marks.as_ptr(),
-            0,
+            marks.len(),
             grid.as_ptr(),
             grid.len(),
             counts.as_mut_ptr(),

@@ -144,6 +144,8 @@ pub fn closure(
     marks: &[u8],
 ) -> Result<(), Refusal> {
     Refusal::told(ffi::closure(report, profile.word(), sheet, list, room, velocities, marks))
+}
+
 /// Whether the bytes are a velocity grid: 17 where its layout is broken, else 18 where a number is not finite or a spacing not positive.
 pub fn check_grid(grid: &[u8]) -> Result<(), Refusal> {
     Refusal::told(ffi::check_grid(grid))
@@ -154,8 +156,8 @@ pub fn check_grid(grid: &[u8]) -> Result<(), Refusal> {
 ///
 /// A deformation step moves each fix by the velocity that the grid gives at its place as it reaches the step; a fix outside the grid is absent. Refused: 1 to 8
 /// and 11 of the sheet, 9 of the list, 17 and 18 of the grid.
-pub fn shift_grid(direction: Direction, sheet: &[u8], list: &mut [f64], grid: &[u8]) -> Result<([u32; 16], [u32; 16]), Refusal> {
+pub fn shift_grid(direction: Direction, sheet: &[u8], list: &mut [f64], grid: &[u8]) -> Result<[[u32; 16]; 2], Refusal> {
     let (mut counts, mut out_of_reach) = ([0; 16], [0; 16]);
     Refusal::told(ffi::shift_grid(direction.word(), sheet, list, grid, &mut counts, &mut out_of_reach))?;
-    Ok((counts, out_of_reach))
+    Ok([counts, out_of_reach])
 }

@@ -4,8 +4,7 @@
 //! [`Sheet::builder`] or checked by [`Sheet::from_bytes`], and shifts a list of fixes in place, forward or inverse. A [`KeptRun`] keeps a list with its
 //! results, and redoes only what the correction of one fix changes. [`Columns`] are a list as a display holds it. [`Sheet::rescue`] mends a sheet whose
 //! header or directory was damaged. A [`Report`] tells what a sheet forward and then inverse leaves of lists of fixes, and [`Sheet::judge`] whether a
-//! [`Profile`] lets a sheet through.
-//! header or directory was damaged. A [`Grid`] is a checked velocity grid.
+//! [`Profile`] lets a sheet through. A [`Grid`] is a checked velocity grid, in which a deformation step finds each fix's velocity.
 //!
 //! ```
 //! use sillfeather::{Cart, Convention, Direction, Ellipsoid, Helmert, Sheet};

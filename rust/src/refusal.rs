@@ -4,9 +4,7 @@ use core::fmt;
 /// Why nothing was done. Each refusal has its number, given exactly when its rule is broken; those of a step carry the step, counted from 1.
 ///
 /// Where several rules are broken the first of this order is given: 1, 2, 3, 4; then step by step 5 to 8; then 25 where a profile is
-/// asked for; then 11, 12, 9, 13, 10, 14, 15. A rescue gives 19, then 15, before the sheet's own. What was lent holds what it held.
-/// Where several rules are broken the first of this order is given: 1, 2, 3, 4; then step by step 5 to 8; then 11, 12, 9, 13, 10, 14, 15. A rescue gives 19,
-/// then 15, before the sheet's own; a velocity grid's own are 17, then 18. What was lent holds what it held.
+/// asked for; then 11, 12, 9, 13, 10, 17, 18, 14, 15. A rescue gives 19, then 15, before the sheet's own. What was lent holds what it held.
 ///
 /// ```
 /// use sillfeather::{Helmert, Refusal, Sheet};
@@ -82,8 +80,7 @@ pub enum Refusal {
 }
 
 impl Refusal {
-    /// The rule's number, 1 to 16, 19 or 25.
-    /// The rule's number, 1 to 19.
+    /// The rule's number, 1 to 19 or 25.
     pub fn number(self) -> u32 {
         self.code() % 65536
     }
@@ -147,7 +144,9 @@ impl Refusal {
             Refusal::Index => "no fix has that index",
             Refusal::Room => "the room is too short for the sheet",
             Refusal::Job => "a bad job",
-            Refusal::Grid => "the bytes are not a whole velocity grid: a count outside 2 to 64, or another length than the counts say",
+            Refusal::Grid => {
+                "the bytes are not a whole velocity grid: a count outside 2 to 64, or another length than the counts say"
+            }
             Refusal::GridNumber => "a number of the velocity grid is not finite, or a spacing not positive",
             Refusal::Rescue => "the damaged sheet cannot be rebuilt from its step count, kinds, inverted words and length",
             Refusal::Profile { .. } => "outside the profile that was asked for",
@@ -218,8 +217,7 @@ mod tests {
 
     #[test]
     fn each_number_has_its_name() {
-        for number in (1..=16).chain([19, 25]) {
-        for number in 1..=19 {
+        for number in (1..=19).chain([25]) {
             assert!(!matches!(Refusal::from(number), Refusal::Other(_)), "{number}");
         }
         assert_eq!(Refusal::from(6 + 65536 * 3), Refusal::Convention { step: 3 });

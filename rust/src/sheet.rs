@@ -111,8 +111,9 @@ impl Sheet {
         Ok(Counts { counts, out_of_reach, steps: self.step_count() })
     }
 
-    /// The same with a velocity grid: a deformation step moves each fix by the velocity that the grid gives at its place as it reaches the step. A fix outside
-    /// the grid, or with a NaN place, is absent: four NaNs, or with raw output as it was. Refused: 9 over 2,048 fixes; the list then holds what it held.
+    /// Shifts a list in place with a velocity grid: a deformation step moves each fix by the velocity that the grid gives at its place as it reaches the step,
+    /// on the step's ellipsoid. A fix outside the grid, or with a NaN place, is absent: four NaNs, and not counted. Refused: 9 over 2,048 fixes; the list then
+    /// holds what it held.
     ///
     /// ```
     /// use sillfeather::{Deformation, Direction, Grid, Sheet};
@@ -128,8 +129,8 @@ impl Sheet {
     /// # Ok::<(), sillfeather::Refusal>(())
     /// ```
     pub fn shift_grid(&self, direction: Direction, list: &mut [[f64; 4]], grid: &Grid) -> Result<Counts, Refusal> {
-        let (counts, _) = lent::shift_grid(direction, &self.bytes, list.as_flattened_mut(), grid.as_bytes())?;
-        Ok(Counts { counts, steps: self.step_count() })
+        let [counts, out_of_reach] = lent::shift_grid(direction, &self.bytes, list.as_flattened_mut(), grid.as_bytes())?;
+        Ok(Counts { counts, out_of_reach, steps: self.step_count() })
     }
 }
 

@@ -17,7 +17,7 @@ use Rattle.chain.proofs.ExactlyWhen.{no-number-past-eleven}
 use Rattle.text.specs.Digits.{digitsOf, placesOf, decimalOf}
 use Rattle.job.specs.Job.{headOf, refusal16, asksInverse, sheetOf, tuplesOf, velocitiesOf, marksOf}
 use Rattle.report.specs.Report.{lineOf, refusedText, ranText}
-use Rattle.answer.specs.Answer.{toldOf, jobText, answerOf}
+use Rattle.answer.specs.Answer.{toldOf, lentJobText, lentAnswerOf, jobText, answerOf}
 use Rattle.answer.proofs.Laws.{sixteen-first}
 
 -- ---- no other text is that of 16
@@ -60,7 +60,7 @@ told-is-not steps o few = by (eqb (o .answer .refusal .number) 0)
 -- ---- 16 exactly when the job is bad
 
 pub sixteen-exactly-when : (j : List ℕ) → (answerOf j ≡ refusedText 16 0) ↔ (refusal16 (headOf j) (length j) ≡ true)
-unfolding answerOf jobText
+unfolding lentAnswerOf lentJobText
 sixteen-exactly-when j = (by (refusal16 (headOf j) (length j)) refl, sixteen-first j)
   where
     by : (b : Bool) → refusal16 (headOf j) (length j) ≡ b → cond b (refusedText 16 0) (jobText j) ≡ refusedText 16 0 → b ≡ true

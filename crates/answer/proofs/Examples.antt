@@ -24,12 +24,12 @@ use Rattle.text.specs.Ascii.{ascii}
 use Rattle.text.specs.Digits.{digitsOf, placesOf, decimalOf, hexOf}
 use Rattle.job.specs.Job.{refusal16, numbersOf, sheetOf, tuplesOf, velocitiesOf, marksOf}
 use Rattle.report.specs.Report.{lineOf, countsText, wordOf, tupleText, tuplesText, ranText}
-use Rattle.answer.specs.Answer.{toldOf, jobText, answerOf}
+use Rattle.answer.specs.Answer.{toldOf, lentJobText, lentAnswerOf, answerOf}
 use Rattle.answer.specs.MarkedPoints.{p1-job, P1Printed}
 
 -- P1, complete
 pub p1-complete : P1Printed
-unfolding bytes p1 p1-job answerOf jobText toldOf refusal16 numbersOf sheetOf tuplesOf velocitiesOf marksOf ranText lineOf countsText tuplesText tupleText wordOf decimalOf placesOf digitsOf hexOf shiftOf outcomeOf shiftRefusalOf refusal9 refusal10 overOne chainForwardOf entriesOf stepListOf tuplesCountedOf tuplesMetOf eachOf outOfReach word32 word64 numberAt oneNanAt le32 bodyLengthOf bodyAt readOf cartRecordOf stepInRule lacksConvention lacksEpoch lacksDuration writtenInRule bodyInRule refusal1 refusal2 refusal3 refusal4 refusal5 endBefore placeBroken someFrom hasDeformation refusal11 rulesOfStep fiveToEight elevens readerOrder firstBroken refusalOf entryAt cartesianOf namedOf ellipsoidOf primeVerticalOf wOf sqrtOf sinOf cosOf signedOf sineOf cosineOf reducedOf rowOf bendOf sumOf clampOf atMostOne signOf isNan ofBits toBits neg add sub mul div lt le eq ne sum round size
+unfolding bytes p1 p1-job lentAnswerOf lentJobText toldOf refusal16 numbersOf sheetOf tuplesOf velocitiesOf marksOf ranText lineOf countsText tuplesText tupleText wordOf decimalOf placesOf digitsOf hexOf shiftOf outcomeOf shiftRefusalOf refusal9 refusal10 overOne chainForwardOf entriesOf stepListOf tuplesCountedOf tuplesMetOf eachOf outOfReach word32 word64 numberAt oneNanAt le32 bodyLengthOf bodyAt readOf cartRecordOf stepInRule lacksConvention lacksEpoch lacksDuration writtenInRule bodyInRule refusal1 refusal2 refusal3 refusal4 refusal5 endBefore placeBroken someFrom hasDeformation refusal11 rulesOfStep fiveToEight elevens readerOrder firstBroken refusalOf entryAt cartesianOf namedOf ellipsoidOf primeVerticalOf wOf sqrtOf sinOf cosOf signedOf sineOf cosineOf reducedOf rowOf bendOf sumOf clampOf atMostOne signOf isNan ofBits toBits neg add sub mul div lt le eq ne sum round size
 p1-complete = refl
 
 -- A bad job is 16, whatever stands in it: nothing, P1 without its last byte and with one more, a
@@ -42,10 +42,10 @@ bad-jobs :
     × (answerOf (bytes (0 ∷ 4241 ∷ []) ++ drop 8 p1-job) ≡ ascii "refused 16 step 0\n")
     × (answerOf (bytes (0 ∷ 40 ∷ 513 ∷ []) ++ drop 12 p1-job) ≡ ascii "refused 16 step 0\n")
     × (answerOf (bytes (0 ∷ 40 ∷ 1 ∷ 2 ∷ []) ++ drop 16 p1-job) ≡ ascii "refused 16 step 0\n")
-unfolding bytes p1 p1-job answerOf refusal16 lineOf decimalOf placesOf digitsOf word32 le32
+unfolding bytes p1 p1-job lentAnswerOf refusal16 lineOf decimalOf placesOf digitsOf word32 le32
 bad-jobs = (refl, refl, refl, refl, refl, refl, refl)
 
 -- P7: P1's sheet cut by a byte
 p7-complete : answerOf (bytes (0 ∷ 39 ∷ 1 ∷ 0 ∷ []) ++ take 39 p1 ++ replicate 32 0) ≡ ascii "refused 1 step 0\n"
-unfolding bytes p1 answerOf jobText toldOf refusal16 numbersOf sheetOf tuplesOf velocitiesOf marksOf lineOf decimalOf placesOf digitsOf shiftOf outcomeOf shiftRefusalOf word32 word64 numberAt le32 refusal1 refusal2 refusal3 refusal4 someFrom endBefore placeBroken readerOrder firstBroken refusalOf
+unfolding bytes p1 lentAnswerOf lentJobText toldOf refusal16 numbersOf sheetOf tuplesOf velocitiesOf marksOf lineOf decimalOf placesOf digitsOf shiftOf outcomeOf shiftRefusalOf word32 word64 numberAt le32 refusal1 refusal2 refusal3 refusal4 someFrom endBefore placeBroken readerOrder firstBroken refusalOf
 p7-complete = refl

@@ -17,9 +17,11 @@ use Rattle.sheet.specs.Rules.{refusalOf, hasDeformation}
 use Rattle.sheet.proofs.Order.{neither, accepted-count}
 use Rattle.plans.specs.Lent.{Lent, lentOf}
 use Rattle.chain.specs.Chain.{chainForwardOf, chainInverseOf, chainOf, entriesOf, stepListOf}
-use Rattle.chain.specs.Rules.{Outcome, shiftOf, outcomeOf, shiftRefusalOf}
+use Rattle.chain.specs.Rules.{Outcome, shiftOf, outcomeOf, shiftRefusalOf, refusal9}
 use Rattle.chain.proofs.Laws.{step-length}
+use Rattle.chain.specs.Grid.{shiftGridOf, gridOutcomeOf, gridRefusalOf}
 use Rattle.chain.proofs.Outcome.{refused-own}
+use Rattle.chain.proofs.Grid.{grid-refused-own}
 use Rattle.tally.specs.Tallies.{countsOf, metsOf}
 use Rattle.text.specs.Text.{text, appended}
 use Rattle.text.proofs.Laws.{fits}
@@ -29,7 +31,7 @@ use Rattle.job.specs.declared.Head.{Head}
 use Rattle.job.proofs.Laws.{length-numbersOf}
 use Rattle.report.specs.Report.{refusedText, ranText}
 use Rattle.report.proofs.Laws.{refused-is-short, ran-is-short}
-use Rattle.answer.specs.Answer.{toldOf, shiftText, jobText, answerOf}
+use Rattle.answer.specs.Answer.{toldOf, lentShiftOf, shiftText, lentJobText, lentAnswerOf, answerOf, gridAnswerOf}
 
 -- ---- a job that is not bad
 
@@ -71,12 +73,12 @@ unfolding tuplesOf
 length-tuples j = length-numbersOf (4 * headOf j .tuples) (drop (tuplesAt (headOf j)) j)
 
 -- the parts that a call is lent are the job's
-pub parts : (j : List ℕ) (h : Head) (a b c n m : ℕ) {l v : List Float} → h ≡ headOf j → a ≡ tuplesAt h → b ≡ velocitiesAt h → c ≡ marksAt h
+pub parts : (gridded : Bool) (grid j : List ℕ) (h : Head) (a b c n m : ℕ) {l v : List Float} → h ≡ headOf j → a ≡ tuplesAt h → b ≡ velocitiesAt h → c ≡ marksAt h
     → n ≡ 4 * h .tuples → m ≡ 3 * h .velocities
     → l ≡ numbersOf n (take (length j - a) (drop a j)) → v ≡ numbersOf m (take (length j - b) (drop b j))
-    → shiftText (eqb (h .direction) 1) (take (a - 16) (drop 16 j)) l v (take (length j - c) (drop c j)) ≡ jobText j
-unfolding jobText sheetOf tuplesOf velocitiesOf marksOf
-parts j h a b c n m eh ea eb ec en em el ev =
+    → shiftText gridded grid (eqb (h .direction) 1) (take (a - 16) (drop 16 j)) l v (take (length j - c) (drop c j)) ≡ lentJobText gridded grid j
+unfolding lentJobText sheetOf tuplesOf velocitiesOf marksOf
+parts gridded grid j h a b c n m eh ea eb ec en em el ev =
     let k : a - 16 ≡ h .sheet = omega arith in
     rw (el, ev, left-from j a, left-from j b, left-from j c, k, en, em, ea, eb, ec, eh)
 
@@ -121,6 +123,36 @@ few-steps inverse s l velocities marks h = by (eqb (refusalOf s .number) 0) refl
         let own = refused-own (refusalOf s) (hasDeformation (kindAt s) (stepCountOf s)) inverse (entriesOf (entryAt s) (stepCountOf s) 0) l velocities marks broken in
         absurd (broken (ap (λ (o : Outcome). o .answer .refusal .number) (sym own) ∙ h))
 
+grid-length : (inverse : Bool) (s : List ℕ) (l velocities : List Float) (marks grid : List ℕ)
+    → length (shiftGridOf inverse s l velocities marks grid .list) ≡ length l
+unfolding shiftGridOf gridOutcomeOf
+grid-length inverse s l velocities marks grid =
+    pick-length (eqb (gridRefusalOf (refusalOf s) (refusal9 (length l)) velocities marks grid .number) 0) _ _ (length l)
+    (chain-length inverse (lentOf velocities marks grid) (entriesOf (entryAt s) (stepCountOf s) 0) l) refl
+
+few-steps-with-grid : (inverse : Bool) (s : List ℕ) (l velocities : List Float) (marks grid : List ℕ)
+    → shiftGridOf inverse s l velocities marks grid .answer .refusal .number ≡ 0 → stepCountOf s ≤ 16
+unfolding shiftGridOf
+few-steps-with-grid inverse s l velocities marks grid h = by (eqb (refusalOf s .number) 0) refl
+  where
+    by : (b : Bool) → eqb (refusalOf s .number) 0 ≡ b → stepCountOf s ≤ 16
+    by true e = accepted-count s (eqb-true (refusalOf s .number) 0 e)
+    by false e =
+        let broken = eqb-false (refusalOf s .number) 0 e in
+        let own = grid-refused-own (refusalOf s) inverse (entriesOf (entryAt s) (stepCountOf s) 0) l velocities marks grid broken in
+        absurd (broken (ap (λ (o : Outcome). o .answer .refusal .number) (sym own) ∙ h))
+
+-- with a grid or without
+lent-length : (gridded : Bool) (grid : List ℕ) (inverse : Bool) (s : List ℕ) (l velocities : List Float) (marks : List ℕ)
+    → length (lentShiftOf gridded grid inverse s l velocities marks .list) ≡ length l
+lent-length true grid inverse s l velocities marks = grid-length inverse s l velocities marks grid
+lent-length false grid inverse s l velocities marks = shift-length inverse s l velocities marks
+
+few-lent-steps : (gridded : Bool) (grid : List ℕ) (inverse : Bool) (s : List ℕ) (l velocities : List Float) (marks : List ℕ)
+    → lentShiftOf gridded grid inverse s l velocities marks .answer .refusal .number ≡ 0 → stepCountOf s ≤ 16
+few-lent-steps true grid inverse s l velocities marks = few-steps-with-grid inverse s l velocities marks grid
+few-lent-steps false grid inverse s l velocities marks = few-steps inverse s l velocities marks
+
 told-is-short : (steps : ℕ) (o : Outcome) → (o .answer .refusal .number ≡ 0 → steps ≤ 16) → length (o .list) ≤ 2048 → length (toldOf steps o) ≤ 36295
 unfolding toldOf
 told-is-short steps o few l = by (eqb (o .answer .refusal .number) 0) refl
@@ -133,23 +165,34 @@ told-is-short steps o few l = by (eqb (o .answer .refusal .number) 0) refl
         omega arith
     by false e = let r = refused-is-short (o .answer .refusal .number) (o .answer .refusal .step) in omega arith
 
-job-is-short : (j : List ℕ) → Good (headOf j) (length j) → length (jobText j) ≤ 36295
-unfolding jobText
-job-is-short j g =
+job-is-short : (gridded : Bool) (grid j : List ℕ) → Good (headOf j) (length j) → length (lentJobText gridded grid j) ≤ 36295
+unfolding lentJobText
+job-is-short gridded grid j g =
     let n : length (tuplesOf j) ≡ 4 * headOf j .tuples = length-tuples j in
     let t = g .tuples in
-    told-is-short (stepCountOf (sheetOf j)) (shiftOf (asksInverse j) (sheetOf j) (tuplesOf j) (velocitiesOf j) (marksOf j))
-    (few-steps (asksInverse j) (sheetOf j) (tuplesOf j) (velocitiesOf j) (marksOf j))
-    (rw (shift-length (asksInverse j) (sheetOf j) (tuplesOf j) (velocitiesOf j) (marksOf j)) (omega arith))
+    told-is-short (stepCountOf (sheetOf j)) (lentShiftOf gridded grid (asksInverse j) (sheetOf j) (tuplesOf j) (velocitiesOf j) (marksOf j))
+    (few-lent-steps gridded grid (asksInverse j) (sheetOf j) (tuplesOf j) (velocitiesOf j) (marksOf j))
+    (rw (lent-length gridded grid (asksInverse j) (sheetOf j) (tuplesOf j) (velocitiesOf j) (marksOf j)) (omega arith))
 
--- No text is longer than 36,295 bytes, so that the program's room of 65,536 holds every one.
-pub text-is-short : (j : List ℕ) → length (answerOf j) ≤ 36295
-unfolding answerOf
-text-is-short j = by (refusal16 (headOf j) (length j)) refl
+lent-is-short : (gridded : Bool) (grid j : List ℕ) → length (lentAnswerOf gridded grid j) ≤ 36295
+unfolding lentAnswerOf
+lent-is-short gridded grid j = by (refusal16 (headOf j) (length j)) refl
   where
-    by : (b : Bool) → refusal16 (headOf j) (length j) ≡ b → length (cond b (refusedText 16 0) (jobText j)) ≤ 36295
+    by : (b : Bool) → refusal16 (headOf j) (length j) ≡ b → length (cond b (refusedText 16 0) (lentJobText gridded grid j)) ≤ 36295
     by true e = let r = refused-is-short 16 0 in omega arith
-    by false e = job-is-short j (good-job (headOf j) (length j) e)
+    by false e = job-is-short gridded grid j (good-job (headOf j) (length j) e)
+
+-- No text is longer than 36,295 bytes, so that the programs' room of 65,536 holds every one.
+pub text-is-short : (j : List ℕ) → length (answerOf j) ≤ 36295
+text-is-short j = lent-is-short false [] j
+
+pub grid-text-is-short : (b : List ℕ) → length (gridAnswerOf b) ≤ 36295
+unfolding gridAnswerOf
+grid-text-is-short b = by (ltb (length b) (endAt (headOf b)))
+  where
+    by : (t : Bool) → length (cond t (refusedText 16 0) (lentAnswerOf true (drop (endAt (headOf b)) b) (take (endAt (headOf b)) b))) ≤ 36295
+    by true = let r = refused-is-short 16 0 in omega arith
+    by false = lent-is-short true (drop (endAt (headOf b)) b) (take (endAt (headOf b)) b)
 
 -- In such a room the text stands whole at the start, and after it what stood there.
 pub text-stands-whole : (room j : List ℕ) → length (answerOf j) ≤ length room
@@ -159,5 +202,5 @@ text-stands-whole room j h = fits room 0 (answerOf j) (rw zero-add h) ∙ rw zer
 -- ---- 16 before all others
 
 pub sixteen-first : (j : List ℕ) → refusal16 (headOf j) (length j) ≡ true → answerOf j ≡ refusedText 16 0
-unfolding answerOf
+unfolding lentAnswerOf
 sixteen-first j h = rw h

@@ -123,7 +123,7 @@ pub extern "C" fn lent_deformation(
 {
     let step = step_given(flags, ellipsoid, dt, epoch);
     let reversed = step.directed(inverse != 0);
-    deformation_columns::deformation(
+    let moved = deformation_columns::deformation(
         x,
         y,
         z,
@@ -133,5 +133,6 @@ pub extern "C" fn lent_deformation(
         reversed,
         velocities,
         marks,
-    )
+    );
+    moved.count
 }

@@ -1,5 +1,6 @@
 //! A velocity grid's check and lookup, and the deformation step by a grid over columns.
 use crate::columns::{self, Columns};
+use job::Answer;
 
 unsafe extern "C" {
     fn sillfeather_check_grid(grid: *const u8, grid_len: usize) -> u32;
@@ -56,19 +57,9 @@ pub fn check(grid: &[u8]) -> u32 {
     unsafe { sillfeather_check_grid(grid.as_ptr(), grid.len()) }
 }
 
-/// What a call with a grid leaves: the refusal, its step, each step's two numbers, the list.
-#[derive(Debug)]
-pub struct Told {
-    pub refusal: u32,
-    pub step: u32,
-    pub counts: [u32; 16],
-    pub out_of_reach: [u32; 16],
-    pub list: Vec<f64>,
-}
-
-/// A sheet over a list with a grid, through the library's entry.
-pub fn shift(inverse: bool, sheet: &[u8], list: &[f64], velocities: &[f64], marks: &[u8], grid: &[u8]) -> Told {
-    let (mut counts, mut out_of_reach) = ([9; 16], [9; 16]);
+/// A sheet over a list with a grid, through the library's entry; and how many tuples met an angle out of reach in each step.
+pub fn shift(inverse: bool, sheet: &[u8], list: &[f64], velocities: &[f64], marks: &[u8], grid: &[u8]) -> (Answer, [u32; 16]) {
+    let [mut counts, mut out_of_reach] = [[u32::MAX; 16]; 2]; // each is written, refused or not
     let mut list = list.to_vec();
     let told = unsafe {
         sillfeather_shift_grid(
@@ -88,7 +79,7 @@ pub fn shift(inverse: bool, sheet: &[u8], list: &[f64], velocities: &[f64], mark
         )
     };
     let (refusal, step) = crate::apart(told);
-    Told { refusal, step, counts, out_of_reach, list }
+    (Answer { refusal, step, counts, list }, out_of_reach)
 }
 
 pub fn found(grid: &[u8], lam: f64, phi: f64) -> Found {

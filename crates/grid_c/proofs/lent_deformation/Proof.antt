@@ -29,7 +29,9 @@ same-length-4 : tie.Need-same-length-4
 same-length-4 c = search needs
 
 returns : tie.Need-returns
-returns c = rw (c .before .before .before .before .before .before .before .before .before .new .ensures, c .before .before .before .before .before .before .before .before .before .before .before .before .before .before .directed .ensures, c .before .before .before .before .before .before .before .before .before .before .before .before .before .before .before .step-given .ensures) at (c .before .before .before .before .before .before .before .before .deformation .ensures)
+returns c =
+    let e = rw (c .before .before .before .before .before .before .before .before .before .new .ensures, c .before .before .before .before .before .before .before .before .before .before .before .before .before .before .directed .ensures, c .before .before .before .before .before .before .before .before .before .before .before .before .before .before .before .step-given .ensures) at (c .before .before .before .before .before .before .before .before .deformation .ensures) in
+    (e .0, e .1)
 
 pub lent-deformation-spec : {M : Type 1} → statement M
 lent-deformation-spec =

@@ -10,7 +10,7 @@ use compare::LANDED;
 use reader::closure::{Listed, Report, judge, report};
 use reader::random::Random;
 use reader::sheet::{Badekas, Body, Cart, Deformation, Helmert, Molodensky, NOT_GIVEN, Permtide, Record, Step, bytes_untested};
-use reader::{chain, draw, same_numbers};
+use reader::{In, chain, draw, same_numbers};
 use std::process::ExitCode;
 
 /// What the room holds before, and behind what is written.
@@ -235,7 +235,8 @@ fn main() -> ExitCode {
     let mut parts = names.map(|_| Part::default());
     let mut met = Met::default();
     for _ in 0..cases {
-        let d = draw::draw_reported(&mut r, &LANDED);
+        // no grid is lent: the library takes none for a report
+        let d = draw::draw_reported(&mut r, &In { a1: false, ..LANDED });
         parts[0].try_all(names[0], &mut r, &d.sheet, &d.lists, d.profile);
         edges(names[1], &mut parts[1], &mut r, &mut met);
         unknown(names[3], &mut parts[3], &mut r);

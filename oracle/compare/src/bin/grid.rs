@@ -11,18 +11,19 @@
 //! the bytes; `steps`, lists through one deformation step by a grid, both ways, raw and with the
 //! comment's sign, the places of their tuples being looked up; `chains`, drawn sheets through the
 //! entry with a grid, forward and inverse, with steps before and after, refused calls among them.
+use compare::LANDED;
 use ours::grid::{self as library, Found, Step, check, deformation, found, found_block};
 use reader::chain::shift;
-use reader::draw::{draw_step, grid as draw, list::{draw_shift, grid_for}};
+use reader::draw::{
+    draw_step, grid as draw,
+    list::{draw_shift, grid_for},
+};
 use reader::grid::{self, Grid};
 use reader::random::Random;
 use reader::sheet::{self, Body};
-use reader::{In, same, same_numbers};
+use reader::{same, same_numbers};
 use std::f64::consts::{FRAC_PI_2, PI};
 use std::process::ExitCode;
-
-const READ: In = In { a1: true, a13: true, ..In::NONE };
-const CHAINS: In = In { a1: true, a3: true, a5: true, a9: true, a13: true, ..In::NONE };
 
 fn expected(g: &Grid, lam: f64, phi: f64) -> Found {
     match grid::lookup(g, lam, phi) {
@@ -133,9 +134,7 @@ fn nodes(r: &mut Random, g: &Grid) -> Vec<(f64, f64)> {
 fn compare_check(tally: &mut Tally, bytes: &[u8]) {
     let want = grid::check(bytes).map_or_else(|refusal| refusal.number, |_| 0);
     let got = check(bytes);
-    tally.count(got == want, || {
-        format!("{} bytes, head {:?}: {want} {got}", bytes.len(), &bytes[..bytes.len().min(8)])
-    });
+    tally.count(got == want, || format!("{} bytes, head {:?}: {want} {got}", bytes.len(), &bytes[..bytes.len().min(8)]));
 }
 
 fn set(bytes: &mut [u8], at: usize, word: &[u8]) {
@@ -169,13 +168,7 @@ fn layouts(seed: u64) -> Tally {
 fn numbers(seed: u64) -> Tally {
     let mut r = Random::new(seed);
     let mut tally = Tally::new("numbers");
-    let odd = [
-        f64::INFINITY,
-        f64::NEG_INFINITY,
-        f64::NAN,
-        -f64::NAN,
-        f64::from_bits(0x7ff0_0000_0000_0001),
-    ];
+    let odd = [f64::INFINITY, f64::NEG_INFINITY, f64::NAN, -f64::NAN, f64::from_bits(0x7ff0_0000_0000_0001)];
     let near = [0.0, -0.0, f64::from_bits(1), -f64::from_bits(1), f64::MAX, -f64::MAX, -0.1];
     for (rows, columns) in [(2, 2), (2, 3), (3, 5), (17, 4), (64, 64)] {
         let mut g = draw::draw_grid(&mut r);
@@ -247,19 +240,18 @@ fn steps(tuples: usize, seed: u64) -> Tally {
     let mut tally = Tally::new("steps");
     let (mut seen, mut counted) = (0, 0);
     while seen < tuples {
-        let s = draw_step(&mut r, &READ, 5);
+        let s = draw_step(&mut r, &LANDED, 5);
         let lent = match r.once_in(2) {
-            true => grid_for(&mut r, &READ, s.inverse, &s.sheet, &s.list),
+            true => grid_for(&mut r, &LANDED, s.inverse, &s.sheet, &s.list),
             false => wide(&mut r),
         };
-        let want = shift(&READ, s.inverse, &s.sheet, &s.list, &[], &[], Some(&lent));
+        let want = shift(&LANDED, s.inverse, &s.sheet, &s.list, &[], &[], Some(&lent));
         if want.refusal != 0 {
             continue;
         }
-        let record = sheet::read(&READ, &s.sheet).expect("accepted");
+        let record = sheet::read(&LANDED, &s.sheet).expect("accepted");
         let Body::Deformation(d) = &record.live()[0].body else { unreachable!() };
-        let step =
-            Step { flags: d.flags, ellipsoid: d.ellipsoid, dt: d.dt, t_epoch: d.t_epoch };
+        let step = Step { flags: d.flags, ellipsoid: d.ellipsoid, dt: d.dt, t_epoch: d.t_epoch };
         let reversed = s.inverse != (record.live()[0].inverted == 1);
         let (list, n) = deformation(reversed, step, &s.list, &lent);
         (seen, counted) = (seen + s.list.len() / 4, counted + n);
@@ -277,18 +269,21 @@ fn chains(tuples: usize, seed: u64) -> Tally {
     let mut tally = Tally::new("chains");
     let (mut seen, mut ran, mut given) = (0, 0, [0; 19]);
     while seen < tuples {
-        let s = draw_shift(&mut r, &CHAINS);
+        let s = draw_shift(&mut r, &LANDED);
         let Some(lent) = &s.grid else { continue };
-        let want = shift(&CHAINS, s.inverse, &s.sheet, &s.list, &s.velocities, &s.marks, Some(lent));
-        let told = library::shift(s.inverse, &s.sheet, &s.list, &s.velocities, &s.marks, lent);
+        let want = shift(&LANDED, s.inverse, &s.sheet, &s.list, &s.velocities, &s.marks, Some(lent));
+        let (told, out_of_reach) = library::shift(s.inverse, &s.sheet, &s.list, &s.velocities, &s.marks, lent);
         (seen, ran) = (seen + s.list.len() / 4, ran + (want.refusal == 0) as usize);
         given[want.refusal as usize] += 1;
-        let agree = (told.refusal, told.step, told.counts, told.out_of_reach)
+        let agree = (told.refusal, told.step, told.counts, out_of_reach)
             == (want.refusal, want.step, want.counts, want.out_of_reach)
             && same_numbers(&told.list, &want.list);
         tally.count(agree, || format!("inverse {} {:?} {:?}: {want:?}; {told:?}", s.inverse, s.sheet, s.list));
     }
-    println!("chains: {seen} tuples, {ran} calls run, refusals 9, 10, 17, 18: {} {} {} {}", given[9], given[10], given[17], given[18]);
+    println!(
+        "chains: {seen} tuples, {ran} calls run, refusals 9, 10, 17, 18: {} {} {} {}",
+        given[9], given[10], given[17], given[18]
+    );
     tally
 }
 

@@ -1,6 +1,6 @@
 //! Beside the second reader: what the library answers to sheets, lists and kept runs, good, damaged
-//! and at every edge, against oracle/reader, which was written from documents 01 and 02 alone. No
-//! tolerance; all NaNs count as equal.
+//! and at every edge, lists with a velocity grid too, against oracle/reader, which was written from
+//! documents 01 and 02 alone. No tolerance; all NaNs count as equal.
 //!
 //!     second_reader [cases a part, 5000] [seed, 1]
 use compare::{LANDED, suites};
@@ -72,9 +72,12 @@ fn lists(part: &str, r: &mut Random, tally: &mut Tally) {
 }
 
 fn shift(part: &str, case: draw::Shift, tally: &mut Tally) {
-    let draw::Shift { inverse, sheet, list, velocities, marks, .. } = &case;
-    let expected = chain::shift(&LANDED, *inverse, sheet, list, velocities, marks, None);
-    let (told, out_of_reach) = ours::shift_reach(*inverse, sheet, list, velocities, marks);
+    let draw::Shift { inverse, sheet, list, velocities, marks, grid } = &case;
+    let expected = chain::shift(&LANDED, *inverse, sheet, list, velocities, marks, grid.as_deref());
+    let (told, out_of_reach) = match grid {
+        Some(grid) => ours::grid::shift(*inverse, sheet, list, velocities, marks, grid),
+        None => ours::shift_reach(*inverse, sheet, list, velocities, marks),
+    };
     let agree = (told.refusal, told.step) == (expected.refusal, expected.step)
         && (told.counts, out_of_reach) == (expected.counts, expected.out_of_reach)
         && reader::same_numbers(&told.list, &expected.list);

@@ -1,0 +1,2 @@
+-- What the contracts of `grid_lines` cite.
+pub mod Lines
