@@ -92,6 +92,12 @@ by-tests kind true six e1 e6 h = inl (eqb-true kind 1 e1)
 by-tests kind false true e1 e6 h = inr (eqb-true kind 6 e6)
 by-tests kind false false e1 e6 h = absurd (true≢false (sym h))
 
+-- one step of these kinds does not deform
+shifts-alone : (kind : ℕ → ℕ) → Shifts (kind 0) → hasDeformation kind 1 ≡ false
+unfolding hasDeformation
+shifts-alone kind (inl e) = rw e
+shifts-alone kind (inr e) = rw e
+
 module _ (s : List ℕ) (own : refusalOf s .number ≡ 0) (one : refusal12 s ≡ false) where
   one-step : stepCountOf s ≡ 1
   unfolding refusal12
@@ -117,8 +123,7 @@ module _ (s : List ℕ) (own : refusalOf s .number ≡ 0) (one : refusal12 s ≡
   a-shift = rw its-kind of-a-kind
 
   no-deformation : hasDeformation (kindAt s) (stepCountOf s) ≡ false
-  unfolding hasDeformation
-  no-deformation = ⊎-elim (λ e. rw (one-step, e)) (λ e. rw (one-step, e)) of-a-kind
+  no-deformation = rw one-step (shifts-alone (kindAt s) of-a-kind)
 
   entries-are : entriesOf (entryAt s) (stepCountOf s) 0 ≡ entryAt s 0 ∷ []
   unfolding entriesOf
