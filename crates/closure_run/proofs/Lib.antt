@@ -2,3 +2,4 @@
 pub mod Answers
 pub mod GridAnswers
 pub mod Laws
+pub mod GridLaws
