@@ -46,8 +46,9 @@
  *             these by the name that ends in _reach; over columns sillfeather_shift_columns up to
  *             10 kB, the other two up to 6 kB; sillfeather_rescue up to 6 kB,
  *             sillfeather_check_profile up to 4 kB, sillfeather_closure up to 20 kB,
- *             sillfeather_check_grid up to 4 kB, sillfeather_shift_grid up to 20 kB, each
- *             sillfeather_add_ function up to 32 kB. examples/c/stack.c holds these limits.
+ *             sillfeather_check_grid up to 4 kB, sillfeather_shift_grid and
+ *             sillfeather_closure_grid up to 20 kB, each sillfeather_add_ function up to 32 kB.
+ *             examples/c/stack.c holds these limits.
  */
 #ifndef SILLFEATHER_H
 #define SILLFEATHER_H
@@ -428,6 +429,14 @@ uint32_t sillfeather_check_profile(const uint8_t *sheet, size_t sheet_len, uint3
 uint32_t sillfeather_closure(uint64_t report[16], uint32_t profile, const uint8_t *sheet, size_t sheet_len, const double *list, size_t list_len,
                              double *room, size_t room_len, const double *velocities, size_t velocities_len, const uint8_t *marks,
                              size_t marks_len);
+
+/* The same with a velocity grid, as sillfeather_shift_grid takes one. It serves both ways: each way
+ * looks it up where the fix then is.
+ *   Refuses   as sillfeather_check_profile; then 9, 10 (velocities or marks not empty), 17, 18; then
+ *             15, the room shorter than the list. */
+uint32_t sillfeather_closure_grid(uint64_t report[16], uint32_t profile, const uint8_t *sheet, size_t sheet_len, const double *list, size_t list_len,
+                                  double *room, size_t room_len, const double *velocities, size_t velocities_len, const uint8_t *marks,
+                                  size_t marks_len, const uint8_t *grid, size_t grid_len);
 
 /* ----- the kernels --------------------------------------------------------------------------- */
 

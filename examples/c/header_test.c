@@ -1014,6 +1014,27 @@ static void grid_shifts(void) {
     fresh(&r);
     sillfeather_add_cart(r.at, sizeof r.at, &r.len, 0, SILLFEATHER_GRS80);
     REFUSED_GRID("17 of a sheet that does not deform", sillfeather_shift_grid(0, r.at, (size_t)r.len, some, 4, NULL, 0, NULL, 0, NULL, 0, counts, met), 17);
+
+    /* a closure: there and back by the grid, with the order of its refusals */
+    static struct closure c;
+    fresh(&r);
+    sillfeather_add_deformation(r.at, sizeof r.at, &r.len, 0, 0, SILLFEATHER_GRS80, SILLFEATHER_NOT_GIVEN, 2000.0);
+    len = (size_t)r.len;
+    lend_closure(&c);
+    result_is("a closure with a grid", sillfeather_closure_grid(c.report, 0, r.at, len, points, 8, c.room, 8, NULL, 0, NULL, 0, grid, 136), 0, 0);
+    holds("one fix restored, one absent", c.report[0] == 1 && c.report[1] == 2 && c.report[2] == 1 && c.report[3] == 1);
+    holds("the room has the list as it came back", same_doubles(c.room, points, 4) && c.room[4] != c.room[4]);
+    lend_closure(&c);
+    result_is("25 before 9", sillfeather_closure_grid(c.report, 1, r.at, len, points, 7, c.room, 0, &ZERO, 1, NULL, 0, NULL, 0), 25, 1);
+    result_is("9 before 10, 17 and 15", sillfeather_closure_grid(c.report, 0, r.at, len, points, 7, c.room, 0, &ZERO, 1, NULL, 0, NULL, 0), 9, 0);
+    result_is("10 before 17 and 15", sillfeather_closure_grid(c.report, 0, r.at, len, points, 8, c.room, 0, &ZERO, 1, NULL, 0, NULL, 0), 10, 0);
+    result_is("17 before 15", sillfeather_closure_grid(c.report, 0, r.at, len, points, 8, c.room, 0, NULL, 0, NULL, 0, odd, 135), 17, 0);
+    result_is("18 before 15", sillfeather_closure_grid(c.report, 0, r.at, len, points, 8, c.room, 0, NULL, 0, NULL, 0, odd, 136), 18, 0);
+    result_is("15 with a grid", sillfeather_closure_grid(c.report, 0, r.at, len, points, 8, c.room, 7, NULL, 0, NULL, 0, grid, 136), 15, 0);
+    holds("refused closures leave report and room", closure_left_alone(&c));
+
+    fresh(&r);
+    sillfeather_add_cart(r.at, sizeof r.at, &r.len, 0, SILLFEATHER_GRS80);
     double origin[4] = {0, 0, 0, 0};
     const double moved[4] = {6378137.0, 0.0, 0.0, 0.0};
     result_is("a sheet that does not deform, with a grid", sillfeather_shift_grid(0, r.at, (size_t)r.len, origin, 4, NULL, 0, NULL, 0, grid, 136, counts, met), 0, 0);

@@ -148,6 +148,14 @@ static uint32_t closure(void) {
     return told;
 }
 
+static uint32_t closure_grid(void) {
+    static uint64_t report[16];
+    uint32_t told = 0;
+    for (size_t rows = 16; rows <= ROWS; rows += ROWS - 16)
+        told |= sillfeather_closure_grid(report, 0, all_kinds, (size_t)all_kinds_len, list, 4 * rows, results, NUMBERS, NULL, 0, NULL, 0, grid, sizeof grid);
+    return told;
+}
+
 static uint32_t (*call)(void);
 static uint32_t told;
 
@@ -187,6 +195,7 @@ int main(void) {
                  {"closure", closure, 20480},
                  {"check of a grid", check_grid, 4096},
                  {"shift with a grid", shift_grid, 20480},
+                 {"closure with a grid", closure_grid, 20480},
                  {"add", add, 32768}};
     int passed = 0, failed = 0;
     void *stack;

@@ -186,6 +186,22 @@ unsafe extern "C" {
         marks: *const u8,
         marks_len: usize,
     ) -> u32;
+    fn sillfeather_closure_grid(
+        report: *mut u64,
+        profile: u32,
+        sheet: *const u8,
+        sheet_len: usize,
+        list: *const f64,
+        list_len: usize,
+        room: *mut f64,
+        room_len: usize,
+        velocities: *const f64,
+        velocities_len: usize,
+        marks: *const u8,
+        marks_len: usize,
+        grid: *const u8,
+        grid_len: usize,
+    ) -> u32;
     fn sillfeather_check_grid(grid: *const u8, grid_len: usize) -> u32;
     fn sillfeather_shift_grid(
         inverse: u32,
@@ -496,6 +512,31 @@ pub fn closure(
             velocities.len(),
             marks.as_ptr(),
             marks.len(),
+        )
+    }
+}
+
+/// Velocities and marks are empty, as a call with a grid asks.
+pub fn closure_grid(report: &mut [u64; 16], profile: u32, sheet: &[u8], list: &[f64], room: &mut [f64], grid: &[u8]) -> u32 {
+    let velocities: [f64; 0] = [];
+    let marks: [u8; 0] = [];
+    // SAFETY: slices with their lengths; the room and the report's 16 numbers are written, each borrowed mutably.
+    unsafe {
+        sillfeather_closure_grid(
+            report.as_mut_ptr(),
+            profile,
+            sheet.as_ptr(),
+            sheet.len(),
+            list.as_ptr(),
+            list.len(),
+            room.as_mut_ptr(),
+            room.len(),
+            velocities.as_ptr(),
+            velocities.len(),
+            marks.as_ptr(),
+            marks.len(),
+            grid.as_ptr(),
+            grid.len(),
         )
     }
 }

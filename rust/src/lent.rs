@@ -161,3 +161,17 @@ pub fn shift_grid(direction: Direction, sheet: &[u8], list: &mut [f64], grid: &[
     Refusal::told(ffi::shift_grid(direction.word(), sheet, list, grid, &mut counts, &mut out_of_reach))?;
     Ok([counts, out_of_reach])
 }
+
+/// [`closure`] with a velocity grid, which serves both ways: each way looks it up where the fix then is.
+///
+/// Refused: as [`check_profile`]; 9 of the list, 17 and 18 of the grid; 15 where the room is shorter than the list.
+pub fn closure_grid(
+    report: &mut [u64; 16],
+    profile: Profile,
+    sheet: &[u8],
+    list: &[f64],
+    room: &mut [f64],
+    grid: &[u8],
+) -> Result<(), Refusal> {
+    Refusal::told(ffi::closure_grid(report, profile.word(), sheet, list, room, grid))
+}

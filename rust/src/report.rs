@@ -1,6 +1,6 @@
 use alloc::vec;
 
-use crate::{Refusal, Sheet, lent};
+use crate::{Grid, Refusal, Sheet, lent};
 
 /// What a sheet is judged by beside the reader's own rules.
 #[derive(Clone, Copy, Debug, Default, PartialEq, Eq, Hash)]
@@ -89,6 +89,16 @@ impl Report {
         let mut room = vec![0.0; list.len()];
         let mut numbers = self.numbers();
         lent::closure(&mut numbers, profile, sheet.as_bytes(), list, &mut room, velocities.as_flattened(), marks)?;
+        *self = Report::from(numbers);
+        Ok(())
+    }
+
+    /// The same with a velocity grid, as [`Sheet::shift_grid`] takes one. It serves both ways: each way looks it up where the fix then is.
+    pub fn add_grid(&mut self, sheet: &Sheet, profile: Profile, list: &[[f64; 4]], grid: &Grid) -> Result<(), Refusal> {
+        let list = list.as_flattened();
+        let mut room = vec![0.0; list.len()];
+        let mut numbers = self.numbers();
+        lent::closure_grid(&mut numbers, profile, sheet.as_bytes(), list, &mut room, grid.as_bytes())?;
         *self = Report::from(numbers);
         Ok(())
     }

@@ -27,6 +27,7 @@ uint32_t sillfeather_add_badekas(uint8_t *, size_t, uint64_t *, uint32_t, uint32
 uint32_t sillfeather_check_profile(const uint8_t *, size_t, uint32_t);
 uint32_t sillfeather_closure(uint64_t[16], uint32_t, const uint8_t *, size_t, const double *, size_t, double *, size_t, const double *, size_t, const uint8_t *, size_t);
 uint32_t sillfeather_rescue(const uint8_t *, size_t, uint8_t *, size_t, uint32_t *, size_t, uint64_t *);
+uint32_t sillfeather_closure_grid(uint64_t[16], uint32_t, const uint8_t *, size_t, const double *, size_t, double *, size_t, const double *, size_t, const uint8_t *, size_t, const uint8_t *, size_t);
 uint32_t sillfeather_check_grid(const uint8_t *, size_t);
 uint32_t sillfeather_shift_grid(uint32_t, const uint8_t *, size_t, double *, size_t, const double *, size_t, const uint8_t *, size_t, const uint8_t *, size_t, uint32_t[16], uint32_t[16]);
 

@@ -96,3 +96,20 @@ fn refusals_leave_the_list() {
     assert_eq!(lent::shift_grid(Direction::Forward, &sheet.as_bytes()[..39], &mut list, &[]), Err(Refusal::Length));
     assert_eq!(list, [1.0, 2.0, 3.0, 4.0]);
 }
+
+#[test]
+fn a_closure_with_a_grid() {
+    let sheet = sheet_of(deforms());
+    let fixes = [[6378137.0, 0.0, 0.0, 2010.0], [0.0, 6378137.0, 0.0, 2010.0]];
+    let mut report = Report::default();
+    report.add_grid(&sheet, Profile::None, &fixes, &rising()).unwrap();
+    assert_eq!((report.lists, report.tuples, report.nans, report.restored), (1, 2, 1, 1));
+    let before = report;
+    assert_eq!(report.add_grid(&sheet, Profile::Chart, &fixes, &rising()), Err(Refusal::Profile { step: 1 }));
+    let (list, mut room, mut numbers) = ([1.0, 2.0, 3.0, 4.0], [0.5; 4], report.numbers());
+    for (grid, room_len, refusal) in [(&[][..], 3, Refusal::Grid), (rising().as_bytes(), 3, Refusal::Room)] {
+        let told = lent::closure_grid(&mut numbers, Profile::None, sheet.as_bytes(), &list, &mut room[..room_len], grid);
+        assert_eq!(told, Err(refusal));
+    }
+    assert_eq!((report, Report::from(numbers), room), (before, before, [0.5; 4]));
+}

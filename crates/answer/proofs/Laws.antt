@@ -1,6 +1,6 @@
 -- What is true of jobs and answers, for callers to cite. Working definition, which no promise
 -- cites: `Good`. Assumes nothing.
-use mathlib.Core.Path.{_≡_, refl, sym, ap, _∙_}
+use mathlib.Core.Path.{_≡_, refl, sym, ap, _∙_, subst}
 use Prim.Native.Nat.{ℕ, _+_, _-_, _*_, _<_, _≤_}
 use mathlib.Core.Bool.{Bool, true, false, not, cond, _||_}
 use mathlib.Core.List.{List, [], _∷_, _++_}
@@ -10,7 +10,7 @@ use lib.Dec.{eqb, ltb}
 use lib.ListN.{length, take, drop, length-drop}
 use lib.Seq.{take-all}
 use lib.Ieee.{Float}
-use borrow.Author.Tests.{ltb-false, eqb-true, eqb-false, not-false}
+use borrow.Author.Tests.{ltb-false, eqb-true, eqb-false, not-false, lt-ltb, le-ltb}
 use Rattle.sheet.specs.declared.Entry.{Entry}
 use Rattle.sheet.specs.Layout.{stepCountOf, kindAt, entryAt}
 use Rattle.sheet.specs.Rules.{refusalOf, hasDeformation}
@@ -81,6 +81,23 @@ unfolding lentJobText sheetOf tuplesOf velocitiesOf marksOf
 parts gridded grid j h a b c n m eh ea eb ec en em el ev =
     let k : a - 16 ≡ h .sheet = omega arith in
     rw (el, ev, left-from j a, left-from j b, left-from j c, k, en, em, ea, eb, ec, eh)
+
+-- ---- a job with a grid behind it, from what the calls tell of where the job ends
+
+ends-at : (b : List ℕ) (h : Head) (m w : ℕ) → h ≡ headOf b → m ≡ marksAt h → w ≡ h .velocities → m + w ≡ endAt (headOf b)
+ends-at b h m w eh em ew = rw (em, ew) (ap endAt eh)
+
+pub cut-short : (b : List ℕ) (h : Head) (m w : ℕ) → h ≡ headOf b → m ≡ marksAt h → w ≡ h .velocities → length b < m + w
+    → refusedText 16 0 ≡ gridAnswerOf b
+unfolding gridAnswerOf
+cut-short b h m w eh em ew less =
+    rw (lt-ltb (length b) (endAt (headOf b)) (subst (λ (n : ℕ). length b < n) (ends-at b h m w eh em ew) less))
+
+pub two-parts : (b : List ℕ) (h : Head) (m w : ℕ) → h ≡ headOf b → m ≡ marksAt h → w ≡ h .velocities → m + w ≤ length b
+    → lentAnswerOf true (take (length b - (m + w)) (drop (m + w) b)) (take (m + w) b) ≡ gridAnswerOf b
+unfolding gridAnswerOf
+two-parts b h m w eh em ew there =
+    rw (left-from b (m + w), ends-at b h m w eh em ew, le-ltb (length b) (endAt (headOf b)) (subst (λ (n : ℕ). n ≤ length b) (ends-at b h m w eh em ew) there))
 
 -- ---- how long a text is, and where it stands
 

@@ -19,6 +19,22 @@ unsafe extern "C" {
         counts: *mut u32,
         out_of_reach: *mut u32,
     ) -> u32;
+    fn sillfeather_closure_grid(
+        report: *mut u64,
+        profile: u32,
+        sheet: *const u8,
+        sheet_len: usize,
+        list: *const f64,
+        list_len: usize,
+        room: *mut f64,
+        room_len: usize,
+        velocities: *const f64,
+        velocities_len: usize,
+        marks: *const u8,
+        marks_len: usize,
+        grid: *const u8,
+        grid_len: usize,
+    ) -> u32;
     fn grid_found(grid: *const u8, grid_len: usize, lam: f64, phi: f64, east: *mut f64, north: *mut f64, up: *mut f64) -> u8;
     fn grid_found_block(
         grid: *const u8,
@@ -80,6 +96,37 @@ pub fn shift(inverse: bool, sheet: &[u8], list: &[f64], velocities: &[f64], mark
     };
     let (refusal, step) = crate::apart(told);
     (Answer { refusal, step, counts, list }, out_of_reach)
+}
+
+/// A list added to a closure report with a grid; the refusal's number and step.
+pub fn closure(
+    report: &mut [u64; 16],
+    profile: u32,
+    sheet: &[u8],
+    list: &[f64],
+    room: &mut [f64],
+    velocities: &[f64],
+    marks: &[u8],
+    grid: &[u8],
+) -> (u32, u32) {
+    crate::apart(unsafe {
+        sillfeather_closure_grid(
+            report.as_mut_ptr(),
+            profile,
+            sheet.as_ptr(),
+            sheet.len(),
+            list.as_ptr(),
+            list.len(),
+            room.as_mut_ptr(),
+            room.len(),
+            velocities.as_ptr(),
+            velocities.len(),
+            marks.as_ptr(),
+            marks.len(),
+            grid.as_ptr(),
+            grid.len(),
+        )
+    })
 }
 
 pub fn found(grid: &[u8], lam: f64, phi: f64) -> Found {

@@ -10,7 +10,7 @@ use compare::LANDED;
 use reader::closure::{Listed, Report, judge, report};
 use reader::random::Random;
 use reader::sheet::{Badekas, Body, Cart, Deformation, Helmert, Molodensky, NOT_GIVEN, Permtide, Record, Step, bytes_untested};
-use reader::{In, chain, draw, same_numbers};
+use reader::{chain, draw, same_numbers};
 use std::process::ExitCode;
 
 /// What the room holds before, and behind what is written.
@@ -43,7 +43,15 @@ impl Part {
     }
 
     /// Every list of a case, one call each, in rooms of several lengths; then the whole report.
-    fn try_all(&mut self, name: &str, r: &mut Random, sheet: &[u8], lists: &[Listed], profile: bool) -> Report {
+    fn try_all(
+        &mut self,
+        name: &str,
+        r: &mut Random,
+        sheet: &[u8],
+        lists: &[Listed],
+        grid: Option<&[u8]>,
+        profile: bool,
+    ) -> Report {
         self.cases += 1;
         for asked in [false, true] {
             let told = judge(&LANDED, sheet, asked).map_or_else(|e| (e.number, e.step), |_| (0, 0));
@@ -54,18 +62,18 @@ impl Part {
         let mut ours_now = [0; 16];
         let mut kept: Vec<Listed> = Vec::new();
         for listed in lists {
-            let one = report(&LANDED, sheet, std::slice::from_ref(listed), None, profile);
+            let one = report(&LANDED, sheet, std::slice::from_ref(listed), grid, profile);
             let numbers = listed.list.len();
             if numbers > 0 {
                 let (before, mut room) = (ours_now, vec![ROOM; r.below(numbers as u64) as usize]);
-                let short = lend(&mut ours_now, profile as u32, sheet, listed, &mut room);
+                let short = lend(&mut ours_now, profile as u32, sheet, listed, &mut room, grid);
                 let expected = if one.refusal == 0 { (15, 0) } else { (one.refusal, one.step) };
                 if short != expected || ours_now != before || room.iter().any(|x| *x != ROOM) {
                     self.differ(name, "short room", (sheet, listed, short));
                 }
             }
             let (before, mut room) = (ours_now, vec![ROOM; numbers + r.below(6) as usize]);
-            let told = lend(&mut ours_now, profile as u32, sheet, listed, &mut room);
+            let told = lend(&mut ours_now, profile as u32, sheet, listed, &mut room, grid);
             if told != (one.refusal, one.step) {
                 self.differ(name, "answer", (sheet, listed, told));
             }
@@ -77,14 +85,14 @@ impl Part {
             }
             self.accepted += 1;
             let Listed { list, velocities, marks } = listed;
-            let there = chain::shift(&LANDED, false, sheet, list, velocities, marks, None).list;
-            let back = chain::shift(&LANDED, true, sheet, &there, velocities, marks, None).list;
+            let there = chain::shift(&LANDED, false, sheet, list, velocities, marks, grid).list;
+            let back = chain::shift(&LANDED, true, sheet, &there, velocities, marks, grid).list;
             if !same_numbers(&room[..numbers], &back) || room[numbers..].iter().any(|x| *x != ROOM) {
                 self.differ(name, "room", (sheet, listed));
             }
             kept.push(listed.clone());
         }
-        let all = report(&LANDED, sheet, &kept, None, profile);
+        let all = report(&LANDED, sheet, &kept, grid, profile);
         let expected = if kept.is_empty() { [0; 16] } else { numbers(kept.len() as u64, &all) };
         if ours_now != expected {
             self.differ(name, "report", (sheet, &kept, ours_now, expected));
@@ -93,8 +101,19 @@ impl Part {
     }
 }
 
-fn lend(report: &mut [u64; 16], profile: u32, sheet: &[u8], listed: &Listed, room: &mut [f64]) -> (u32, u32) {
-    ours::closure(report, profile, sheet, &listed.list, room, &listed.velocities, &listed.marks)
+fn lend(
+    report: &mut [u64; 16],
+    profile: u32,
+    sheet: &[u8],
+    listed: &Listed,
+    room: &mut [f64],
+    grid: Option<&[u8]>,
+) -> (u32, u32) {
+    let Listed { list, velocities, marks } = listed;
+    match grid {
+        Some(grid) => ours::grid::closure(report, profile, sheet, list, room, velocities, marks, grid),
+        None => ours::closure(report, profile, sheet, list, room, velocities, marks),
+    }
 }
 
 /// The reader's report as the library has it.
@@ -158,7 +177,7 @@ fn edges(name: &str, part: &mut Part, r: &mut Random, met: &mut Met) {
         let tuples = if raw { list.len() / 4 } else { 0 };
         lists.push(Listed { list, velocities: vec![1000.0; 3 * tuples], marks: vec![1; tuples] });
     }
-    let all = part.try_all(name, r, &sheet, &lists, false);
+    let all = part.try_all(name, r, &sheet, &lists, None, false);
     let mut largest_seen = Vec::new();
     for listed in &lists {
         let Listed { list, velocities, marks } = listed;
@@ -197,7 +216,7 @@ fn profiles(name: &str, part: &mut Part, r: &mut Random) {
                     h.t_obs = if mode == 2 { 2010.0 } else { h.t_obs };
                     let mut all = vec![cart.clone(); steps];
                     all[at].body = Body::Helmert(h);
-                    part.try_all(name, r, &bytes_untested(&Record::of(&all)), &[], true);
+                    part.try_all(name, r, &bytes_untested(&Record::of(&all)), &[], None, true);
                 }
             }
             for body in [
@@ -207,7 +226,7 @@ fn profiles(name: &str, part: &mut Part, r: &mut Random) {
             ] {
                 let mut all = vec![cart.clone(); steps];
                 all[at].body = body;
-                part.try_all(name, r, &bytes_untested(&Record::of(&all)), &[], true);
+                part.try_all(name, r, &bytes_untested(&Record::of(&all)), &[], None, true);
             }
         }
     }
@@ -235,9 +254,8 @@ fn main() -> ExitCode {
     let mut parts = names.map(|_| Part::default());
     let mut met = Met::default();
     for _ in 0..cases {
-        // no grid is lent: the library takes none for a report
-        let d = draw::draw_reported(&mut r, &In { a1: false, ..LANDED });
-        parts[0].try_all(names[0], &mut r, &d.sheet, &d.lists, d.profile);
+        let d = draw::draw_reported(&mut r, &LANDED);
+        parts[0].try_all(names[0], &mut r, &d.sheet, &d.lists, d.grid.as_deref(), d.profile);
         edges(names[1], &mut parts[1], &mut r, &mut met);
         unknown(names[3], &mut parts[3], &mut r);
     }
