@@ -22,9 +22,10 @@
  * when its rule is broken and no rule before it in the function's order is.
  *
  * WHAT IS PROVED. For each function, and for every input, that the result and the memory afterwards
- * are what its definition says (crates/sillfeather, crates/reach_entries, crates/closure_entries and
- * crates/grid_entries have the contracts in src/lib.rt, docs/CONFORMANCE.md the way from the documents
- * to them); that it ends; and that it touches nothing but what it is lent.
+ * are what its definition says (crates/sillfeather, crates/badekas_entries, crates/reach_entries,
+ * crates/closure_entries and crates/grid_entries have the contracts in src/lib.rt,
+ * docs/CONFORMANCE.md the way from the documents to them); that it ends; and that it touches nothing
+ * but what it is lent.
  * What is said below of what a call reads, writes, refuses and leaves alone follows from that. The
  * compiler and the machine's binary64 arithmetic are assumed.
  *
@@ -83,13 +84,14 @@ enum {
                                              fit into the sheet; or bodies that do not end at the
                                              sheet's end */
     SILLFEATHER_REFUSED_FIELD = 5,        /* a field of the step's body is outside its rule */
-    SILLFEATHER_REFUSED_CONVENTION = 6,   /* Helmert: rotated, and no convention */
+    SILLFEATHER_REFUSED_CONVENTION = 6,   /* Helmert or ten-parameter: rotated, and no convention */
     SILLFEATHER_REFUSED_EPOCH = 7,        /* Helmert: dynamic, and t_epoch not given */
     SILLFEATHER_REFUSED_DURATION = 8,     /* deformation: neither dt nor t_epoch given */
     SILLFEATHER_REFUSED_LIST = 9,         /* a list not of whole tuples, or of more than 2,048 */
     SILLFEATHER_REFUSED_VELOCITIES = 10,  /* velocities or marks of wrong length; a mark over 1 */
     SILLFEATHER_REFUSED_DEFORMATION = 11, /* a second deformation step */
-    SILLFEATHER_REFUSED_KEPT_SHEET = 12,  /* kept run: the sheet is not one Helmert step */
+    SILLFEATHER_REFUSED_KEPT_SHEET = 12,  /* kept run: the sheet is not one Helmert or ten-parameter
+                                             step */
     SILLFEATHER_REFUSED_KEPT_LENGTH = 13, /* kept run: results or track not as long as the list */
     SILLFEATHER_REFUSED_INDEX = 14,       /* the corrected fix's index is not below the number of
                                              tuples */
@@ -132,7 +134,8 @@ uint32_t sillfeather_shift(uint32_t inverse, const uint8_t *sheet, size_t sheet_
  *   cart forward, and Molodensky both ways: longitude or latitude; abridged also twice the latitude.
  *   permtide: latitude. deformation: longitude or latitude of the place of a fix that is present.
  *   Helmert with exact angles, where it is rotated: the angles of the matrix that the fix uses, in
- *   running mode at the last time, in own-epoch mode at its own; a fix without a time uses none.
+ *   running mode at the last time, in own-epoch mode at its own; a fix without a time uses none. A
+ *   ten-parameter step with exact angles, where it is rotated: its angles, so all tuples or none.
  *   Writes    as sillfeather_shift; and all 16 of out_of_reach, in the sheet's order.
  *   Leaves    on refusal the list as it was, and zeros in counts and out_of_reach. */
 uint32_t sillfeather_shift_reach(uint32_t inverse, const uint8_t *sheet, size_t sheet_len, double *list, size_t list_len, const double *velocities,
@@ -175,7 +178,7 @@ uint32_t sillfeather_shift_grid(uint32_t inverse, const uint8_t *sheet, size_t s
 /* ----- the kept run -------------------------------------------------------------------------- */
 
 /* A run that is kept, to be corrected later: the list stays, and the results and the track go where
- * the caller keeps them. The sheet is one Helmert step.
+ * the caller keeps them. The sheet is one Helmert or ten-parameter step.
  *   Reads     the sheet and the list.
  *   Writes    results: what sillfeather_shift makes of the list. track: four doubles a fix, the
  *             state after it: the last time and the translation.
@@ -365,6 +368,19 @@ enum {
 uint32_t sillfeather_add_deformation(uint8_t *room, size_t room_len, uint64_t *sheet_len, uint32_t inverted, uint32_t flags, uint32_t ellipsoid,
                                      double dt, double t_epoch);
 
+/* Ten-parameter shift, Molodensky-Badekas (IOGP 373-7-2, EPSG methods 1034 and 1061): flags, to be
+ * added up. Conventions are Helmert's. The step is static: forward it takes the pivot off, rotates,
+ * scales, and adds the pivot and then the translation; inverse undoes this in reverse. */
+enum {
+    SILLFEATHER_BADEKAS_EXACT = 1, /* sines and cosines of the angles */
+    SILLFEATHER_BADEKAS_UAS = 2,   /* angles in micro arcseconds */
+    SILLFEATHER_BADEKAS_MM = 4     /* the translation in millimetres; the pivot stays in metres */
+};
+
+/* numbers: translation x, y, z; rotation x, y, z; scale in ppm; pivot x, y, z in metres. */
+uint32_t sillfeather_add_badekas(uint8_t *room, size_t room_len, uint64_t *sheet_len, uint32_t inverted, uint32_t flags, uint32_t convention,
+                                 const double numbers[10]);
+
 /* ----- a damaged sheet ------------------------------------------------------------------------ */
 
 /* Rebuilds a sheet of form 1 whose header or directory was damaged, as by a laptop that cut and
@@ -378,7 +394,7 @@ uint32_t sillfeather_add_deformation(uint8_t *room, size_t room_len, uint64_t *s
  *             *changed, how many such triples those are. `changes_len` counts uint32_t. A room of
  *             SILLFEATHER_SHEET_MAX bytes and SILLFEATHER_CHANGES_MAX words are never too short.
  *   Refuses   19, where it cannot be rebuilt: fewer than 16 bytes; a step count of 0 or over 16; a
- *             directory past the end; a kind outside 1 to 5 or an inverted word over 1; or bodies
+ *             directory past the end; a kind outside 1 to 6 or an inverted word over 1; or bodies
  *             that do not fill the remaining bytes exactly. Then 15, the room shorter than the sheet
  *             or the changes than three words a change. Then as sillfeather_check of the rebuilt
  *             sheet, of which only 5 to 8 and 11 are left, each with its step.

@@ -50,6 +50,10 @@ def deformation(flags=0, ellipsoid=1, dt=NOT_GIVEN, t_epoch=2000.0):
     return 5, body([flags, ellipsoid], [dt, t_epoch])
 
 
+def badekas(flags=0, convention=1, translation=(1.0, 2.0, 3.0), rotation=(0.0, 0.0, 0.0), scale=1.0, pivot=(4e6, 5e6, 6e6)):
+    return 6, body([flags, convention], [*translation, *rotation, scale, *pivot])
+
+
 def sheet(steps, inverted=None):
     """Header, directory, bodies. A step is its kind and its body."""
     at = 16 + 16 * len(steps)
@@ -64,9 +68,10 @@ def sheet(steps, inverted=None):
 TWO = molodensky(flags=2, first=3, second=2, offsets=(-87.0, -98.0, -121.0, 0.0, 0.0))
 MOVING = helmert(flags=6, n0=54.7, n15=1701.0, n18=81.0, n26=0.00011, t_epoch=2010.0)
 BARE = helmert(convention=0, t_epoch=NOT_GIVEN)
-FIVE = [cart(), helmert(n3=1.0), deformation(), permtide(), TWO]
+PIVOTED = badekas(flags=6, rotation=(1.0, -2.0, 3.0))
+SIX = [cart(), helmert(n3=1.0), deformation(), permtide(), TWO, badekas(convention=0)]
 
-GOOD = [[cart()], [permtide()], [deformation()], [molodensky()], [TWO], [MOVING], [BARE], FIVE]
+GOOD = [[cart()], [permtide()], [deformation()], [molodensky()], [TWO], [MOVING], [BARE], [PIVOTED], SIX]
 
 EDGES = [
     [helmert(convention=0)],
@@ -92,6 +97,13 @@ EDGES = [
     [deformation(flags=2)],
     [deformation(flags=3)],
     [deformation(flags=4)],
+    [badekas(flags=7)],
+    [badekas(flags=8)],
+    [badekas(convention=0, rotation=(0.0, 0.0, 1.0))],
+    [badekas(convention=0, rotation=(0.0, 5e-324, -0.0))],
+    [badekas(convention=0, rotation=(5e-300, 0.0, 0.0))],
+    [badekas(convention=3)],
+    [badekas(), badekas(convention=0, rotation=(1.0, 0.0, 0.0)), badekas(flags=8)],
     [cart()] * 16,
     [cart()] * 17,
     [MOVING] * 16,
@@ -169,7 +181,7 @@ def random_sheets(count, r):
         if i % 4 > 1 and n >= 32:
             steps = r.randrange(1, 4)
             struct.pack_into("<4I", s, 0, 1, n, steps, 16)
-            kind = r.randrange(1, 6)
+            kind = r.randrange(1, 7)
             struct.pack_into("<4I", s, 16, kind, r.randrange(2), 16 + 16 * steps, LENGTHS[kind])
         yield bytes(s)
         steps = [r.choice(GOOD)[0] for _ in range(r.randrange(1, 5))]

@@ -1,5 +1,5 @@
 """A second reader of sheets, written from document 01 alone ("The sheet", "Numbers of refusal"),
-with the requests of document 02 that have landed: A13 (deformation has flag 2).
+with the requests of document 02 that have landed: A13 (deformation has flag 2), A4 (kind 6).
 
 check(sheet) gives (number, step) of the refusal that document 01 asks for, (0, 0) for an accepted sheet.
 As a program: sheet_reader.py FILE prints the refusal of a sheet.
@@ -8,7 +8,7 @@ import math
 import struct
 import sys
 
-LENGTHS = {1: 248, 2: 8, 3: 56, 4: 24, 5: 24}
+LENGTHS = {1: 248, 2: 8, 3: 56, 4: 24, 5: 24, 6: 88}
 NOT_GIVEN = 0x7FF8000000000000
 PLUS_ZERO = 0
 
@@ -140,7 +140,17 @@ def deformation(sheet, at):
     return 8 if dt == t_epoch == NOT_GIVEN else 0
 
 
-BODIES = {1: helmert, 2: cart, 3: molodensky, 4: permtide, 5: deformation}
+def badekas(sheet, at):
+    flags, convention = word(sheet, at), word(sheet, at + 4)
+    patterns = bits(sheet, at + 8, 10)
+    if flags > 7 or convention > 2 or not all(map(finite, patterns)):
+        return 5
+    angular = math.pi / ((3.6e9 if flags & 2 else 3.6e3) * 180.0)
+    rotated = any(number(p) * angular != 0 for p in patterns[3:6])
+    return 6 if rotated and convention == 0 else 0
+
+
+BODIES = {1: helmert, 2: cart, 3: molodensky, 4: permtide, 5: deformation, 6: badekas}
 
 
 if __name__ == "__main__":

@@ -16,7 +16,7 @@ import subprocess
 import sys
 
 import damaged
-from damaged import NOT_GIVEN, cart, deformation, helmert, molodensky, permtide, sheet
+from damaged import NOT_GIVEN, badekas, cart, deformation, helmert, molodensky, permtide, sheet
 from sheet_reader import LENGTHS, check
 
 HERE = os.path.join(os.path.dirname(os.path.abspath(__file__)), "shown")
@@ -35,7 +35,7 @@ RULES = {
     8: "neither dt nor t_epoch",
     11: "second deformation step",
 }
-KINDS = {1: "Helmert", 2: "cart", 3: "Molodensky", 4: "permtide", 5: "deformation"}
+KINDS = {1: "Helmert", 2: "cart", 3: "Molodensky", 4: "permtide", 5: "deformation", 6: "Molodensky-Badekas"}
 ELLIPSOIDS = {
     0: "none",
     1: "GRS80, a 6378137 m, 1/f 298.257222101",
@@ -160,7 +160,18 @@ def deformation_lines(s, b):
     yield "  t_epoch: " + time(pattern(s, b + 16))
 
 
-FIELDS = {1: helmert_lines, 2: cart_lines, 3: molodensky_lines, 4: permtide_lines, 5: deformation_lines}
+def badekas_lines(s, b):
+    yield flags(word(s, b), ["exact", "uas", "mm"])
+    yield "  convention: %d %s" % (word(s, b + 4), CONVENTIONS.get(word(s, b + 4), OUTSIDE))
+    length = "mm" if word(s, b) & 4 else "m"
+    angle = "micro-arcsec" if word(s, b) & 2 else "arcsec"
+    for name, at, unit in [("translation", 8, length), ("rotation", 32, angle)]:
+        yield "  %s: %s %s" % (name, " ".join(number(pattern(s, b + at + 8 * i)) for i in range(3)), unit)
+    yield "  scale: %s ppm" % number(pattern(s, b + 56))
+    yield "  pivot: %s m" % " ".join(number(pattern(s, b + 64 + 8 * i)) for i in range(3))
+
+
+FIELDS = {1: helmert_lines, 2: cart_lines, 3: molodensky_lines, 4: permtide_lines, 5: deformation_lines, 6: badekas_lines}
 
 
 def head(s):
@@ -260,6 +271,19 @@ STORED = {
     "molodensky": ED50,
     "molodensky_full": sheet([molodensky()], [1]),
     "permtide": sheet([permtide(ellipsoid=4, to=3, source=1)], [0]),
+    "badekas": sheet(
+        [
+            badekas(
+                convention=2,
+                translation=(-270.933, 115.599, -360.226),
+                rotation=(-5.266, -1.238, 2.381),
+                scale=-5.109,
+                pivot=(2464351.59, -5783466.61, 974809.81),
+            )
+        ],
+        [0],
+    ),
+    "badekas_units": sheet([cart(), badekas(flags=7, rotation=(1.0, -2.0, 0.5))], [0, 1]),
     "deformation": sheet([deformation(flags=1, ellipsoid=5, dt=-2.5)], [0]),
     "refused_1": P1[:-1],
     "refused_1_empty": b"",
@@ -270,7 +294,7 @@ STORED = {
     "refused_3_none": sheet([], []),
     "refused_4_directory_offset": set_word(TWO_STEPS, 12, 32),
     "refused_4_directory_outside": set_word(P1, 8, 16),
-    "refused_4_kind": set_word(TWO_STEPS, 32, 6),
+    "refused_4_kind": set_word(TWO_STEPS, 32, 7),
     "refused_4_inverted": set_word(TWO_STEPS, 36, 2),
     "refused_4_body_offset": set_word(TWO_STEPS, 40, 60),
     "refused_4_body_length": set_word(TWO_STEPS, 28, 9),
@@ -281,6 +305,8 @@ STORED = {
     "refused_5_reserved": set_word(P1, 36, 7),
     "refused_5_ellipsoid": set_word(P1, 32, 6),
     "refused_6": sheet([cart(), helmert(convention=0, n15=1.0)], [0, 0]),
+    "refused_5_badekas_flags": sheet([badekas(flags=8)], [0]),
+    "refused_6_badekas": sheet([badekas(convention=0, rotation=(0.0, 1.0, 0.0))], [0]),
     "refused_7": sheet([helmert(n9=1.0, t_epoch=NOT_GIVEN)], [0]),
     "refused_8": sheet([deformation(t_epoch=NOT_GIVEN)], [0]),
     "refused_11": sheet([deformation(), cart(), deformation()], [0, 0, 0]),

@@ -172,7 +172,7 @@ fn lists(run: &Run, passes: usize) {
     let [mut a, mut b, mut c] = [(); 3].map(|()| run.list.clone());
     let mut d = run.columns.clone();
     let op = run.row.in_the_original().then(|| run.operator());
-    let (now, then) = (present(), before());
+    let (now, then) = (present(), before().filter(|_| run.row.known_before()));
     let told = in_turns(
         passes,
         [

@@ -53,6 +53,18 @@ fn moving(flags: u32, t_obs: f64) -> Body {
     Body::Helmert(Helmert { flags: h.flags | flags, t_obs, ..h })
 }
 
+/// La Canoa to REGVEN, EPSG 1771.
+fn about_a_pivot() -> Body {
+    Body::Badekas {
+        flags: 0,
+        convention: 2,
+        translation: [-270.933, 115.599, -360.226],
+        rotation: [-5.266, -1.238, 2.381],
+        scale: -5.109,
+        pivot: [2464351.59, -5783466.61, 974809.81],
+    }
+}
+
 const EXACT: u32 = 1;
 const OWN_EPOCH: u32 = 8;
 
@@ -64,6 +76,7 @@ pub fn rows() -> Vec<Row> {
     vec![
         columned(2.5, row("Helmert, translation only", named(datums(), "ED50 to WGS 84, mean"), Cartesian, Differ, 1.5)),
         columned(2.5, row("Helmert, static, rotated", named(datums(), "OSGB36 to WGS 84"), Cartesian, Differ, 1.5)),
+        row("Molodensky-Badekas, rotated", about_a_pivot(), Cartesian, Differ, 0.0),
         columned(2.5, row("Helmert, fixed", moving(0, 2024.5), Cartesian, Differ, 1.5)),
         columned(2.3, row("Helmert, running, times differ", moving(0, NOT_GIVEN), Cartesian, Differ, 1.5)),
         columned(2.8, row("Helmert, running, times equal", moving(0, NOT_GIVEN), Cartesian, Equal, 1.5)),
@@ -100,9 +113,14 @@ pub fn chains() -> Vec<(&'static str, Chain)> {
 }
 
 impl Row {
-    /// The crate has no own-epoch mode.
+    /// The crate has no own-epoch mode and no pivot.
     pub fn in_the_original(&self) -> bool {
-        !matches!(&self.body, Body::Helmert(h) if h.flags & OWN_EPOCH != 0)
+        !matches!(&self.body, Body::Helmert(h) if h.flags & OWN_EPOCH != 0) && self.known_before()
+    }
+
+    /// An archive from before request A4 refuses kind 6.
+    pub fn known_before(&self) -> bool {
+        !matches!(self.body, Body::Badekas { .. })
     }
 
     pub fn helmert(&self) -> bool {

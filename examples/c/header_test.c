@@ -163,6 +163,18 @@ static void put_deformation(struct bytes *b) {
     number(b, 2000.0);
 }
 
+static const double BADEKAS[10] = {-270.933, 115.599, -360.226, -5.266, -1.238, 2.381, -5.109, 2464351.59, -5783466.61, 974809.81};
+
+static uint32_t add_badekas(struct room *r, size_t room_len) {
+    return sillfeather_add_badekas(r->at, room_len, &r->len, 1, SILLFEATHER_BADEKAS_EXACT | SILLFEATHER_BADEKAS_MM, SILLFEATHER_COORDINATE_FRAME, BADEKAS);
+}
+
+static void put_badekas(struct bytes *b) {
+    word(b, 5);
+    word(b, 2);
+    for (int i = 0; i < 10; i++) number(b, BADEKAS[i]);
+}
+
 struct kind {
     const char *name;
     uint32_t kind, inverted, length;
@@ -170,11 +182,12 @@ struct kind {
     void (*put)(struct bytes *);
 };
 
-static const struct kind KINDS[5] = {{"Helmert", 1, 1, 248, add_helmert, put_helmert},
+static const struct kind KINDS[6] = {{"Helmert", 1, 1, 248, add_helmert, put_helmert},
                                      {"cart", 2, 0, 8, add_cart, put_cart},
                                      {"Molodensky", 3, 0, 56, add_molodensky, put_molodensky},
                                      {"permtide", 4, 1, 24, add_permtide, put_permtide},
-                                     {"deformation", 5, 0, 24, add_deformation, put_deformation}};
+                                     {"deformation", 5, 0, 24, add_deformation, put_deformation},
+                                     {"Molodensky-Badekas", 6, 1, 88, add_badekas, put_badekas}};
 
 /* the sheet of some kinds, each once, placed by hand */
 static void by_hand(struct bytes *b, const struct kind **kinds, size_t n) {
@@ -194,7 +207,7 @@ static void each_kind_by_hand(void) {
     static struct bytes b;
     static struct room r;
     char what[160];
-    for (int i = 0; i < 5; i++) {
+    for (int i = 0; i < 6; i++) {
         const struct kind *one[1] = {&KINDS[i]};
         by_hand(&b, one, 1);
         fresh(&r);
@@ -217,13 +230,13 @@ static void each_kind_by_hand(void) {
     }
 }
 
-/* every order of two kinds, and all five */
+/* every order of two kinds, and all six */
 static void several_by_hand(void) {
     static struct bytes b;
     static struct room r;
     char what[160];
-    for (int i = 0; i < 5; i++)
-        for (int j = 0; j < 5; j++) {
+    for (int i = 0; i < 6; i++)
+        for (int j = 0; j < 6; j++) {
             if (i == 4 && j == 4) continue; /* a second deformation step */
             const struct kind *two[2] = {&KINDS[i], &KINDS[j]};
             by_hand(&b, two, 2);
@@ -232,14 +245,14 @@ static void several_by_hand(void) {
             int taken = KINDS[i].add(&r, SILLFEATHER_SHEET_MAX) == 0 && KINDS[j].add(&r, SILLFEATHER_SHEET_MAX) == 0;
             holds(what, taken && room_is(&r, &b) && sillfeather_check(r.at, (size_t)r.len) == 0);
         }
-    const struct kind *all[5];
+    const struct kind *all[6];
     fresh(&r);
-    for (int i = 0; i < 5; i++) {
+    for (int i = 0; i < 6; i++) {
         all[i] = &KINDS[i];
-        result_is("all five, one after another", all[i]->add(&r, SILLFEATHER_SHEET_MAX), 0, 0);
+        result_is("all six, one after another", all[i]->add(&r, SILLFEATHER_SHEET_MAX), 0, 0);
     }
-    by_hand(&b, all, 5);
-    holds("all five: the bytes placed by hand", room_is(&r, &b));
+    by_hand(&b, all, 6);
+    holds("all six: the bytes placed by hand", room_is(&r, &b));
 }
 
 static void sixteen_steps(void) {

@@ -119,7 +119,25 @@ fn apply(op: &Op, step: &Step, inverse: bool, job: &Job, list: &mut [f64]) -> us
     {
         return own_epoch(op, inverse, list);
     }
+    if let Body::Badekas { flags, translation, pivot, .. } = step.body {
+        let metres = if flags & 4 != 0 { 0.001 } else { 1.0 };
+        return about_the_pivot(op, translation.map(|t| metres * t), pivot, inverse, list);
+    }
     op.apply(&Lent::new(&job.velocities, &job.marks), &mut Flat(list), inverse)
+}
+
+/// Kind 6, which the crate does not have: its static Helmert with the pivot for a translation, between one difference and one
+/// sum on each axis. Forward the pivot goes off before and the translation comes on after; inverse the other way round.
+fn about_the_pivot(op: &Op, translation: [f64; 3], pivot: [f64; 3], inverse: bool, list: &mut [f64]) -> usize {
+    let (off, on) = if inverse { (translation, pivot) } else { (pivot, translation) };
+    for tuple in list.chunks_exact_mut(4) {
+        (0..3).for_each(|axis| tuple[axis] -= off[axis]);
+    }
+    let count = op.apply(&Lent::new(&[], &[]), &mut Flat(list), inverse);
+    for tuple in list.chunks_exact_mut(4) {
+        (0..3).for_each(|axis| tuple[axis] += on[axis]);
+    }
+    count
 }
 
 /// Own-epoch mode, which the crate does not have: each tuple as a list of its own, where T grows once from the sheet's. A NaN
@@ -170,7 +188,7 @@ fn operator(body: &Body, job: &Job) -> Result<Op, Error> {
 /// The Rust's `new` of a body's kind.
 pub fn new(body: &Body, raw: &RawParameters, ctx: &dyn Context) -> Result<Op, Error> {
     match body {
-        Body::Helmert(_) => crate::helmert::new(raw, ctx),
+        Body::Helmert(_) | Body::Badekas { .. } => crate::helmert::new(raw, ctx),
         Body::Cart { .. } => crate::cart::new(raw, ctx),
         Body::Molodensky { .. } => crate::molodensky::new(raw, ctx),
         Body::Permtide { .. } => crate::permtide::new(raw, ctx),
@@ -206,6 +224,10 @@ pub fn parameters(body: &Body) -> RawParameters {
             raw.texts.insert("grids", "lent".to_string());
             raw.reals.insert("dt", dt);
             raw.reals.insert("t_epoch", t_epoch);
+        }
+        // in metres: the pivot is the translation
+        Body::Badekas { flags, convention, rotation, scale, pivot, .. } => {
+            helmert(&Helmert { flags: flags & 3, convention, translation: pivot, rotation, scale, ..Helmert::blank() }, &mut raw);
         }
     }
     raw

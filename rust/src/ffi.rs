@@ -217,6 +217,15 @@ unsafe extern "C" {
         dt: f64,
         t_epoch: f64,
     ) -> u32;
+    fn sillfeather_add_badekas(
+        room: *mut u8,
+        room_len: usize,
+        sheet_len: *mut u64,
+        inverted: u32,
+        flags: u32,
+        convention: u32,
+        numbers: *const f64,
+    ) -> u32;
     fn sillfeather_rescue(
         damaged: *const u8,
         damaged_len: usize,
@@ -608,6 +617,11 @@ pub fn add_deformation(
 ) -> u32 {
     // SAFETY: a slice with its length, and a length, both borrowed mutably.
     unsafe { sillfeather_add_deformation(room.as_mut_ptr(), room.len(), sheet_len, inverted, flags, ellipsoid, dt, t_epoch) }
+}
+
+pub fn add_badekas(room: &mut [u8], sheet_len: &mut u64, inverted: u32, flags: u32, convention: u32, numbers: &[f64; 10]) -> u32 {
+    // SAFETY: a slice with its length, and a length, both borrowed mutably; ten numbers, only read.
+    unsafe { sillfeather_add_badekas(room.as_mut_ptr(), room.len(), sheet_len, inverted, flags, convention, numbers.as_ptr()) }
 }
 
 /// The answer, and the number of words changed.

@@ -3,7 +3,7 @@ use alloc::vec::Vec;
 
 use crate::{Direction, Refusal, Sheet, lent};
 
-/// A run that is kept: the list, its results and its track, under a sheet of one Helmert step; and the correction of one fix at a time.
+/// A run that is kept: the list, its results and its track, under a sheet of one Helmert or kind 6 step; and the correction of one fix at a time.
 ///
 /// A correction redoes as few fixes as it must. In running mode that is from the corrected fix on, until the carried state is the kept one; in static, fixed and
 /// own-epoch mode it is that fix alone. Afterwards list, results and track are those of a fresh run over the corrected list, bit for bit.
@@ -32,7 +32,7 @@ pub struct KeptRun {
 }
 
 impl KeptRun {
-    /// Runs the sheet over the list and keeps both, the results and the track. Refused: 12 where the sheet is not one Helmert step, 9 over 2,048 fixes.
+    /// Runs the sheet over the list and keeps both, the results and the track. Refused: 12 where the sheet is not one Helmert or kind 6 step, 9 over 2,048 fixes.
     pub fn keep(sheet: &Sheet, direction: Direction, list: &[[f64; 4]]) -> Result<KeptRun, Refusal> {
         let mut run = KeptRun {
             sheet: sheet.clone(),

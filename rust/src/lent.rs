@@ -63,7 +63,7 @@ pub fn shift_columns(
 
 /// A kept run: reads the list, writes its results and, after each fix, the track: the last time and T, four numbers a fix.
 ///
-/// Refused: 1 to 8 and 11 of the sheet, 12 where it is not one Helmert step, 9 of the list, 13 where results or track are not as long as the list.
+/// Refused: 1 to 8 and 11 of the sheet, 12 where it is not one Helmert or kind 6 step, 9 of the list, 13 where results or track are not as long as the list.
 pub fn keep(direction: Direction, sheet: &[u8], list: &[f64], results: &mut [f64], track: &mut [f64]) -> Result<(), Refusal> {
     Refusal::told(ffi::keep(direction.word(), sheet, list, results, track))
 }

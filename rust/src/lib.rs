@@ -1,6 +1,6 @@
 //! Datum shifts for positioning boxes: safe functions over the archive of the proved library Sillfeather.
 //!
-//! A *sheet* holds 1 to 16 steps (Helmert, cart, Molodensky, permanent tide, deformation), as the bytes that boxes hand each other. It is made by a
+//! A *sheet* holds 1 to 16 steps (Helmert, cart, Molodensky, permanent tide, deformation, Molodensky-Badekas), as the bytes that boxes hand each other. It is made by a
 //! [`Sheet::builder`] or checked by [`Sheet::from_bytes`], and shifts a list of fixes in place, forward or inverse. A [`KeptRun`] keeps a list with its
 //! results, and redoes only what the correction of one fix changes. [`Columns`] are a list as a display holds it. [`Sheet::rescue`] mends a sheet whose
 //! header or directory was damaged. A [`Report`] tells what a sheet forward and then inverse leaves of lists of fixes, and [`Sheet::judge`] whether a
@@ -77,7 +77,7 @@ pub use kept::KeptRun;
 pub use refusal::Refusal;
 pub use report::{Largest, Profile, Report};
 pub use sheet::{Change, Counts, Sheet, SheetBuilder};
-pub use steps::{Cart, Convention, Deformation, Ellipsoid, Helmert, Molodensky, Permtide, Step, TideSystem};
+pub use steps::{Badekas, Cart, Convention, Deformation, Ellipsoid, Helmert, Molodensky, Permtide, Step, TideSystem};
 
 /// Which way a sheet runs.
 #[derive(Clone, Copy, Debug, PartialEq, Eq, Hash)]

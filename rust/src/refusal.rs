@@ -54,7 +54,7 @@ pub enum Refusal {
         /// The second one, from 1.
         step: u16,
     },
-    /// 12: a kept run under a sheet that is not of one Helmert step.
+    /// 12: a kept run under a sheet that is not of one Helmert or kind 6 step.
     NotOneHelmert,
     /// 13: a kept run's results or track not as long as the list.
     KeptLength,
@@ -139,7 +139,7 @@ impl Refusal {
             Refusal::List => "the list is not of whole tuples, or has over 2,048",
             Refusal::Velocities => "velocities or marks of the wrong length, or a mark over 1",
             Refusal::SecondDeformation { .. } => "a second deformation step",
-            Refusal::NotOneHelmert => "a kept run takes a sheet of one Helmert step",
+            Refusal::NotOneHelmert => "a kept run takes a sheet of one Helmert or Molodensky-Badekas step",
             Refusal::KeptLength => "results or track are not as long as the list",
             Refusal::Index => "no fix has that index",
             Refusal::Room => "the room is too short for the sheet",

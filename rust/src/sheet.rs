@@ -178,7 +178,7 @@ impl fmt::Display for Change {
 
 /// How many fixes each step counted, in the sheet's order.
 ///
-/// Helmert, Molodensky and permtide count every fix; cart those with no NaN in the result, and inverse none on the axis; deformation those whose mark is 1.
+/// Helmert, Molodensky, permtide and kind 6 count every fix; cart those with no NaN in the result, and inverse none on the axis; deformation those whose mark is 1.
 #[derive(Clone, Copy, Debug, PartialEq, Eq, Hash)]
 pub struct Counts {
     pub(crate) counts: [u32; 16],
@@ -273,6 +273,10 @@ impl SheetBuilder {
             Step::Deformation(d) => {
                 let (dt, t_epoch) = (or_not_given(d.dt), or_not_given(d.t_epoch));
                 ffi::add_deformation(room, length, inverted, d.flags(), d.ellipsoid as u32, dt, t_epoch)
+            }
+            Step::Badekas(b) => {
+                let convention = b.convention.map_or(0, |c| c as u32);
+                ffi::add_badekas(room, length, inverted, b.flags(), convention, &b.numbers())
             }
         }
     }

@@ -1,4 +1,4 @@
-//! The five kinds of step, as a sheet carries them, and the words that their fields take.
+//! The six kinds of step, as a sheet carries them, and the words that their fields take.
 
 /// "Not given" in a sheet.
 pub(crate) const NOT_GIVEN: f64 = f64::from_bits(0x7ff8_0000_0000_0000);
@@ -301,6 +301,80 @@ impl Default for Deformation {
     }
 }
 
+/// Kind 6, the ten-parameter shift about a pivot (Molodensky-Badekas of IOGP 373-7-2): geocentric coordinates, forward ((S·(M·(v - P))) + P) + T, inverse
+/// Mᵀ·(((v - T) - P)/S) + P.
+///
+/// The translation is in metres, or in millimetres with `mm`; the pivot always in metres; angles in arcseconds, or in microarcseconds with `uas`; the scale
+/// in parts in 10⁶. The step is static: no time matters to it.
+///
+/// ```
+/// use sillfeather::{Badekas, Convention, Direction, Sheet};
+/// // La Canoa to REGVEN.
+/// let step = Badekas {
+///     convention: Some(Convention::CoordinateFrame),
+///     translation: [-270.933, 115.599, -360.226],
+///     rotation: [-5.266, -1.238, 2.381],
+///     scale: -5.109,
+///     pivot: [2464351.59, -5783466.61, 974809.81],
+///     ..Badekas::BLANK
+/// };
+/// let sheet = Sheet::builder().step(step).build().unwrap();
+/// let mut fixes = [[2550408.96, -5749912.26, 1054891.11, 2000.0]];
+/// sheet.shift(Direction::Forward, &mut fixes).unwrap();
+/// assert!((fixes[0][0] - 2550138.455).abs() < 1e-3);
+/// ```
+#[derive(Clone, Copy, Debug, PartialEq)]
+pub struct Badekas {
+    /// Flag 1: the exact rotation matrix, not that of small angles.
+    pub exact: bool,
+    /// Flag 2: angles in microarcseconds.
+    pub uas: bool,
+    /// Flag 4: the translation in millimetres.
+    pub mm: bool,
+    /// Which way the angles turn; a rotated step needs one (refusal 6).
+    pub convention: Option<Convention>,
+    /// Translation along x, y, z.
+    pub translation: [f64; 3],
+    /// Rotation about x, y, z.
+    pub rotation: [f64; 3],
+    /// Scale, less one, in parts in 10⁶.
+    pub scale: f64,
+    /// The pivot's x, y, z in metres.
+    pub pivot: [f64; 3],
+}
+
+impl Badekas {
+    /// Zeros, no flag, no convention.
+    pub const BLANK: Badekas = Badekas {
+        exact: false,
+        uas: false,
+        mm: false,
+        convention: None,
+        translation: [0.0; 3],
+        rotation: [0.0; 3],
+        scale: 0.0,
+        pivot: [0.0; 3],
+    };
+
+    /// The flags as the sheet carries them.
+    pub(crate) fn flags(&self) -> u32 {
+        u32::from(self.exact) + 2 * u32::from(self.uas) + 4 * u32::from(self.mm)
+    }
+
+    /// The ten numbers in the order of the body.
+    pub(crate) fn numbers(&self) -> [f64; 10] {
+        let ([tx, ty, tz], [rx, ry, rz], [px, py, pz]) = (self.translation, self.rotation, self.pivot);
+        [tx, ty, tz, rx, ry, rz, self.scale, px, py, pz]
+    }
+}
+
+impl Default for Badekas {
+    /// [`Badekas::BLANK`].
+    fn default() -> Badekas {
+        Badekas::BLANK
+    }
+}
+
 /// A step of any kind.
 // By value, as the sheet has it: a step lives until it is added, and a sheet has at most sixteen.
 #[allow(clippy::large_enum_variant)]
@@ -316,6 +390,8 @@ pub enum Step {
     Permtide(Permtide),
     /// Kind 5.
     Deformation(Deformation),
+    /// Kind 6.
+    Badekas(Badekas),
 }
 
 macro_rules! is_a_step {
@@ -328,7 +404,7 @@ macro_rules! is_a_step {
     };
 }
 
-is_a_step!(Helmert Cart Molodensky Permtide Deformation);
+is_a_step!(Helmert Cart Molodensky Permtide Deformation Badekas);
 
 pub(crate) fn or_not_given(number: Option<f64>) -> f64 {
     number.unwrap_or(NOT_GIVEN)

@@ -30,6 +30,7 @@ uint32_t sillfeather_add_cart(uint8_t *, size_t, uint64_t *, uint32_t, uint32_t)
 uint32_t sillfeather_add_molodensky(uint8_t *, size_t, uint64_t *, uint32_t, uint32_t, uint32_t, uint32_t, const double[5]);
 uint32_t sillfeather_add_permtide(uint8_t *, size_t, uint64_t *, uint32_t, uint32_t, uint32_t, uint32_t, double);
 uint32_t sillfeather_add_deformation(uint8_t *, size_t, uint64_t *, uint32_t, uint32_t, uint32_t, double, double);
+uint32_t sillfeather_add_badekas(uint8_t *, size_t, uint64_t *, uint32_t, uint32_t, uint32_t, const double[10]);
 uint32_t sillfeather_check_profile(const uint8_t *, size_t, uint32_t);
 uint32_t sillfeather_closure(uint64_t[16], uint32_t, const uint8_t *, size_t, const double *, size_t, double *, size_t, const double *, size_t, const uint8_t *, size_t);
 uint32_t sillfeather_rescue(const uint8_t *, size_t, uint8_t *, size_t, uint32_t *, size_t, uint64_t *);

@@ -125,6 +125,32 @@ fn the_track_is_last_time_and_translation() {
 }
 
 #[test]
+fn about_a_pivot_one_fix_is_redone() {
+    let mut random = Random(0x0b4d_e4a5);
+    let step = Badekas {
+        convention: Some(Convention::CoordinateFrame),
+        translation: [-270.933, 115.599, -360.226],
+        rotation: [-5.266, -1.238, 2.381],
+        scale: -5.109,
+        pivot: [2464351.59, -5783466.61, 974809.81],
+        ..Badekas::BLANK
+    };
+    for direction in DIRECTIONS {
+        let sheet = sheet_of(step);
+        let mut list: Vec<[f64; 4]> = (0..20).map(|_| drawn_fix(&mut random)).collect();
+        let mut run = KeptRun::keep(&sheet, direction, &list).unwrap();
+        for index in [0, 19, 7, 7] {
+            list[index] = drawn_fix(&mut random);
+            assert_eq!(run.correct(index, list[index]), Ok(1));
+            let fresh = KeptRun::keep(&sheet, direction, &list).unwrap();
+            assert_same(run.results(), fresh.results());
+            assert_same(run.track(), fresh.track());
+        }
+        assert!(run.track()[0][0].is_nan() && run.track()[0][1..] == step.translation);
+    }
+}
+
+#[test]
 fn an_empty_run() {
     let mut run = KeptRun::keep(&sheet_of(moving()), Direction::Forward, &[]).unwrap();
     assert_eq!(run.correct(0, at(2001.0)), Err(Refusal::Index));

@@ -148,6 +148,46 @@ fn the_comments_sign_is_the_other_direction() {
     }
 }
 
+const LA_CANOA: Badekas = Badekas {
+    convention: Some(Convention::CoordinateFrame),
+    translation: [-270.933, 115.599, -360.226],
+    rotation: [-5.266, -1.238, 2.381],
+    scale: -5.109,
+    pivot: [2464351.59, -5783466.61, 974809.81],
+    ..Badekas::BLANK
+};
+
+#[test]
+fn about_a_pivot() {
+    let start = [[2550408.96, -5749912.26, 1054891.11, 2000.0], [2464351.59, -5783466.61, 974809.81, f64::NAN]];
+    let mut list = start;
+    assert_eq!(sheet_of(LA_CANOA).shift(FORWARD, &mut list).unwrap().steps(), [2]);
+    let there: Vec<u64> = list.as_flattened().iter().map(|x| x.to_bits()).collect();
+    assert_eq!(there[..3], [0x414374bd3a47854d, 0xc155ef09f7b32109, 0x41301742d0a3cc7a]);
+    assert_eq!(there[4..7], [0x4142cca854189374, 0xc1560fcdc0b43958, 0x412dbce32b020c4a]); // the pivot moves by T
+    sheet_of(LA_CANOA).shift(INVERSE, &mut list).unwrap();
+    assert!(list[0].iter().zip(start[0]).all(|(a, b)| (a - b).abs() < 1e-4));
+}
+
+#[test]
+fn a_pivot_of_zeros_is_the_static_helmert_step() {
+    let about = Badekas { pivot: [0.0; 3], ..LA_CANOA };
+    let helmert = Helmert {
+        convention: about.convention,
+        translation: about.translation,
+        rotation: about.rotation,
+        scale: about.scale,
+        ..Helmert::BLANK
+    };
+    for direction in [FORWARD, INVERSE] {
+        let mut list = [[2550408.96, -5749912.26, 1054891.11, 2000.0], [1.0, f64::NAN, 2.0, 0.0], [1e300, 1.0, -1e308, 0.0]];
+        let mut other = list;
+        sheet_of(about).shift(direction, &mut list).unwrap();
+        sheet_of(helmert).shift(direction, &mut other).unwrap();
+        assert_eq!(bits(list.as_flattened()), bits(other.as_flattened()));
+    }
+}
+
 #[test]
 fn refusals_leave_the_list() {
     let (cart, moved) = (sheet_of(Cart::BLANK), deformation());

@@ -6,6 +6,7 @@ use lib.Ieee.{Float, nan}
 use Rattle.tuple.specs.declared.Tuple.{Tuple}
 use Rattle.rotation.specs.declared.Vec3.{Vec3}
 use Rattle.helmert.specs.declared.Helmert.{Helmert as HelmertRecord}
+use Rattle.badekas.specs.declared.Badekas.{Badekas as BadekasRecord}
 use Rattle.molodensky.specs.declared.Molodensky.{Molodensky as MolodenskyRecord}
 
 abbrev pub at : List Float → ℕ → Float
@@ -53,4 +54,16 @@ molodenskyOf flags first second numbers =
       dz = at numbers 2;
       da = at numbers 3;
       df = at numbers 4;
+    }
+
+-- translation, rotation, scale, pivot
+unfoldable pub badekasOf : ℕ → ℕ → List Float → BadekasRecord
+badekasOf flags convention numbers =
+    record {
+      flags = flags;
+      convention = convention;
+      translation = threeAt numbers 0;
+      rotation = threeAt numbers 3;
+      scale = at numbers 6;
+      pivot = threeAt numbers 7;
     }

@@ -6,7 +6,8 @@
 // link.
 ghost use mathlib.Core.Path.{_≡_};
 ghost use Prim.Native.Nat.{_≤_};
-ghost use Rattle.arrays.specs.Arrays.{tupleOf, threeAt, helmertOf, molodenskyOf};
+ghost use Rattle.arrays.specs.Arrays.{tupleOf, threeAt, helmertOf, molodenskyOf, badekasOf};
+use badekas::Badekas;
 use helmert::Helmert;
 use molodensky::Molodensky;
 use rotation::Vec3;
@@ -72,5 +73,30 @@ pub fn molodensky_of(flags: u32, first: u32, second: u32, numbers: &[f64; 5]) ->
         dz: numbers[2],
         da: numbers[3],
         df: numbers[4],
+    }
+}
+
+fn three_of_ten(numbers: &[f64; 10], i: usize) -> Vec3
+    requires { ⌜ i ≤ 7 ⌝ }
+    ensures { λ r. ⌜ r ≡ threeAt (now (numbers .entry)) i ⌝ }
+{
+    Vec3 {
+        x: numbers[i],
+        y: numbers[i + 1],
+        z: numbers[i + 2],
+    }
+}
+
+// The ten numbers in the order of the body: translation, rotation, scale, pivot.
+pub fn badekas_of(flags: u32, convention: u32, numbers: &[f64; 10]) -> Badekas
+    ensures { λ r. ⌜ r ≡ badekasOf flags convention (now (numbers .entry)) ⌝ }
+{
+    Badekas {
+        flags: flags,
+        convention: convention,
+        translation: three_of_ten(numbers, 0),
+        rotation: three_of_ten(numbers, 3),
+        scale: numbers[6],
+        pivot: three_of_ten(numbers, 7),
     }
 }

@@ -1,5 +1,5 @@
--- Known values: the body of document 01's P1, and a Helmert body in which every field differs,
--- read. Assumes nothing.
+-- Known values: the body of document 01's P1, and a Helmert body and one of kind 6 in which every
+-- field differs, read. Assumes nothing.
 use mathlib.Core.Path.{_≡_, refl}
 use mathlib.Core.Bool.{true, false}
 use mathlib.Core.List.{List, [], _∷_, _++_}
@@ -10,9 +10,11 @@ use Rattle.words.specs.Words.{word32, word64, numberAt, oneNanAt}
 use Rattle.rotation.specs.declared.Vec3.{Vec3}
 use Rattle.helmert.specs.declared.Helmert.{Helmert as HelmertRecord}
 use Rattle.helmert.specs.Rules.{fieldsInRuleOf, vectorsFiniteOf, scalesFiniteOf, finite3Of, timeOf}
-use Rattle.bodies.specs.declared.Step.the-variants.{Cart, Helmert}
+use Rattle.badekas.specs.declared.Badekas.{Badekas as BadekasRecord}
+use Rattle.badekas.specs.Rules.{fieldsInRuleOf as badekasInRuleOf}
+use Rattle.bodies.specs.declared.Step.the-variants.{Cart, Badekas, Helmert}
 use Rattle.bodies.specs.Kinds.{lengthOf}
-use Rattle.bodies.specs.Read.{vec3At, helmertOf, cartOf, blankStep, stepOf}
+use Rattle.bodies.specs.Read.{vec3At, helmertOf, cartOf, badekasOf, blankStep, stepOf}
 use Rattle.bodies.specs.Rules.{stepInRule, writtenInRule, bodyInRule}
 
 -- ---- P1's body, the words 1 and 0
@@ -27,9 +29,9 @@ p1-is-grs80 = (refl, refl)
 -- cut by a byte, under another kind, or with a word in the reserved place it is not in rule
 p1-damaged :
     (bodyInRule 2 (1 ∷ 0 ∷ 0 ∷ 0 ∷ 0 ∷ 0 ∷ 0 ∷ []) ≡ false)
-    × (bodyInRule 6 p1 ≡ false)
+    × (bodyInRule 7 p1 ≡ false)
     × (bodyInRule 2 (1 ∷ 0 ∷ 0 ∷ 0 ∷ 1 ∷ 0 ∷ 0 ∷ 0 ∷ []) ≡ false)
-    × (stepOf 6 p1 ≡ blankStep)
+    × (stepOf 7 p1 ≡ blankStep)
 unfolding stepOf lengthOf cartOf word32 bodyInRule writtenInRule stepInRule
 p1-damaged = (refl, refl, refl, refl)
 
@@ -87,3 +89,28 @@ distinct-read = refl
 distinct-in-rule : bodyInRule 1 body ≡ true
 unfolding body bodyInRule writtenInRule stepInRule oneNanAt fieldsInRuleOf vectorsFiniteOf scalesFiniteOf finite3Of timeOf stepOf lengthOf helmertOf vec3At numberAt word64 word32 ofBits ofFields isNan
 distinct-in-rule = refl
+
+-- ---- a body of kind 6 with every field distinct
+
+unfoldable pub distinct6 : BadekasRecord
+distinct6 =
+    record {
+      flags = 7;
+      convention = 1;
+      translation = three 1 2 3;
+      rotation = three 4 5 6;
+      scale = number 7;
+      pivot = three 8 9 10;
+    }
+
+unfoldable pub body6 : List ℕ
+body6 =
+    (7 ∷ 0 ∷ 0 ∷ 0 ∷ 1 ∷ 0 ∷ 0 ∷ 0 ∷ [])
+    ++ eight 1 ++ eight 2 ++ eight 3
+    ++ eight 4 ++ eight 5 ++ eight 6
+    ++ eight 7
+    ++ eight 8 ++ eight 9 ++ eight 10
+
+distinct6-read : (stepOf 6 body6 ≡ Badekas distinct6) × (bodyInRule 6 body6 ≡ true)
+unfolding distinct6 body6 bodyInRule writtenInRule stepInRule badekasInRuleOf finite3Of stepOf lengthOf badekasOf vec3At numberAt word64 word32 ofBits ofFields
+distinct6-read = (refl, refl)

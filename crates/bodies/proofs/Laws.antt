@@ -7,9 +7,9 @@ use mathlib.Core.List.{List}
 use lib.Dec.{T, eqb}
 use lib.ListN.{length}
 use borrow.Author.Tests.{eq-eqb, eqb-true}
-use Rattle.bodies.specs.declared.Step.the-variants.{Cart, Permtide, Deformation, Molodensky, Helmert}
+use Rattle.bodies.specs.declared.Step.the-variants.{Cart, Permtide, Deformation, Molodensky, Badekas, Helmert}
 use Rattle.bodies.specs.Kinds.{lengthOf, kindOf}
-use Rattle.bodies.specs.Read.{helmertOf, cartOf, molodenskyOf, permtideOf, deformationOf, helmertIn, cartIn, molodenskyIn, permtideIn, deformationIn, stepOf}
+use Rattle.bodies.specs.Read.{helmertOf, cartOf, molodenskyOf, permtideOf, deformationOf, badekasOf, helmertIn, cartIn, molodenskyIn, permtideIn, deformationIn, badekasIn, stepOf}
 use Rattle.bodies.specs.Rules.{stepInRule, writtenInRule, bodyInRule, lacksConvention, lacksEpoch, lacksDuration, lowestBroken}
 
 -- ---- two tests
@@ -24,11 +24,11 @@ right false b h = absurd (subst T (sym h) tt)
 
 -- ---- a body in rule
 
--- a kind is one of the five, or none of them
-pub by-kind : (P : ℕ → Type 0) (k : ℕ) → P 1 → P 2 → P 3 → P 4 → P 5
-    → (eqb k 1 ≡ false → eqb k 2 ≡ false → eqb k 3 ≡ false → eqb k 4 ≡ false → eqb k 5 ≡ false → P k) → P k
-by-kind P k p1 p2 p3 p4 p5 other =
-    is 1 p1 (λ e1. is 2 p2 (λ e2. is 3 p3 (λ e3. is 4 p4 (λ e4. is 5 p5 (λ e5. other e1 e2 e3 e4 e5)))))
+-- a kind is one of the six, or none of them
+pub by-kind : (P : ℕ → Type 0) (k : ℕ) → P 1 → P 2 → P 3 → P 4 → P 5 → P 6
+    → (eqb k 1 ≡ false → eqb k 2 ≡ false → eqb k 3 ≡ false → eqb k 4 ≡ false → eqb k 5 ≡ false → eqb k 6 ≡ false → P k) → P k
+by-kind P k p1 p2 p3 p4 p5 p6 other =
+    is 1 p1 (λ e1. is 2 p2 (λ e2. is 3 p3 (λ e3. is 4 p4 (λ e4. is 5 p5 (λ e5. is 6 p6 (λ e6. other e1 e2 e3 e4 e5 e6))))))
   where
     is : (n : ℕ) → P n → (eqb k n ≡ false → P k) → P k
     is n p q = by (eqb k n) refl
@@ -74,15 +74,19 @@ pub reads-deformation : (b : List ℕ) → length b ≡ 24 → stepOf 5 b ≡ De
 unfolding stepOf lengthOf
 reads-deformation b e = rw (eq-eqb (length b) 24 e)
 
+pub reads-badekas : (b : List ℕ) → length b ≡ 88 → stepOf 6 b ≡ Badekas (badekasOf b)
+unfolding stepOf lengthOf
+reads-badekas b e = rw (eq-eqb (length b) 88 e)
+
 -- a body of no kind is not in rule
-pub no-kind-in-rule : (k : ℕ) (b : List ℕ) → eqb k 1 ≡ false → eqb k 2 ≡ false → eqb k 3 ≡ false → eqb k 4 ≡ false → eqb k 5 ≡ false
+pub no-kind-in-rule : (k : ℕ) (b : List ℕ) → eqb k 1 ≡ false → eqb k 2 ≡ false → eqb k 3 ≡ false → eqb k 4 ≡ false → eqb k 5 ≡ false → eqb k 6 ≡ false
     → writtenInRule k b ≡ false
 unfolding writtenInRule
-no-kind-in-rule k b e1 e2 e3 e4 e5 = rw (e1, e2, e3, e4, e5)
+no-kind-in-rule k b e1 e2 e3 e4 e5 e6 = rw (e1, e2, e3, e4, e5, e6)
 
--- a body in rule is of one of the five kinds
-pub none : (k : ℕ) (b : List ℕ) → bodyInRule k b ≡ true → eqb k 1 ≡ false → eqb k 2 ≡ false → eqb k 3 ≡ false → eqb k 4 ≡ false → eqb k 5 ≡ false → ⊥
-none k b h e1 e2 e3 e4 e5 = subst T (sym (body-written-in-rule k b h) ∙ no-kind-in-rule k b e1 e2 e3 e4 e5) tt
+-- a body in rule is of one of the six kinds
+pub none : (k : ℕ) (b : List ℕ) → bodyInRule k b ≡ true → eqb k 1 ≡ false → eqb k 2 ≡ false → eqb k 3 ≡ false → eqb k 4 ≡ false → eqb k 5 ≡ false → eqb k 6 ≡ false → ⊥
+none k b h e1 e2 e3 e4 e5 e6 = subst T (sym (body-written-in-rule k b h) ∙ no-kind-in-rule k b e1 e2 e3 e4 e5 e6) tt
 
 -- a body in rule is read as a step of its kind
 pub kind-after-read : (k : ℕ) (b : List ℕ) → bodyInRule k b ≡ true → kindOf (stepOf k b) ≡ k
@@ -96,7 +100,8 @@ kind-after-read k b =
     (λ h. rw (reads-molodensky b (length-in-rule 3 b h)))
     (λ h. rw (reads-permtide b (length-in-rule 4 b h)))
     (λ h. rw (reads-deformation b (length-in-rule 5 b h)))
-    (λ e1 e2 e3 e4 e5 h. absurd (none k b h e1 e2 e3 e4 e5))
+    (λ h. rw (reads-badekas b (length-in-rule 6 b h)))
+    (λ e1 e2 e3 e4 e5 e6 h. absurd (none k b h e1 e2 e3 e4 e5 e6))
 
 -- a reader of one kind gives what the body holds
 pub whole-helmert : (b : List ℕ) → length b ≡ 248 → helmertIn b ≡ helmertOf b
@@ -119,6 +124,10 @@ pub whole-deformation : (b : List ℕ) → length b ≡ 24 → deformationIn b �
 unfolding deformationIn
 whole-deformation b e = rw (eq-eqb (length b) 24 e)
 
+pub whole-badekas : (b : List ℕ) → length b ≡ 88 → badekasIn b ≡ badekasOf b
+unfolding badekasIn
+whole-badekas b e = rw (eq-eqb (length b) 88 e)
+
 -- ---- the lowest rule
 
 not-five : (five six seven eight : Bool) → five ≡ not (eqb (cond five (cond six 6 (cond seven 7 (cond eight 8 0))) 5) 5)
@@ -134,11 +143,11 @@ unfolding lowestBroken
 five-lowest k b = not-five (bodyInRule k b) (lacksConvention (stepOf k b)) (lacksEpoch (stepOf k b)) (lacksDuration (stepOf k b))
 
 -- a body of no kind breaks 5
-pub no-kind-lowest : (k : ℕ) (b : List ℕ) → eqb k 1 ≡ false → eqb k 2 ≡ false → eqb k 3 ≡ false → eqb k 4 ≡ false → eqb k 5 ≡ false
+pub no-kind-lowest : (k : ℕ) (b : List ℕ) → eqb k 1 ≡ false → eqb k 2 ≡ false → eqb k 3 ≡ false → eqb k 4 ≡ false → eqb k 5 ≡ false → eqb k 6 ≡ false
     → lowestBroken k b ≡ 5
 unfolding lowestBroken
-no-kind-lowest k b e1 e2 e3 e4 e5 = by (bodyInRule k b) refl _
+no-kind-lowest k b e1 e2 e3 e4 e5 e6 = by (bodyInRule k b) refl _
   where
     by : (t : Bool) → bodyInRule k b ≡ t → (n : ℕ) → cond t n 5 ≡ 5
-    by true e n = absurd (none k b e e1 e2 e3 e4 e5)
+    by true e n = absurd (none k b e e1 e2 e3 e4 e5 e6)
     by false e n = refl

@@ -1,7 +1,7 @@
 -- Rule 5 on a body, and rules 5 to 8 on a step. What a record's fields may be is said in the crate
 -- of its kind; here stands what only the bytes show.
 use Prim.Native.Nat.{ℕ}
-use mathlib.Core.Bool.{Bool, false, cond, _&&_}
+use mathlib.Core.Bool.{Bool, true, false, cond, _&&_}
 use mathlib.Core.List.{List}
 use lib.Dec.{eqb}
 use lib.ListN.{length}
@@ -11,8 +11,9 @@ use Rattle.cart.specs.Record.{inRuleOf as cartInRuleOf}
 use Rattle.molodensky.specs.Record.{inRuleOf as molodenskyInRuleOf}
 use Rattle.permtide.specs.Record.{inRuleOf as permtideInRuleOf}
 use Rattle.deformation.specs.Record.{inRuleOf as deformationInRuleOf, neitherOf}
+use Rattle.badekas.specs.Rules.{fieldsInRuleOf as badekasInRuleOf, lacksConventionOf as badekasLacksConventionOf}
 use Rattle.bodies.specs.declared.Step.{Step}
-use Rattle.bodies.specs.declared.Step.the-variants.{Cart, Permtide, Deformation, Molodensky, Helmert}
+use Rattle.bodies.specs.declared.Step.the-variants.{Cart, Permtide, Deformation, Molodensky, Badekas, Helmert}
 use Rattle.bodies.specs.Kinds.{byKind, lengthOf}
 use Rattle.bodies.specs.Read.{stepOf}
 
@@ -25,6 +26,7 @@ stepInRule (Cart r) = cartInRuleOf r
 stepInRule (Molodensky r) = molodenskyInRuleOf r
 stepInRule (Permtide r) = permtideInRuleOf r
 stepInRule (Deformation r) = deformationInRuleOf r
+stepInRule (Badekas r) = badekasInRuleOf r
 
 -- rule 6, "rotated, convention none": broken
 unfoldable pub lacksConvention : Step → Bool
@@ -33,6 +35,7 @@ lacksConvention (Cart r) = false
 lacksConvention (Molodensky r) = false
 lacksConvention (Permtide r) = false
 lacksConvention (Deformation r) = false
+lacksConvention (Badekas r) = badekasLacksConventionOf r
 
 -- rule 7, "dynamic, t_epoch not given": broken
 unfoldable pub lacksEpoch : Step → Bool
@@ -41,6 +44,7 @@ lacksEpoch (Cart r) = false
 lacksEpoch (Molodensky r) = false
 lacksEpoch (Permtide r) = false
 lacksEpoch (Deformation r) = false
+lacksEpoch (Badekas r) = false
 
 -- rule 8, "neither dt nor t_epoch": broken
 unfoldable pub lacksDuration : Step → Bool
@@ -49,11 +53,12 @@ lacksDuration (Cart r) = false
 lacksDuration (Molodensky r) = false
 lacksDuration (Permtide r) = false
 lacksDuration (Deformation r) = neitherOf r
+lacksDuration (Badekas r) = false
 
 -- ---- a body
 
 -- Reserved words are 0, and a number that may be "not given" is written so in one way only:
--- Helmert's t_epoch and t_obs, deformation's dt and t_epoch.
+-- Helmert's t_epoch and t_obs, deformation's dt and t_epoch. Kind 6 has neither.
 unfoldable pub writtenInRule : ℕ → List ℕ → Bool
 writtenInRule kind b =
     byKind kind
@@ -62,6 +67,7 @@ writtenInRule kind b =
     (eqb (word32 b 12) 0)
     (eqb (word32 b 12) 0)
     (oneNanAt b 8 && oneNanAt b 16)
+    true
     false
 
 -- rule 5 on the bytes of a body: its length is its kind's, it is written by the rule, and so are

@@ -12,8 +12,9 @@ ghost use mathlib.Core.Path.{_≡_};
 ghost use Prim.Native.Nat.{_+_, _≤_};
 ghost use lib.ListN.{length};
 ghost use Rattle.bodies.specs.Kinds.{kindOf, lengthOf};
-ghost use Rattle.bodies.specs.Read.{vec3At, helmertOf, cartOf, molodenskyOf, permtideOf, deformationOf, helmertIn, cartIn, molodenskyIn, permtideIn, deformationIn, blankStep, stepOf};
+ghost use Rattle.bodies.specs.Read.{vec3At, helmertOf, cartOf, molodenskyOf, permtideOf, deformationOf, badekasOf, helmertIn, cartIn, molodenskyIn, permtideIn, deformationIn, badekasIn, blankStep, stepOf};
 ghost use Rattle.bodies.specs.Rules.{stepInRule, lacksConvention, lacksEpoch, lacksDuration, bodyInRule, lowestBroken};
+use badekas::Badekas;
 use cart::Cart;
 use deformation::Deformation;
 use helmert::Helmert;
@@ -27,6 +28,7 @@ pub enum Step {
     Permtide(Permtide),
     Deformation(Deformation),
     Molodensky(Molodensky),
+    Badekas(Badekas),
     Helmert(Helmert),
 }
 
@@ -41,6 +43,7 @@ pub fn kind_of(step: Step) -> u32
         Step::Molodensky(_) => 3,
         Step::Permtide(_) => 4,
         Step::Deformation(_) => 5,
+        Step::Badekas(_) => 6,
     }
 }
 
@@ -62,6 +65,9 @@ pub fn length_of(kind: u32) -> u32
     }
     if kind == 5 {
         return 24;
+    }
+    if kind == 6 {
+        return 88;
     }
     0
 }
@@ -166,6 +172,21 @@ fn deformation_fields(b: &[u8]) -> Deformation
     }
 }
 
+fn badekas_fields(b: &[u8]) -> Badekas
+    requires { ⌜ length (now b) ≡ 88 ⌝ }
+    ensures { λ r. ⌜ r ≡ badekasOf (now (b .entry)) ⌝ }
+{
+    let body = &b[..88];
+    Badekas {
+        flags: words::read32(body, 0),
+        convention: words::read32(body, 4),
+        translation: read_vec3(body, 8),
+        rotation: read_vec3(body, 32),
+        scale: words::number(body, 56),
+        pivot: read_vec3(body, 64),
+    }
+}
+
 // The record of a body whose kind is known, with no step made of it. A body of another length than
 // its kind's reads as the blank record.
 pub fn read_helmert(b: &[u8]) -> Helmert
@@ -213,6 +234,15 @@ pub fn read_deformation(b: &[u8]) -> Deformation
     Deformation::blank()
 }
 
+pub fn read_badekas(b: &[u8]) -> Badekas
+    ensures { λ r. ⌜ r ≡ badekasIn (now (b .entry)) ⌝ }
+{
+    if b.len() == 88 {
+        return badekas_fields(b);
+    }
+    Badekas::blank()
+}
+
 // The step that a body holds. A body of another length than its kind's, or of no kind, reads as the
 // blank cart step.
 pub fn read_body(kind: u32, b: &[u8]) -> Step
@@ -248,6 +278,12 @@ pub fn read_body(kind: u32, b: &[u8]) -> Step
         }
         return blank_step();
     }
+    if kind == 6 {
+        if b.len() == 88 {
+            return Step::Badekas(badekas_fields(b));
+        }
+        return blank_step();
+    }
     blank_step()
 }
 
@@ -263,6 +299,7 @@ pub fn step_in_rule(step: Step) -> bool
         Step::Molodensky(r) => r.in_rule(),
         Step::Permtide(r) => r.in_rule(),
         Step::Deformation(r) => r.in_rule(),
+        Step::Badekas(r) => r.fields_in_rule(),
     }
 }
 
@@ -276,6 +313,7 @@ pub fn lacks_convention(step: Step) -> bool
         Step::Molodensky(_) => false,
         Step::Permtide(_) => false,
         Step::Deformation(_) => false,
+        Step::Badekas(r) => r.lacks_convention(),
     }
 }
 
@@ -289,6 +327,7 @@ pub fn lacks_epoch(step: Step) -> bool
         Step::Molodensky(_) => false,
         Step::Permtide(_) => false,
         Step::Deformation(_) => false,
+        Step::Badekas(_) => false,
     }
 }
 
@@ -302,6 +341,7 @@ pub fn lacks_duration(step: Step) -> bool
         Step::Molodensky(_) => false,
         Step::Permtide(_) => false,
         Step::Deformation(r) => r.lacks_duration(),
+        Step::Badekas(_) => false,
     }
 }
 
@@ -383,6 +423,22 @@ fn broken_deformation(b: &[u8]) -> u32
     0
 }
 
+fn broken_badekas(b: &[u8]) -> u32
+    ensures { λ r. ⌜ r ≡ lowestBroken 6 (now (b .entry)) ⌝ }
+{
+    if b.len() != 88 {
+        return 5;
+    }
+    let r = badekas_fields(b);
+    if !r.fields_in_rule() {
+        return 5;
+    }
+    if r.lacks_convention() {
+        return 6;
+    }
+    0
+}
+
 pub fn lowest_broken(kind: u32, b: &[u8]) -> u32
     ensures { λ r. ⌜ r ≡ lowestBroken kind (now (b .entry)) ⌝ }
 {
@@ -400,6 +456,9 @@ pub fn lowest_broken(kind: u32, b: &[u8]) -> u32
     }
     if kind == 5 {
         return broken_deformation(b);
+    }
+    if kind == 6 {
+        return broken_badekas(b);
     }
     5
 }

@@ -24,15 +24,17 @@ use Rattle.molodensky.specs.Record.{finiteOf, secondInRuleOf, figureInRuleOf, i
 use Rattle.permtide.specs.declared.Permtide.{Permtide as PermtideRecord}
 use Rattle.permtide.specs.Record.{systemOf, inRuleOf as permtideInRuleOf}
 use Rattle.deformation.specs.declared.Deformation.{Deformation as DeformationRecord}
+use Rattle.badekas.specs.declared.Badekas.{Badekas as BadekasRecord}
+use Rattle.badekas.specs.Rules.{fieldsInRuleOf as badekasInRuleOf}
 use Rattle.bodies.specs.declared.Step.{Step}
-use Rattle.bodies.specs.declared.Step.the-variants.{Cart, Permtide, Deformation, Molodensky, Helmert}
+use Rattle.bodies.specs.declared.Step.the-variants.{Cart, Permtide, Deformation, Molodensky, Badekas, Helmert}
 use Rattle.bodies.specs.Kinds.{lengthOf, kindOf}
-use Rattle.bodies.specs.Read.{vec3At, helmertOf, cartOf, molodenskyOf, permtideOf, deformationOf, stepOf}
+use Rattle.bodies.specs.Read.{vec3At, helmertOf, cartOf, molodenskyOf, permtideOf, deformationOf, badekasOf, stepOf}
 use Rattle.bodies.specs.Rules.{stepInRule, writtenInRule, bodyInRule}
-use Rattle.bodies.proofs.Laws.{left, right, by-kind, length-in-rule, body-written-in-rule, step-of-body-in-rule, reads-helmert, reads-cart, reads-molodensky, reads-permtide, reads-deformation, none}
-use Rattle.body_writer.specs.Write.{leVec3, leSeries, helmertBytes, cartBytes, molodenskyBytes, permtideBytes, deformationBytes, bytesOf}
-use Rattle.bodies.specs.Held.{Held, Held3, HeldHelmert, HeldCart, HeldMolodensky, HeldPermtide, HeldDeformation}
-use Rattle.body_writer.proofs.Lengths.{length-helmert, length-cart, length-molodensky, length-permtide, length-deformation}
+use Rattle.bodies.proofs.Laws.{left, right, by-kind, length-in-rule, body-written-in-rule, step-of-body-in-rule, reads-helmert, reads-cart, reads-molodensky, reads-permtide, reads-deformation, reads-badekas, none}
+use Rattle.body_writer.specs.Write.{leVec3, leSeries, helmertBytes, cartBytes, molodenskyBytes, permtideBytes, deformationBytes, badekasBytes, bytesOf}
+use Rattle.bodies.specs.Held.{Held, Held3, HeldHelmert, HeldCart, HeldMolodensky, HeldPermtide, HeldDeformation, HeldBadekas}
+use Rattle.body_writer.proofs.Lengths.{length-helmert, length-cart, length-molodensky, length-permtide, length-deformation, length-badekas}
 
 -- a body has its kind's length
 pub bytes-length : (st : Step) → length (bytesOf st) ≡ lengthOf (kindOf st)
@@ -42,6 +44,7 @@ bytes-length (Cart r) = length-cart r
 bytes-length (Molodensky r) = length-molodensky r
 bytes-length (Permtide r) = length-permtide r
 bytes-length (Deformation r) = length-deformation r
+bytes-length (Badekas r) = length-badekas r
 
 -- ---- read after write, a kind at a time: each field stands where the reader looks for it
 
@@ -111,6 +114,17 @@ helmert-back h held =
     let obs : numberAt (helmertBytes h) 240 ≡ h .«t_obs» = number-back (h .«t_obs») (held .t-obs-held) in
     rw (flags, convention, translation, xyz, rate, dxyz, rotation, rxyz, turn, drxyz, scale, s, growth, ds, epoch, obs)
 
+pub badekas-back : (r : BadekasRecord) → HeldBadekas r → badekasOf (badekasBytes r) ≡ r
+unfolding badekasOf badekasBytes vec3At leVec3 numberAt leNumber word64 le64 word32 le32
+badekas-back r held =
+    let flags : word32 (badekasBytes r) 0 ≡ r .flags = word-back (r .flags) (held .flags-held) in
+    let convention : word32 (badekasBytes r) 4 ≡ r .convention = word-back (r .convention) (held .convention-held) in
+    let translation : vec3At (badekasBytes r) 8 ≡ r .translation = vec3-back (r .translation) (held .translation-held) in
+    let rotation : vec3At (badekasBytes r) 32 ≡ r .rotation = vec3-back (r .rotation) (held .rotation-held) in
+    let scale : numberAt (badekasBytes r) 56 ≡ r .scale = number-back (r .scale) (held .scale-held) in
+    let pivot : vec3At (badekasBytes r) 64 ≡ r .pivot = vec3-back (r .pivot) (held .pivot-held) in
+    rw (flags, convention, translation, rotation, scale, pivot)
+
 -- ---- read after write
 
 -- a step's record, written as its body and read by its kind, is the same record
@@ -121,6 +135,7 @@ read-after-write (Cart r) held = rw (eq-eqb (length (cartBytes r)) 8 (length-car
 read-after-write (Molodensky r) held = rw (eq-eqb (length (molodenskyBytes r)) 56 (length-molodensky r), molodensky-back r held)
 read-after-write (Permtide r) held = rw (eq-eqb (length (permtideBytes r)) 24 (length-permtide r), permtide-back r held)
 read-after-write (Deformation r) held = rw (eq-eqb (length (deformationBytes r)) 24 (length-deformation r), deformation-back r held)
+read-after-write (Badekas r) held = rw (eq-eqb (length (badekasBytes r)) 88 (length-badekas r), badekas-back r held)
 
 -- what is written is written by the rule
 pub written-in-rule : (st : Step) → Held st → writtenInRule (kindOf st) (bytesOf st) ≡ true
@@ -136,6 +151,7 @@ written-in-rule (Deformation r) held =
     let dt : oneNanAt (deformationBytes r) 8 ≡ true = number-in-rule (r .dt) (held .dt-held) in
     let epoch : oneNanAt (deformationBytes r) 16 ≡ true = number-in-rule (r .epoch) (held .epoch-held) in
     rw (dt, epoch)
+written-in-rule (Badekas r) held = refl
 
 -- a record in rule is written as a body in rule
 pub in-rule-after-write : (st : Step) → Held st → stepInRule st ≡ true → bodyInRule (kindOf st) (bytesOf st) ≡ true
@@ -376,6 +392,38 @@ helmert-kept b bytes e n f =
     )
     (take-all 248 b (omega arith))
 
+badekas-kept : (b : List ℕ) → Bytes b → length b ≡ 88 → badekasInRuleOf (badekasOf b) ≡ true → badekasBytes (badekasOf b) ≡ b
+unfolding badekasBytes badekasOf badekasInRuleOf
+badekas-kept b bytes e f =
+    let h4 : 4 ≤ length b = omega arith in
+    let h8 : 8 ≤ length b = omega arith in
+    let h32 : 32 ≤ length b = omega arith in
+    let h56 : 56 ≤ length b = omega arith in
+    let h64 : 64 ≤ length b = omega arith in
+    let h88 : 88 ≤ length b = omega arith in
+    let r =
+    all5
+    (ltb (word32 b 0) 8 && ltb (word32 b 4) 3)
+    (finite3Of (vec3At b 8))
+    (finite3Of (vec3At b 32))
+    (finite (numberAt b 56))
+    (finite3Of (vec3At b 64))
+    f in
+    rw (
+      le32-word32 b 0 bytes h4,
+      le32-word32 b 4 bytes h8,
+      vec3-kept b 8 bytes h32 (r .1),
+      vec3-kept b 32 bytes h56 (r .2),
+      number-kept b 56 bytes h64 (r .3),
+      vec3-kept b 64 bytes h88 (r .4),
+      ← take-add 4 4 b,
+      ← take-add 8 24 b,
+      ← take-add 32 24 b,
+      ← take-add 56 8 b,
+      ← take-add 64 24 b,
+    )
+    (take-all 88 b (omega arith))
+
 -- ---- write after read
 
 second-of : (a b c : Bool) → cond a (cond b c false) false ≡ true → b ≡ true
@@ -424,6 +472,13 @@ module _ (b : List ℕ) (bytes : Bytes b) where
       let e : length b ≡ 24 = length-in-rule 5 b h in
       ap bytesOf (reads-deformation b e) ∙ deformation-kept b bytes e (body-written-in-rule 5 b h)
 
+  badekas-again : bodyInRule 6 b ≡ true → bytesOf (stepOf 6 b) ≡ b
+  unfolding bytesOf stepInRule writtenInRule lengthOf
+  badekas-again h =
+      let e : length b ≡ 88 = length-in-rule 6 b h in
+      let s = reads-badekas b e in
+      ap bytesOf s ∙ badekas-kept b bytes e (ap stepInRule (sym s) ∙ step-of-body-in-rule 6 b h)
+
 -- a body in rule, read by its kind and written, is the same bytes
 pub write-after-read : (k : ℕ) (b : List ℕ) → Bytes b → bodyInRule k b ≡ true → bytesOf (stepOf k b) ≡ b
 write-after-read k b bytes =
@@ -435,4 +490,5 @@ write-after-read k b bytes =
     (molodensky-again b bytes)
     (permtide-again b bytes)
     (deformation-again b bytes)
-    (λ e1 e2 e3 e4 e5 h. absurd (none k b h e1 e2 e3 e4 e5))
+    (badekas-again b bytes)
+    (λ e1 e2 e3 e4 e5 e6 h. absurd (none k b h e1 e2 e3 e4 e5 e6))

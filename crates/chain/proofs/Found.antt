@@ -28,7 +28,7 @@ use Rattle.deformation_grid.specs.Gridded.{foundFor, griddedTurns}
 use Rattle.deformation_grid.specs.Found.{velocitiesFound, marksFound}
 use Rattle.deformation_grid.proofs.Laws.{grid-run-is-lent-run}
 use Rattle.bodies.specs.declared.Step.{Step}
-use Rattle.bodies.specs.declared.Step.the-variants.{Cart, Permtide, Deformation, Molodensky, Helmert}
+use Rattle.bodies.specs.declared.Step.the-variants.{Cart, Permtide, Deformation, Molodensky, Badekas, Helmert}
 use Rattle.sheet.specs.declared.Entry.{Entry}
 use Rattle.sheet.proofs.Order.{neither}
 use Rattle.tally.specs.declared.Tally.{Tally}
@@ -78,6 +78,7 @@ same-pass a b inverse (Permtide r) h = refl
 same-pass a b inverse (Deformation r) h = absurd (true≢false h)
 same-pass a b inverse (Molodensky r) h = refl
 same-pass a b inverse (Helmert r) h = refl
+same-pass a b inverse (Badekas r) h = refl
 
 module _ (a b : Lent) (inverse : Bool) (e : Entry) (l : List Float) (h : isDeformation (e .step) ≡ false) where
   same-list : stepListOf inverse a e l ≡ stepListOf inverse b e l
@@ -101,6 +102,7 @@ module _ (velocities : List Float) (marks grid : List ℕ) (some : eqb (length g
   ran-found inverse (Deformation r) l h = rw some (grid-run-is-lent-run (motionOf r) (directedOf r inverse) grid noState l .0)
   ran-found inverse (Molodensky r) l h = absurd (true≢false (sym h))
   ran-found inverse (Helmert r) l h = absurd (true≢false (sym h))
+  ran-found inverse (Badekas r) l h = absurd (true≢false (sym h))
 
   tally-found : (inverse : Bool) (step : Step) (l : List Float) → isDeformation step ≡ true
       → tallyOf (passOf inverse given step) 0 (stateOf step) l ≡ tallyOf (passOf inverse (foundAt grid step l) step) 0 (stateOf step) l
@@ -116,6 +118,7 @@ module _ (velocities : List Float) (marks grid : List ℕ) (some : eqb (length g
       rw some (λ j. record { count = counted j; met = met j })
   tally-found inverse (Molodensky r) l h = absurd (true≢false (sym h))
   tally-found inverse (Helmert r) l h = absurd (true≢false (sym h))
+  tally-found inverse (Badekas r) l h = absurd (true≢false (sym h))
 
   module _ (inverse : Bool) (e : Entry) (l : List Float) (h : isDeformation (e .step) ≡ true) where
     found-list : stepListOf inverse given e l ≡ stepListOf inverse (foundAt grid (e .step) l) e l

@@ -12,7 +12,7 @@ use lib.ListN.{length, replicate}
 use lib.Ieee.{Float}
 use Rattle.lists.specs.Run.{ranOf, countOf}
 use Rattle.bodies.specs.declared.Step.{Step}
-use Rattle.bodies.specs.declared.Step.the-variants.{Cart, Permtide, Deformation, Molodensky, Helmert}
+use Rattle.bodies.specs.declared.Step.the-variants.{Cart, Permtide, Deformation, Molodensky, Badekas, Helmert}
 use Rattle.sheet.specs.declared.Entry.{Entry}
 use Rattle.sheet.specs.Layout.{stepCountOf, entryAt}
 use Rattle.plans.specs.declared.Plan.{Plan}
@@ -41,6 +41,7 @@ module _ (lent : Lent) where
   plan-turns inverse (Deformation r) = refl
   plan-turns inverse (Molodensky r) = refl
   plan-turns inverse (Helmert h) = refl
+  plan-turns inverse (Badekas r) = refl
 
 -- and tells of a tuple's angles what the step tells
 pub plan-met : (inverse : Bool) (lent : Lent) (step : Step) → planMetOf lent (planOf inverse step) ≡ metOf inverse lent step
@@ -51,6 +52,7 @@ plan-met inverse lent (Permtide r) = refl
 plan-met inverse lent (Deformation r) = refl
 plan-met inverse lent (Molodensky r) = refl
 plan-met inverse lent (Helmert h) = refl
+plan-met inverse lent (Badekas r) = refl
 
 pub plan-start : (inverse : Bool) (step : Step) → planStartOf (planOf inverse step) ≡ stateOf step
 unfolding planOf
@@ -60,6 +62,7 @@ plan-start inverse (Permtide r) = refl
 plan-start inverse (Deformation r) = refl
 plan-start inverse (Molodensky r) = refl
 plan-start inverse (Helmert h) = refl
+plan-start inverse (Badekas r) = refl
 
 module _ (inverse : Bool) (lent : Lent) (s : List ℕ) (i : ℕ) (below : i < stepCountOf s) where
   turns-at : planTurnsOf lent (planAt inverse s i) ≡ turnsOf (reversedOf inverse (entryAt s i)) lent (entryAt s i .step)

@@ -12,8 +12,9 @@ use Rattle.molodensky.specs.Step.{mopedOf}
 use Rattle.deformation.specs.Record.{directedOf}
 use Rattle.deformation.specs.Step.{motionOf}
 use Rattle.helmert.specs.Modes.{prepareOf, startOf}
+use Rattle.badekas.specs.Step.{shiftOf}
 use Rattle.bodies.specs.declared.Step.{Step}
-use Rattle.bodies.specs.declared.Step.the-variants.{Cart, Permtide, Deformation, Molodensky, Helmert}
+use Rattle.bodies.specs.declared.Step.the-variants.{Cart, Permtide, Deformation, Molodensky, Badekas, Helmert}
 use Rattle.sheet.specs.declared.Entry.{Entry}
 use Rattle.lists.specs.Run.{Turns, ranOf, countOf}
 use Rattle.helmert.specs.Turns.{noState, helmertTurns}
@@ -33,6 +34,7 @@ turnsOf inverse lent (Permtide r) = permtideTurns inverse r
 turnsOf inverse lent (Deformation r) = lentTurns (motionOf r) (directedOf r inverse) lent
 turnsOf inverse lent (Molodensky r) = molodenskyTurns inverse r
 turnsOf inverse lent (Helmert h) = helmertTurns inverse (prepareOf h)
+turnsOf inverse lent (Badekas r) = helmertTurns inverse (shiftOf r)
 
 -- whether a tuple meets an angle out of reach of sine and cosine in it
 abbrev pub metOf : Bool → Lent → Step → Met State
@@ -41,6 +43,7 @@ metOf inverse lent (Permtide r) = permtideMet
 metOf inverse lent (Deformation r) = lentMet (motionOf r) lent
 metOf inverse lent (Molodensky r) = molodenskyMet (mopedOf r)
 metOf inverse lent (Helmert h) = helmertMet (prepareOf h)
+metOf inverse lent (Badekas r) = helmertMet (shiftOf r)
 
 -- both together
 abbrev pub passOf : Bool → Lent → Step → Pass
@@ -53,6 +56,7 @@ stateOf (Permtide r) = noState
 stateOf (Deformation r) = noState
 stateOf (Molodensky r) = noState
 stateOf (Helmert h) = startOf (prepareOf h)
+stateOf (Badekas r) = startOf (shiftOf r)
 
 -- a step runs in the chain's direction, turned round where its inverted word is 1
 abbrev pub reversedOf : Bool → Entry → Bool

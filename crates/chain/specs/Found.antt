@@ -6,7 +6,7 @@ use mathlib.Core.List.{List, [], _∷_}
 use lib.Ieee.{Float}
 use Rattle.deformation.specs.Step.{motionOf}
 use Rattle.bodies.specs.declared.Step.{Step}
-use Rattle.bodies.specs.declared.Step.the-variants.{Cart, Permtide, Deformation, Molodensky, Helmert}
+use Rattle.bodies.specs.declared.Step.the-variants.{Cart, Permtide, Deformation, Molodensky, Badekas, Helmert}
 use Rattle.sheet.specs.declared.Entry.{Entry}
 use Rattle.deformation_grid.specs.Found.{velocitiesFound, marksFound}
 use Rattle.plans.specs.Lent.{Lent, lentOf}
@@ -22,6 +22,7 @@ isDeformation (Permtide r) = false
 isDeformation (Deformation r) = true
 isDeformation (Molodensky r) = false
 isDeformation (Helmert h) = false
+isDeformation (Badekas r) = false
 
 -- for a step over a list, where the list reaches it
 abbrev pub foundAt : List ℕ → Step → List Float → Lent
@@ -30,6 +31,7 @@ foundAt grid (Permtide r) l = nothingLent
 foundAt grid (Deformation r) l = lentOf (velocitiesFound (motionOf r .ellps) grid l) (marksFound (motionOf r .ellps) grid l) []
 foundAt grid (Molodensky r) l = nothingLent
 foundAt grid (Helmert h) l = nothingLent
+foundAt grid (Badekas r) l = nothingLent
 
 -- one of these steps deforms, and at most one does (rule 11)
 unfoldable pub someDeforms : List Entry → Bool

@@ -112,7 +112,8 @@ refusedText number step = ascii "refused " ++ decimalOf number ++ ascii " step "
 -- ---- what a job asks for
 
 -- whether the first two coordinates of a list are angles, by the first step: cart, Molodensky and
--- permtide take longitude and latitude; Helmert, deformation and a cart step turned round do not
+-- permtide take longitude and latitude; Helmert, kind 6, deformation and a cart step turned round do
+-- not
 unfoldable pub takesAngles : ℕ → ℕ → Bool
 takesAngles kind inverted = (eqb kind 2 && not (eqb inverted 1)) || eqb kind 3 || eqb kind 4
 

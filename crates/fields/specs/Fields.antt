@@ -8,8 +8,8 @@ use Rattle.words.specs.Words.{word32}
 use Rattle.text.specs.Ascii.{ascii}
 use Rattle.lines.specs.declared.Unit.{Unit}
 use Rattle.lines.specs.declared.Unit.the-variants.{Plain, Metre, Millimetre, Arcsecond, MicroArcsecond, Ppm}
-use Rattle.lines.specs.Lines.{wordLine, timeLine, oneLine, seriesLines, singleLines, ellipsoidLine}
-use Rattle.fields.specs.Words.{flag2, flag4, helmertFlags, molodenskyFlags, deformationFlags, conventionLine, systemLine}
+use Rattle.lines.specs.Lines.{wordLine, timeLine, oneLine, threeLine, seriesLines, singleLines, ellipsoidLine}
+use Rattle.fields.specs.Words.{flag2, flag4, helmertFlags, molodenskyFlags, deformationFlags, badekasFlags, conventionLine, systemLine}
 
 -- ---- kind 1, Helmert
 
@@ -90,6 +90,21 @@ deformationText s base =
     ++ timeLine (ascii "  dt: ") s (base + 8)
     ++ timeLine (ascii "  t_epoch: ") s (base + 16)
 
+-- ---- kind 6, Molodensky-Badekas: the pivot is in metres whatever the flags say
+
+unfoldable pub badekasNumbers : List ℕ → ℕ → Bool → Bool → List ℕ
+badekasNumbers s base mm uas =
+    threeLine (ascii "  translation: ") s (base + 8) (lengthUnit mm) false
+    ++ threeLine (ascii "  rotation: ") s (base + 32) (angleUnit uas) false
+    ++ oneLine (ascii "  scale: ") s (base + 56) Ppm false
+    ++ threeLine (ascii "  pivot: ") s (base + 64) Metre false
+
+unfoldable pub badekasText : List ℕ → ℕ → List ℕ
+badekasText s base =
+    badekasFlags (word32 s (base + 0))
+    ++ conventionLine (word32 s (base + 4))
+    ++ badekasNumbers s base (flag4 (word32 s (base + 0))) (flag2 (word32 s (base + 0)))
+
 -- ---- by kind; nothing where there is no such kind
 
 unfoldable pub fieldsText : ℕ → List ℕ → ℕ → List ℕ
@@ -98,4 +113,5 @@ fieldsText kind s base =
     (cond (eqb kind 2) (cartText s base)
     (cond (eqb kind 3) (molodenskyText s base)
     (cond (eqb kind 4) (permtideText s base)
-    (cond (eqb kind 5) (deformationText s base) (ascii "")))))
+    (cond (eqb kind 5) (deformationText s base)
+    (cond (eqb kind 6) (badekasText s base) (ascii ""))))))

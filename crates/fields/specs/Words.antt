@@ -49,6 +49,16 @@ deformationFlags flags =
     ++ flagText (ascii "; comment's sign ") (flag2 flags)
     ++ ascii "\n"
 
+-- kind 6: 1 exact, 2 uas, 4 mm
+unfoldable pub badekasFlags : ℕ → List ℕ
+badekasFlags flags =
+    ascii "  flags: "
+    ++ decimalOf flags
+    ++ flagText (ascii "; exact ") (flag1 flags)
+    ++ flagText (ascii "; uas ") (flag2 flags)
+    ++ flagText (ascii "; mm ") (flag4 flags)
+    ++ ascii "\n"
+
 -- 0 none, 1 position vector, 2 coordinate frame
 unfoldable pub conventionText : ℕ → List ℕ
 conventionText n =
@@ -75,7 +85,8 @@ kindText n =
     (cond (eqb n 2) (ascii " cart\n")
     (cond (eqb n 3) (ascii " Molodensky\n")
     (cond (eqb n 4) (ascii " permtide\n")
-    (cond (eqb n 5) (ascii " deformation\n") (ascii " outside its rule\n")))))
+    (cond (eqb n 5) (ascii " deformation\n")
+    (cond (eqb n 6) (ascii " Molodensky-Badekas\n") (ascii " outside its rule\n"))))))
 
 unfoldable pub kindLine : ℕ → List ℕ
 kindLine n = ascii "  kind: " ++ decimalOf n ++ kindText n

@@ -9,8 +9,8 @@
 ghost use mathlib.Core.Path.{_≡_};
 ghost use Rattle.text.specs.Text.{text, appended};
 ghost use Rattle.text.specs.Digits.{decimalOf};
-ghost use Rattle.fields.specs.Words.{helmertFlags, molodenskyFlags, deformationFlags, conventionText, conventionLine, systemText, systemLine, kindText, kindLine, invertedText, invertedLine};
-ghost use Rattle.fields.specs.Fields.{lengthUnit, angleUnit, lengthsText, anglesText, scalesText, helmertText, cartText, figuresText, shiftsText, molodenskyText, permtideText, deformationText, fieldsText};
+ghost use Rattle.fields.specs.Words.{helmertFlags, molodenskyFlags, deformationFlags, badekasFlags, conventionText, conventionLine, systemText, systemLine, kindText, kindLine, invertedText, invertedLine};
+ghost use Rattle.fields.specs.Fields.{lengthUnit, angleUnit, lengthsText, anglesText, scalesText, helmertText, cartText, figuresText, shiftsText, molodenskyText, permtideText, deformationText, badekasNumbers, badekasText, fieldsText};
 use lines::Unit;
 
 // ----- words ------------------------------------------------------------------------------
@@ -51,6 +51,17 @@ fn put_deformation_flags(room: &mut [u8], at: usize, flags: u32) -> usize
     let r = lines::put_flag(room, q, b"; raw ", flags % 2 == 1);
     let t = lines::put_flag(room, r, b"; comment's sign ", flags / 2 % 2 == 1);
     text::put_bytes(room, t, b"\n")
+}
+
+fn put_badekas_flags(room: &mut [u8], at: usize, flags: u32) -> usize
+    ensures { λ r. ⌜ text (now (room .exit)) r ≡ appended (text (now (room .entry)) at) (badekasFlags flags) ⌝ }
+{
+    let p = text::put_bytes(room, at, b"  flags: ");
+    let q = put_u32(room, p, flags);
+    let r = lines::put_flag(room, q, b"; exact ", flags % 2 == 1);
+    let t = lines::put_flag(room, r, b"; uas ", flags / 2 % 2 == 1);
+    let u = lines::put_flag(room, t, b"; mm ", flags / 4 % 2 == 1);
+    text::put_bytes(room, u, b"\n")
 }
 
 fn put_convention_words(room: &mut [u8], at: usize, n: u32) -> usize
@@ -116,6 +127,9 @@ fn put_kind_words(room: &mut [u8], at: usize, n: u32) -> usize
     }
     if n == 5 {
         return text::put_bytes(room, at, b" deformation\n");
+    }
+    if n == 6 {
+        return text::put_bytes(room, at, b" Molodensky-Badekas\n");
     }
     text::put_bytes(room, at, b" outside its rule\n")
 }
@@ -333,6 +347,36 @@ fn put_deformation(room: &mut [u8], at: usize, s: &[u8], base: u32) -> usize
     lines::put_time(room, r, b"  t_epoch: ", s, base, 16)
 }
 
+// ----- kind 6, Molodensky-Badekas --------------------------------------------------------------
+
+fn put_badekas_numbers(
+    room: &mut [u8],
+    at: usize,
+    s: &[u8],
+    base: u32,
+    mm: bool,
+    uas: bool,
+) -> usize
+    ensures { λ r. ⌜ text (now (room .exit)) r ≡ appended (text (now (room .entry)) at) (badekasNumbers (now (s .entry)) base mm uas) ⌝ }
+{
+    let length = length_unit(mm);
+    let angle = angle_unit(uas);
+    let p = lines::put_three(room, at, b"  translation: ", s, base, 8, length, false);
+    let q = lines::put_three(room, p, b"  rotation: ", s, base, 32, angle, false);
+    let r = lines::put_one(room, q, b"  scale: ", s, base, 56, Unit::Ppm, false);
+    lines::put_three(room, r, b"  pivot: ", s, base, 64, Unit::Metre, false)
+}
+
+fn put_badekas(room: &mut [u8], at: usize, s: &[u8], base: u32) -> usize
+    ensures { λ r. ⌜ text (now (room .exit)) r ≡ appended (text (now (room .entry)) at) (badekasText (now (s .entry)) base) ⌝ }
+{
+    let flags = lines::word_in(s, base, 0);
+    let convention = lines::word_in(s, base, 4);
+    let p = put_badekas_flags(room, at, flags);
+    let q = put_convention(room, p, convention);
+    put_badekas_numbers(room, q, s, base, flags / 4 % 2 == 1, flags / 2 % 2 == 1)
+}
+
 // ----- by kind ---------------------------------------------------------------------------------
 
 pub fn put_fields(room: &mut [u8], at: usize, kind: u32, s: &[u8], base: u32) -> usize
@@ -352,6 +396,9 @@ pub fn put_fields(room: &mut [u8], at: usize, kind: u32, s: &[u8], base: u32) ->
     }
     if kind == 5 {
         return put_deformation(room, at, s, base);
+    }
+    if kind == 6 {
+        return put_badekas(room, at, s, base);
     }
     text::put_bytes(room, at, b"")
 }

@@ -7,7 +7,7 @@ use Rattle.tuple.specs.declared.Tuple.{Tuple}
 use Rattle.rotation.specs.declared.Vec3.{Vec3}
 use Rattle.helmert.specs.declared.Shift.{Shift}
 use Rattle.helmert.specs.declared.State.{State}
-use Rattle.helmert.specs.Apply.{offsetOf, deoffsetOf, forwardOf, inverseOf, applyOf}
+use Rattle.helmert.specs.Apply.{offsetOf, deoffsetOf, forwardOf, inverseOf, applyOf, forwardAboutOf, inverseAboutOf}
 use Rattle.rotation.specs.Matrix.{Matrix}
 use Rattle.helmert.specs.Modes.{nothing3, shiftedOf, fixedStepOf, grownOf, rotationAtOf, scaleAtOf, nextOf, runningOf, lostOf, ownEpochStepOf, timeVaryingOf, isOwnEpochOf, isRunningOf, stepOf, countedOf}
 
@@ -32,6 +32,12 @@ pub step-in-static-or-fixed : (shift : Shift) (inv : Bool) (state : State) (v : 
     → stepOf shift inv state v ≡ record { state = state; tuple = fixedStepOf shift inv v }
 unfolding stepOf
 step-in-static-or-fixed shift inv state v h = rw h
+
+-- without a pivot: T, S and the matrix
+pub fixed-without-pivot : (shift : Shift) (inv : Bool) (v : Tuple) → shift .pivoted ≡ false
+    → let p = shift .parameters in fixedStepOf shift inv v ≡ shiftedOf shift inv (p .t) (p .r) (p .s) v
+unfolding fixedStepOf
+fixed-without-pivot shift inv v none = rw none
 
 -- ---- what a step carries
 
@@ -79,9 +85,18 @@ unfolding forwardOf inverseOf
 applied-time-stays true t s rotated m v = refl
 applied-time-stays false t s rotated m v = refl
 
+fixed-time-stays : (shift : Shift) (inv : Bool) (v : Tuple) → fixedStepOf shift inv v .t ≡ v .t
+unfolding fixedStepOf forwardAboutOf inverseAboutOf
+fixed-time-stays shift inv v = go (shift .pivoted) refl inv
+  where
+    go : (b : Bool) → shift .pivoted ≡ b → (inv : Bool) → fixedStepOf shift inv v .t ≡ v .t
+    go true e true = rw e
+    go true e false = rw e
+    go false e inv = rw e (applied-time-stays inv _ _ _ _ v)
+
 -- in every mode, both ways, a fix keeps its time
 pub time-stays : (shift : Shift) (inv : Bool) (state : State) (v : Tuple) → stepOf shift inv state v .tuple .t ≡ v .t
-unfolding stepOf runningOf ownEpochStepOf fixedStepOf
+unfolding stepOf runningOf ownEpochStepOf
 time-stays shift inv state v = go (isRunningOf shift) (isOwnEpochOf shift) refl refl
   where
     own : (lost : Bool) (w : Tuple) → w .t ≡ v .t → cond lost (lostOf v) w .t ≡ v .t
@@ -91,7 +106,7 @@ time-stays shift inv state v = go (isRunningOf shift) (isOwnEpochOf shift) refl 
     go : (a b : Bool) → isRunningOf shift ≡ a → isOwnEpochOf shift ≡ b → stepOf shift inv state v .tuple .t ≡ v .t
     go true b e f = rw e (applied-time-stays inv _ _ _ _ v)
     go false true e f = rw (e, f) (own (isNan (v .t)) _ (applied-time-stays inv _ _ _ _ v))
-    go false false e f = rw (e, f) (applied-time-stays inv _ _ _ _ v)
+    go false false e f = rw (e, f) (fixed-time-stays shift inv v)
 
 -- ---- one NaN time spoils T for the rest
 

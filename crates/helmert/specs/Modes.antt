@@ -1,6 +1,6 @@
 -- The prepared shift and its four modes on one tuple: static, fixed, running, own-epoch. A state
 -- goes in and comes out: the last time, and T.
-use mathlib.Core.Bool.{Bool, not, cond, _&&_}
+use mathlib.Core.Bool.{Bool, false, not, cond, _&&_}
 use lib.Dec.{eqb}
 use lib.Ieee.{Float, nan, isNan, ne}
 use Rattle.floats.specs.Binary64.{_⊕_, _⊖_, _⊗_}
@@ -11,11 +11,11 @@ use Rattle.helmert.specs.declared.Parameters.{Parameters}
 use Rattle.helmert.specs.declared.Shift.{Shift}
 use Rattle.helmert.specs.declared.State.{State}
 use Rattle.helmert.specs.declared.Stepped.{Stepped}
-use Rattle.helmert.specs.Record.{exactOf, ownEpochOf}
+use Rattle.helmert.specs.Record.{exactOf, ownEpochOf, zero3}
 use Rattle.helmert.specs.Units.{parametersOf}
 use Rattle.helmert.specs.Rules.{rotatedOf, dynamicOf}
 use Rattle.rotation.specs.Matrix.{rotationMatrixOf}
-use Rattle.helmert.specs.Apply.{applyOf}
+use Rattle.helmert.specs.Apply.{applyOf, applyAboutOf}
 
 -- ---- the prepared shift
 
@@ -41,7 +41,7 @@ abbrev pub fixedOf : Helmert → Bool
 fixedOf h = dynamicOf (parametersOf h) && not (isNan (h .«t_obs»))
 
 -- The convention counts only where the shift is rotated; 2 is the coordinate frame, and the Rust
--- takes any other for the position vector.
+-- takes any other for the position vector. A Helmert record has no pivot.
 unfoldable pub prepareOf : Helmert → Shift
 prepareOf h =
     let p = parametersOf h in
@@ -54,6 +54,8 @@ prepareOf h =
       exact = exactOf h;
       «position_vector» = not (eqb (h .convention) 2);
       «own_epoch» = ownEpochOf h;
+      pivoted = false;
+      pivot = zero3;
     }
 
 -- ---- the parameters at a time that lies dt after t_epoch
@@ -76,9 +78,13 @@ abbrev pub shiftedOf : Shift → Bool → Vec3 → Vec3 → Float → Tuple → 
 shiftedOf shift inv t r s v =
     applyOf inv t s (shift .rotated) (rotationMatrixOf r (shift .exact) (shift .«position_vector»)) v
 
+-- about the pivot where the shift has one
 unfoldable pub fixedStepOf : Shift → Bool → Tuple → Tuple
 fixedStepOf shift inv v =
-    let p = shift .parameters in shiftedOf shift inv (p .t) (p .r) (p .s) v
+    let p = shift .parameters in
+    let m = rotationMatrixOf (p .r) (shift .exact) (shift .«position_vector») in
+    cond (shift .pivoted) (applyAboutOf inv (shift .pivot) (p .t) (p .s) (shift .rotated) m v)
+    (applyOf inv (p .t) (p .s) (shift .rotated) m v)
 
 -- ---- running: the Rust's mode, dynamic and not fixed
 

@@ -14,11 +14,15 @@
 // A step sees one tuple and never the list: a state goes in and comes out. A loop over a list
 // decides the mode once, by `is_running` and `is_own_epoch`, and builds the matrix anew only when
 // the time changes, from the pieces that are public for it.
+//
+// A prepared shift may have a pivot, about which a static or fixed step rotates and scales: request
+// A4's ten-parameter shift, whose record stands in the crate badekas. A Helmert record's shift has
+// none.
 ghost use mathlib.Core.Path.{_≡_};
 ghost use Rattle.helmert.specs.Record.{exactOf, uasOf, mmOf, ownEpochOf, zerosWith, blankHelmert, zeroHelmert};
 ghost use Rattle.helmert.specs.Units.{linearScaleOf, angularScaleOf, winnerOf, lengthsOf, anglesOf, parametersOf};
 ghost use Rattle.helmert.specs.Rules.{someOf, rotatedOf, dynamicOf, finite3Of, timeOf, vectorsFiniteOf, scalesFiniteOf, fieldsInRuleOf, lacksConventionOf, lacksEpochOf};
-ghost use Rattle.helmert.specs.Apply.{offsetOf, deoffsetOf, forwardOf, inverseOf, applyOf};
+ghost use Rattle.helmert.specs.Apply.{offsetOf, deoffsetOf, forwardOf, inverseOf, applyOf, lessOf, moreOf, forwardAboutOf, inverseAboutOf, applyAboutOf};
 ghost use Rattle.helmert.specs.Modes.{advancedOf, observedOf, prepareOf, grownOf, rotationAtOf, scaleAtOf, shiftedOf, fixedStepOf, startOf, nextOf, runningOf, ownEpochStepOf, isOwnEpochOf, isRunningOf, stepOf, countedOf};
 use rotation::Vec3;
 use tuple::Tuple;
@@ -265,7 +269,7 @@ pub fn dynamic(p: Parameters) -> bool
     some(p.dt) | some(p.dr) | (p.ds != 0.0)
 }
 
-fn finite3(v: Vec3) -> bool
+pub fn finite3(v: Vec3) -> bool
     ensures { λ r. ⌜ r ≡ finite3Of v ⌝ }
 {
     floats::is_finite(v.x) & floats::is_finite(v.y) & floats::is_finite(v.z)
@@ -280,7 +284,8 @@ fn time(x: f64) -> bool
 
 // ----- the prepared shift ------------------------------------------------------------------
 
-// A record made ready to be applied to any number of tuples.
+// A record made ready to be applied to any number of tuples. The pivot, in metres, counts only where
+// `pivoted` says so.
 pub struct Shift {
     pub parameters: Parameters,
     pub epoch: f64,
@@ -290,6 +295,8 @@ pub struct Shift {
     pub exact: bool,
     pub position_vector: bool,
     pub own_epoch: bool,
+    pub pivoted: bool,
+    pub pivot: Vec3,
 }
 
 // A parameter moved once by rate·d.
@@ -335,6 +342,11 @@ pub fn prepare(h: Helmert) -> Shift
     } else {
         p
     };
+    let none = Vec3 {
+        x: 0.0,
+        y: 0.0,
+        z: 0.0,
+    };
     Shift {
         parameters: at,
         epoch: h.t_epoch,
@@ -344,6 +356,8 @@ pub fn prepare(h: Helmert) -> Shift
         exact: h.exact(),
         position_vector: h.convention != 2,
         own_epoch: h.own_epoch(),
+        pivoted: false,
+        pivot: none,
     }
 }
 
@@ -433,6 +447,63 @@ pub fn apply(inv: bool, t: Vec3, s: f64, rotated: bool, m: [[f64; 3]; 3], v: Tup
     forward(t, s, rotated, m, v)
 }
 
+// ----- the same about a pivot -----------------------------------------------------------------
+
+fn less(v: Tuple, p: Vec3) -> Tuple
+    ensures { λ r. ⌜ r ≡ lessOf v p ⌝ }
+{
+    Tuple {
+        x: v.x - p.x,
+        y: v.y - p.y,
+        z: v.z - p.z,
+        t: v.t,
+    }
+}
+
+fn more(v: Tuple, p: Vec3) -> Tuple
+    ensures { λ r. ⌜ r ≡ moreOf v p ⌝ }
+{
+    Tuple {
+        x: v.x + p.x,
+        y: v.y + p.y,
+        z: v.z + p.z,
+        t: v.t,
+    }
+}
+
+// ((S·(M·(v - P))) + P) + T: the step with the pivot for its translation, between one difference
+// and one sum.
+pub fn forward_about(p: Vec3, t: Vec3, s: f64, rotated: bool, m: [[f64; 3]; 3], v: Tuple) -> Tuple
+    ensures { λ r. ⌜ r ≡ forwardAboutOf p t s rotated m v ⌝ }
+{
+    more(forward(p, s, rotated, m, less(v, p)), t)
+}
+
+// Mᵀ·(((v - T) - P)/S) + P.
+pub fn inverse_about(p: Vec3, t: Vec3, s: f64, rotated: bool, m: [[f64; 3]; 3], v: Tuple) -> Tuple
+    ensures { λ r. ⌜ r ≡ inverseAboutOf p t s rotated m v ⌝ }
+{
+    more(inverse(p, s, rotated, m, less(v, t)), p)
+}
+
+// Forward, or inverse where `inv` says so.
+pub fn apply_about(
+    inv: bool,
+    p: Vec3,
+    t: Vec3,
+    s: f64,
+    rotated: bool,
+    m: [[f64; 3]; 3],
+    v: Tuple,
+) -> Tuple
+    ensures { λ r. ⌜ r ≡ applyAboutOf inv p t s rotated m v ⌝ }
+{
+    if inv {
+        return inverse_about(p, t, s, rotated, m, v);
+    }
+    forward_about(p, t, s, rotated, m, v)
+}
+
 // ----- modes -------------------------------------------------------------------------------------
 
 // What a run carries from one tuple to the next: the last time, NaN at first, and T.
@@ -483,12 +554,16 @@ fn shifted(shift: Shift, inv: bool, t: Vec3, r: Vec3, s: f64, v: Tuple) -> Tuple
     )
 }
 
-// A static or fixed sheet.
+// A static or fixed sheet, about its pivot where it has one.
 pub fn fixed_step(shift: Shift, inv: bool, v: Tuple) -> Tuple
     ensures { λ r. ⌜ r ≡ fixedStepOf shift inv v ⌝ }
 {
     let p = shift.parameters;
-    shifted(shift, inv, p.t, p.r, p.s, v)
+    let m = rotation::rotation_matrix(p.r, shift.exact, shift.position_vector);
+    if shift.pivoted {
+        return apply_about(inv, shift.pivot, p.t, p.s, shift.rotated, m, v);
+    }
+    apply(inv, p.t, p.s, shift.rotated, m, v)
 }
 
 pub fn start(shift: Shift) -> State

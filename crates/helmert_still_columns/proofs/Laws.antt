@@ -20,20 +20,35 @@ use Rattle.columns.proofs.Laws.{flat-length, row-there, point-set}
 use Rattle.columns.proofs.Passed.{turnAt, passed-as, passed-row, passed-list, passed-state}
 use Rattle.rotation.specs.declared.Vec3.{Vec3}
 use Rattle.rotation.specs.Matrix.{Matrix}
-use Rattle.helmert.specs.Apply.{forwardOf, inverseOf, applyOf}
+use Rattle.helmert.specs.Apply.{forwardOf, inverseOf, applyOf, forwardAboutOf, inverseAboutOf, applyAboutOf}
 
 apply-time : (inverse : Bool) (by : Vec3) (s : Float) (rotated : Bool) (m : Matrix) (v : Tuple) → applyOf inverse by s rotated m v .t ≡ v .t
 unfolding forwardOf inverseOf
 apply-time true by s rotated m v = refl
 apply-time false by s rotated m v = refl
 
--- the three numbers of what T, S and a matrix make of a row, set in its place
-module _ (x y z t : List Float) (h : Level x y z t) (i : ℕ) (k : i < length x) (inverse : Bool) (by : Vec3) (s : Float) (rotated : Bool) (m : Matrix) where
-  pub row-applied : {w : Tuple} → w ≡ applyOf inverse by s rotated m (fourOf (at x i) (at y i) (at z i) (at t i))
-      → flatOf (set x i (w .x)) (set y i (w .y)) (set z i (w .z)) t ≡ putAt (flatOf x y z t) (4 * i) (applyOf inverse by s rotated m (tupleAt (flatOf x y z t) (4 * i)))
-  row-applied {w} e =
-      point-set x y z t h i k w (ap (λ (v : Tuple). v .t) e ∙ apply-time inverse by s rotated m _)
-      ∙ ap (putAt (flatOf x y z t) (4 * i)) (e ∙ ap (applyOf inverse by s rotated m) (row-there x y z t h i k))
+about-time : (inverse : Bool) (pivot by : Vec3) (s : Float) (rotated : Bool) (m : Matrix) (v : Tuple) → applyAboutOf inverse pivot by s rotated m v .t ≡ v .t
+unfolding forwardAboutOf inverseAboutOf
+about-time true pivot by s rotated m v = refl
+about-time false pivot by s rotated m v = refl
+
+-- the three numbers of what a row becomes, its time kept, set in its place
+module _ (x y z t : List Float) (h : Level x y z t) (i : ℕ) (k : i < length x) where
+  row-put : (f : Tuple → Tuple) → ((v : Tuple) → f v .t ≡ v .t) → {w : Tuple} → w ≡ f (fourOf (at x i) (at y i) (at z i) (at t i))
+      → flatOf (set x i (w .x)) (set y i (w .y)) (set z i (w .z)) t ≡ putAt (flatOf x y z t) (4 * i) (f (tupleAt (flatOf x y z t) (4 * i)))
+  row-put f timed {w} e =
+      point-set x y z t h i k w (ap (λ (v : Tuple). v .t) e ∙ timed _)
+      ∙ ap (putAt (flatOf x y z t) (4 * i)) (e ∙ ap f (row-there x y z t h i k))
+
+  -- through T, S and a matrix, and about a pivot
+  module _ (inverse : Bool) where
+    pub row-applied : (by : Vec3) (s : Float) (rotated : Bool) (m : Matrix) {w : Tuple} → w ≡ applyOf inverse by s rotated m (fourOf (at x i) (at y i) (at z i) (at t i))
+        → flatOf (set x i (w .x)) (set y i (w .y)) (set z i (w .z)) t ≡ putAt (flatOf x y z t) (4 * i) (applyOf inverse by s rotated m (tupleAt (flatOf x y z t) (4 * i)))
+    row-applied by s rotated m e = row-put (applyOf inverse by s rotated m) (apply-time inverse by s rotated m) e
+
+    pub row-about : (pivot by : Vec3) (s : Float) (rotated : Bool) (m : Matrix) {w : Tuple} → w ≡ applyAboutOf inverse pivot by s rotated m (fourOf (at x i) (at y i) (at z i) (at t i))
+        → flatOf (set x i (w .x)) (set y i (w .y)) (set z i (w .z)) t ≡ putAt (flatOf x y z t) (4 * i) (applyAboutOf inverse pivot by s rotated m (tupleAt (flatOf x y z t) (4 * i)))
+    row-about pivot by s rotated m e = row-put (applyAboutOf inverse pivot by s rotated m) (about-time inverse pivot by s rotated m) e
 
 -- a row that counts, from what its turn is
 pub turned-row : {S : Type 0} {f : Turns S} {state now : S} {l l′ : List Float} {v : Tuple} (i : ℕ) → 4 * i + 4 ≤ length l

@@ -42,7 +42,7 @@ all-pass own true false false false h e = (refl, refl, refl, refl)
 -- what holds where the sheet and the three lists pass
 pub record Passed (s : List ℕ) (list results track : ℕ) : Type 0 where
   pub own : refusalOf s .number ≡ 0
-  pub one-helmert : refusal12 s ≡ false
+  pub one-shift : refusal12 s ≡ false
   pub list-kept : refusal9 list ≡ false
   pub whole : list % 4 ≡ 0
   pub few : list ≤ 8192
@@ -86,7 +86,7 @@ module _ (s : List ℕ) (list results track : ℕ) where
       let d = neither (not (eqb results list)) (not (eqb track list)) (h .3) in
       record {
         own = eqb-true _ _ (h .0);
-        one-helmert = h .1;
+        one-shift = h .1;
         list-kept = h .2;
         whole = eqb-true _ _ (not-false _ (n .0));
         few = ltb-false _ _ (n .1);

@@ -102,7 +102,7 @@ module _ (s : List ℕ) (old : Kept) where
   unfolding keepRefusalOf
   keep-own-exactly-when k some not12 not9 not13 = own-when s n _ _ [] k some not12 not9 not13 Without.none
 
-  -- 12: the sheet is accepted, and it is not one Helmert step
+  -- 12: the sheet is accepted, and it is not one Helmert or kind 6 step
   pub keep-twelve-exactly-when : (keepRefusalOf s old .number ≡ 12) ↔ ((refusalOf s .number ≡ 0) × (refusal12 s ≡ true))
   unfolding keepRefusalOf
   keep-twelve-exactly-when = twelve-when s n _ _ [] Without.none

@@ -4,7 +4,7 @@
 use Prim.Native.Nat.{ℕ, suc, _+_, _-_, _*_, _/_, _≤_, _<_}
 use native.Mathlib.Omega.{arith}
 use native.Mathlib.Nat.{add-zero}
-use mathlib.Core.Bool.{Bool, true, false, not, cond, _&&_}
+use mathlib.Core.Bool.{Bool, true, false, not, cond, _&&_, _||_, true≢false}
 use mathlib.Core.Logic.{_⊎_, inl, inr, ⊎-elim}
 use mathlib.Core.Path.{_≡_, refl, sym, ap, _∙_, subst}
 use mathlib.Core.List.{List, [], _∷_}
@@ -16,7 +16,8 @@ use borrow.Author.Tests.{ne-eqb, eqb-true, eqb-false, leb-true, leb-false, ltb-f
 use Rattle.tuple.specs.declared.Tuple.{Tuple}
 use Rattle.helmert.specs.declared.Shift.{Shift}
 use Rattle.helmert.specs.declared.State.{State}
-use Rattle.helmert.specs.Modes.{prepareOf, startOf, isRunningOf, stepOf}
+use Rattle.helmert.specs.Modes.{startOf, isRunningOf, stepOf}
+use Rattle.badekas.proofs.Records.{shift-not-dynamic}
 use Rattle.bodies.specs.declared.Step.{Step}
 use Rattle.bodies.specs.declared.Step.the-variants as step
 use Rattle.bodies.specs.Kinds.{kindOf}
@@ -42,52 +43,87 @@ use Rattle.stretch.specs.Kept.{trackedOf, heldOf, Kept, freshOf, carriedAt, kep
 use Rattle.stretch.specs.Unwritten.{Unwritten}
 use Rattle.kept.specs.Corrections.{keptAfterOf, standsAfterOf}
 use Rattle.kept.specs.Still.{Still}
-use Rattle.kept.specs.Entries.{refusal12, refusal14, keepRefusalOf, correctRefusalOf, helmertOf, shiftIn, reversedIn, keepOf, CorrectOutcome, outcome, correctedAs, correctOf}
+use Rattle.kept.specs.Entries.{refusal12, refusal14, keepRefusalOf, correctRefusalOf, stepShiftOf, shiftIn, reversedIn, keepOf, CorrectOutcome, outcome, correctedAs, correctOf}
 use Rattle.stretch.proofs.Meeting.{state-stays, whole-take, state-append, track-length}
 use Rattle.kept.proofs.Answers.{Passed, passed, below, keep-done, taken, not-refused, correct-done, correct-refused-14}
 use Rattle.stretch.proofs.Laws.{step-stays, fresh-list, before-is, corrected-equals-fresh, redone-is-the-stretch, results-outside, track-outside, list-outside, still-track, still-redoes-one}
 
 -- ---- the one step is the chain's
 
-helmert-turns : (inverse : Bool) (st : Step) → kindOf st ≡ 1 → turnsOf inverse (lentOf [] [] []) st ≡ helmertTurns inverse (prepareOf (helmertOf st))
-unfolding kindOf
-helmert-turns inverse (step.Helmert h) e = refl
-helmert-turns inverse (step.Cart r) e = absurd (omega arith)
-helmert-turns inverse (step.Molodensky r) e = absurd (omega arith)
-helmert-turns inverse (step.Permtide r) e = absurd (omega arith)
-helmert-turns inverse (step.Deformation r) e = absurd (omega arith)
+-- a kind that has a shift: Helmert's, or the ten-parameter step's
+abbrev Shifts : ℕ → Type 0
+Shifts kind = (kind ≡ 1) ⊎ (kind ≡ 6)
 
-helmert-start : (st : Step) → kindOf st ≡ 1 → stateOf st ≡ startOf (prepareOf (helmertOf st))
+-- no other kind is one of the two
+no-shift : {A : Type 0} (kind : ℕ) → (kind ≡ 1 → ⊥) → (kind ≡ 6 → ⊥) → Shifts kind → A
+no-shift kind a b e = absurd (⊎-elim a b e)
+
+shift-turns : (inverse : Bool) (st : Step) → Shifts (kindOf st) → turnsOf inverse (lentOf [] [] []) st ≡ helmertTurns inverse (stepShiftOf st)
 unfolding kindOf
-helmert-start (step.Helmert h) e = refl
-helmert-start (step.Cart r) e = absurd (omega arith)
-helmert-start (step.Molodensky r) e = absurd (omega arith)
-helmert-start (step.Permtide r) e = absurd (omega arith)
-helmert-start (step.Deformation r) e = absurd (omega arith)
+shift-turns inverse (step.Helmert h) e = refl
+shift-turns inverse (step.Badekas r) e = refl
+shift-turns inverse (step.Cart r) e = no-shift 2 (λ k. omega arith) (λ k. omega arith) e
+shift-turns inverse (step.Molodensky r) e = no-shift 3 (λ k. omega arith) (λ k. omega arith) e
+shift-turns inverse (step.Permtide r) e = no-shift 4 (λ k. omega arith) (λ k. omega arith) e
+shift-turns inverse (step.Deformation r) e = no-shift 5 (λ k. omega arith) (λ k. omega arith) e
+
+shift-start : (st : Step) → Shifts (kindOf st) → stateOf st ≡ startOf (stepShiftOf st)
+unfolding kindOf
+shift-start (step.Helmert h) e = refl
+shift-start (step.Badekas r) e = refl
+shift-start (step.Cart r) e = no-shift 2 (λ k. omega arith) (λ k. omega arith) e
+shift-start (step.Molodensky r) e = no-shift 3 (λ k. omega arith) (λ k. omega arith) e
+shift-start (step.Permtide r) e = no-shift 4 (λ k. omega arith) (λ k. omega arith) e
+shift-start (step.Deformation r) e = no-shift 5 (λ k. omega arith) (λ k. omega arith) e
+
+-- the ten-parameter step is static
+ten-is-still : (st : Step) → kindOf st ≡ 6 → Still (stepShiftOf st)
+unfolding kindOf
+ten-is-still (step.Badekas r) e = inl (shift-not-dynamic r)
+ten-is-still (step.Helmert h) e = absurd (omega arith)
+ten-is-still (step.Cart r) e = absurd (omega arith)
+ten-is-still (step.Molodensky r) e = absurd (omega arith)
+ten-is-still (step.Permtide r) e = absurd (omega arith)
+ten-is-still (step.Deformation r) e = absurd (omega arith)
+
+-- which of the two kinds a test found
+by-tests : (kind : ℕ) (one six : Bool) → eqb kind 1 ≡ one → eqb kind 6 ≡ six → one || six ≡ true → Shifts kind
+by-tests kind true six e1 e6 h = inl (eqb-true kind 1 e1)
+by-tests kind false true e1 e6 h = inr (eqb-true kind 6 e6)
+by-tests kind false false e1 e6 h = absurd (true≢false (sym h))
+
+-- one step of these kinds does not deform
+shifts-alone : (kind : ℕ → ℕ) → Shifts (kind 0) → hasDeformation kind 1 ≡ false
+unfolding hasDeformation
+shifts-alone kind (inl e) = rw e
+shifts-alone kind (inr e) = rw e
 
 module _ (s : List ℕ) (own : refusalOf s .number ≡ 0) (one : refusal12 s ≡ false) where
   one-step : stepCountOf s ≡ 1
   unfolding refusal12
-  one-step = eqb-true _ _ (not-false _ (neither (not (eqb (stepCountOf s) 1)) (not (eqb (kindAt s 0) 1)) one .0))
+  one-step = eqb-true _ _ (not-false _ (neither (not (eqb (stepCountOf s) 1)) (not (eqb (kindAt s 0) 1 || eqb (kindAt s 0) 6)) one .0))
 
-  of-kind-1 : kindAt s 0 ≡ 1
+  of-a-kind : Shifts (kindAt s 0)
   unfolding refusal12
-  of-kind-1 = eqb-true _ _ (not-false _ (neither (not (eqb (stepCountOf s) 1)) (not (eqb (kindAt s 0) 1)) one .1))
+  of-a-kind =
+      by-tests (kindAt s 0) (eqb (kindAt s 0) 1) (eqb (kindAt s 0) 6) refl refl
+      (not-false _ (neither (not (eqb (stepCountOf s) 1)) (not (eqb (kindAt s 0) 1 || eqb (kindAt s 0) 6)) one .1))
 
   entry-is : entryAt s 0 ≡ record { inverted = invertedAt s 0; step = stepAt s 0 }
   unfolding entryAt
   entry-is = rw (lt-ltb 0 (stepCountOf s) (omega (arith, one-step)))
 
-  a-helmert : kindOf (entryAt s 0 .step) ≡ 1
-  a-helmert =
+  its-kind : kindOf (entryAt s 0 .step) ≡ kindAt s 0
+  its-kind =
       let ok = accepted-keeps s own in
       ap (λ (e : Entry). kindOf (e .step)) entry-is
       ∙ kind-after-read (kindAt s 0) (bodyAt s 0) (body-kept s 0 (ok .steps 0 (omega (arith, one-step)) .kept5))
-      ∙ of-kind-1
+
+  a-shift : Shifts (kindOf (entryAt s 0 .step))
+  a-shift = rw its-kind of-a-kind
 
   no-deformation : hasDeformation (kindAt s) (stepCountOf s) ≡ false
-  unfolding hasDeformation
-  no-deformation = rw (one-step, of-kind-1)
+  no-deformation = rw one-step (shifts-alone (kindAt s) of-a-kind)
 
   entries-are : entriesOf (entryAt s) (stepCountOf s) 0 ≡ entryAt s 0 ∷ []
   unfolding entriesOf
@@ -96,7 +132,7 @@ module _ (s : List ℕ) (own : refusalOf s .number ≡ 0) (one : refusal12 s ≡
   step-list : (inverse : Bool) (l : List Float) → stepListOf inverse (lentOf [] [] []) (entryAt s 0) l ≡ ranOf (helmertTurns (reversedIn inverse s) (shiftIn s)) 0 (startOf (shiftIn s)) l
   unfolding stepListOf
   step-list inverse l =
-      rw (helmert-turns (reversedOf inverse (entryAt s 0)) (entryAt s 0 .step) a-helmert, helmert-start (entryAt s 0 .step) a-helmert)
+      rw (shift-turns (reversedOf inverse (entryAt s 0)) (entryAt s 0 .step) a-shift, shift-start (entryAt s 0 .step) a-shift)
 
   chain-list : (inverse : Bool) (l : List Float)
       → chainOf inverse (lentOf [] [] []) (entriesOf (entryAt s) (stepCountOf s) 0) l .list ≡ ranOf (helmertTurns (reversedIn inverse s) (shiftIn s)) 0 (startOf (shiftIn s)) l
@@ -136,7 +172,7 @@ module _ (inverse : Bool) (s : List ℕ) (old : Kept) (passes : keepRefusalOf s 
   pub results-are-the-chains : kept .results ≡ chainOf inverse (lentOf [] [] []) (entriesOf (entryAt s) (stepCountOf s) 0) (old .list) .list
   unfolding freshOf
   results-are-the-chains =
-      ap (λ (k : Kept). k .results) keep-runs ∙ sym (chain-list s (lists-pass .own) (lists-pass .one-helmert) inverse (old .list))
+      ap (λ (k : Kept). k .results) keep-runs ∙ sym (chain-list s (lists-pass .own) (lists-pass .one-shift) inverse (old .list))
 
   pub shift-takes-them-too : shiftOf inverse s (old .list) [] [] ≡ ranOutcome (chainOf inverse (lentOf [] [] []) (entriesOf (entryAt s) (stepCountOf s) 0) (old .list))
   unfolding shiftOf refusal10 overOne
@@ -145,7 +181,7 @@ module _ (inverse : Bool) (s : List ℕ) (old : Kept) (passes : keepRefusalOf s 
       (lists-pass .own) (lists-pass .list-kept) nothing-lent
     where
       nothing-lent : refusal10 (hasDeformation (kindAt s) (stepCountOf s)) (length (old .list)) [] [] ≡ false
-      nothing-lent = rw (no-deformation s (lists-pass .own) (lists-pass .one-helmert))
+      nothing-lent = rw (no-deformation s (lists-pass .own) (lists-pass .one-shift))
 
   pub results-are-the-shifts : kept .results ≡ shiftOf inverse s (old .list) [] [] .list
   results-are-the-shifts = rw shift-takes-them-too results-are-the-chains
@@ -453,3 +489,11 @@ still-count-is-one-always inverse s old passes still (c ∷ later) index fix h =
     ap (λ (k : Kept). correctOf inverse s (keptAfterOf inverse s k later) index fix .answer .redone) (corrected-is-kept-afresh inverse s old passes (c .index) (c .fix))
     ∙ still-count-is-one-always inverse s (putFix old (c .index) (c .fix)) (corrected-passes inverse s old passes (c .index) (c .fix)) still later index fix
     (rw (put-keeps-length (old .list) (4 * c .index) (c .fix)) h)
+
+-- A ten-parameter step is static: under a sheet of one such step a correction redoes one fix.
+pub ten-parameters-count-is-one : (inverse : Bool) (s : List ℕ) (old : Kept) → keepRefusalOf s old .number ≡ 0 → kindAt s 0 ≡ 6 → (corrections : List Correction)
+    (index : ℕ) (fix : Tuple) → index < length (old .list) / 4
+    → correctOf inverse s (keptAfterOf inverse s (keepOf inverse s old) corrections) index fix .answer .redone ≡ 1
+ten-parameters-count-is-one inverse s old passes six corrections index fix h =
+    let p = lists-pass inverse s old passes in
+    still-count-is-one-always inverse s old passes (ten-is-still (entryAt s 0 .step) (its-kind s (p .own) (p .one-shift) ∙ six)) corrections index fix h

@@ -6,10 +6,10 @@ use mathlib.Core.List.{List, [], _∷_}
 use lib.Dec.{eqb, ltb}
 use lib.ListN.{length}
 use Rattle.tuple.specs.declared.Tuple.{Tuple}
-use Rattle.helmert.specs.declared.Helmert.{Helmert}
 use Rattle.helmert.specs.declared.Shift.{Shift}
 use Rattle.helmert.specs.Record.{zeroHelmert}
 use Rattle.helmert.specs.Modes.{prepareOf}
+use Rattle.badekas.specs.Step.{shiftOf as badekasShiftOf}
 use Rattle.bodies.specs.declared.Step.{Step}
 use Rattle.bodies.specs.declared.Step.the-variants as step
 use Rattle.sheet.specs.declared.Refusal.{Refusal}
@@ -22,9 +22,9 @@ use Rattle.stretch.specs.Kept.{Kept, freshOf, correctedOf}
 
 -- ---- the rules of a kept run
 
--- kept run: not one Helmert step
+-- kept run: not one Helmert or kind 6 step
 unfoldable pub refusal12 : List ℕ → Bool
-refusal12 s = not (eqb (stepCountOf s) 1) || not (eqb (kindAt s 0) 1)
+refusal12 s = not (eqb (stepCountOf s) 1) || not (eqb (kindAt s 0) 1 || eqb (kindAt s 0) 6)
 
 -- kept run: results or track not as long as the list (track: 4 numbers a fix)
 unfoldable pub refusal13 : ℕ → ℕ → ℕ → Bool
@@ -59,16 +59,18 @@ correctRefusalOf s old index =
 
 -- ---- the one step
 
-abbrev pub helmertOf : Step → Helmert
-helmertOf (step.Helmert h) = h
-helmertOf (step.Cart r) = zeroHelmert
-helmertOf (step.Permtide r) = zeroHelmert
-helmertOf (step.Deformation r) = zeroHelmert
-helmertOf (step.Molodensky r) = zeroHelmert
+-- a step that has no shift stands for none: such a sheet is refused
+abbrev pub stepShiftOf : Step → Shift
+stepShiftOf (step.Helmert h) = prepareOf h
+stepShiftOf (step.Badekas r) = badekasShiftOf r
+stepShiftOf (step.Cart r) = prepareOf zeroHelmert
+stepShiftOf (step.Permtide r) = prepareOf zeroHelmert
+stepShiftOf (step.Deformation r) = prepareOf zeroHelmert
+stepShiftOf (step.Molodensky r) = prepareOf zeroHelmert
 
 -- the shift of the sheet's step, and the direction that it runs in
 abbrev pub shiftIn : List ℕ → Shift
-shiftIn s = prepareOf (helmertOf (entryAt s 0 .step))
+shiftIn s = stepShiftOf (entryAt s 0 .step)
 
 abbrev pub reversedIn : Bool → List ℕ → Bool
 reversedIn inverse s = reversedOf inverse (entryAt s 0)

@@ -1,5 +1,5 @@
 // The kept run: a list, its results and its track, kept apart, shifted under a sheet of one Helmert
-// step; and the correction of one fix.
+// or ten-parameter step; and the correction of one fix.
 //
 // Document 01, "Kept run" and refusals 9, 12, 13 and 14; the Rust has none. `keep` runs the list as
 // the chain does and writes, after each fix, the state that the step carries on: last time, T.
@@ -16,43 +16,55 @@ ghost use mathlib.Core.Path.{_≡_};
 ghost use mathlib.Core.List.{[]};
 ghost use Rattle.sheet.specs.Rules.{firstBroken};
 ghost use Rattle.stretch.specs.Kept.{keptOf};
-ghost use Rattle.kept.specs.Entries.{refusal12, refusal13, refusal14, orderBy, keptOrder, keepRefusalOf, keepOf, helmertOf, outcome, correctOf};
+ghost use Rattle.kept.specs.Entries.{refusal12, refusal13, refusal14, orderBy, keptOrder, keepRefusalOf, keepOf, stepShiftOf, outcome, correctOf};
+ghost use Rattle.helmert.specs.Modes.{prepareOf};
+ghost use Rattle.helmert.specs.Record.{zeroHelmert};
 use bodies::Step;
 use helmert::Helmert;
+use helmert::Shift;
 use sheet::Entry;
 use sheet::Refusal;
 use tuple::Tuple;
 
 // ----- the sheet's one step ------------------------------------------------------------------
 
-// The record of a Helmert step; zeros for any other.
-fn helmert_of(step: Step) -> Helmert
-    ensures { λ r. ⌜ r ≡ helmertOf step ⌝ }
+// What stands for the shift of a step that has none.
+fn no_shift() -> Shift
+    ensures { λ r. ⌜ r ≡ prepareOf zeroHelmert ⌝ }
+{
+    helmert::prepare(Helmert::zeros())
+}
+
+// The shift of a Helmert or ten-parameter step; that of zeros for any other.
+fn step_shift(step: Step) -> Shift
+    ensures { λ r. ⌜ r ≡ stepShiftOf step ⌝ }
 {
     match step {
-        Step::Helmert(h) => h,
-        Step::Cart(_) => Helmert::zeros(),
-        Step::Molodensky(_) => Helmert::zeros(),
-        Step::Permtide(_) => Helmert::zeros(),
-        Step::Deformation(_) => Helmert::zeros(),
+        Step::Helmert(h) => helmert::prepare(h),
+        Step::Badekas(r) => badekas::prepare(r),
+        Step::Cart(_) => no_shift(),
+        Step::Molodensky(_) => no_shift(),
+        Step::Permtide(_) => no_shift(),
+        Step::Deformation(_) => no_shift(),
     }
 }
 
 // The same of a sheet's entry.
-pub fn step_of(entry: Entry) -> Helmert
-    ensures { λ r. ⌜ r ≡ helmertOf (entry .step) ⌝ }
+pub fn shift_of(entry: Entry) -> Shift
+    ensures { λ r. ⌜ r ≡ stepShiftOf (entry .step) ⌝ }
 {
     let step = entry.step;
-    helmert_of(step)
+    step_shift(step)
 }
 
 // ----- the rules -----------------------------------------------------------------------------
 
-// Rule 12: not one Helmert step.
+// Rule 12: not one Helmert or ten-parameter step.
 fn step_broken(s: &[u8]) -> bool
     ensures { λ r. ⌜ r ≡ refusal12 (now (s .entry)) ⌝ }
 {
-    (sheet::step_count(s) != 1) | (sheet::kind_at(s, 0) != 1)
+    let kind = sheet::kind_at(s, 0);
+    (sheet::step_count(s) != 1) | !((kind == 1) | (kind == 6))
 }
 
 // Rule 13: results or track not as long as the list.
@@ -118,7 +130,7 @@ pub fn keep(
     }
     let entry = sheet::entry_at(s, 0);
     stretch_flat::fresh(
-        step_of(entry),
+        shift_of(entry),
         chain::reversed(inverse, entry), // turned round where the step is inverted
         list,
         results,
@@ -163,7 +175,7 @@ pub fn correct(
     }
     let entry = sheet::entry_at(s, 0);
     let n = stretch_flat::put_right(
-        step_of(entry),
+        shift_of(entry),
         chain::reversed(inverse, entry),
         list,
         results,

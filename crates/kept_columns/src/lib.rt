@@ -1,5 +1,5 @@
 // The kept run over columns: a list, its results and its track, four columns each, shifted under a
-// sheet of one Helmert step; and the correction of one fix.
+// sheet of one Helmert or ten-parameter step; and the correction of one fix.
 //
 // Document 01, "Kept run", over the columns of document 02, A7; the Rust has none. `keep` and
 // `correct` are `kept`'s over columns: the same rules in the same order, where rule 9 is broken too
@@ -66,7 +66,7 @@ fn step_in(inverse: bool, s: &[u8]) -> Ready
 {
     let entry = sheet::entry_at(s, 0);
     let reversed = chain::reversed(inverse, entry);
-    let shift = helmert::prepare(kept::step_of(entry));
+    let shift = kept::shift_of(entry);
     Ready {
         shift: shift,
         reversed: reversed,

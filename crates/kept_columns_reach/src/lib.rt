@@ -105,7 +105,7 @@ pub fn keep_reach(
         };
     }
     let entry = sheet::entry_at(s, 0);
-    let shift = helmert::prepare(kept::step_of(entry));
+    let shift = kept::shift_of(entry);
     let start = helmert::start(shift);
     let tally = pass_rows(shift, start, x, y, z, t, 0, x.len());
     KeptTally {
@@ -163,7 +163,7 @@ pub fn correct_reach(
         };
     }
     let entry = sheet::entry_at(s, 0);
-    let shift = helmert::prepare(kept::step_of(entry));
+    let shift = kept::shift_of(entry);
     let from = before_rows(shift, kx, ky, kz, kt, index);
     let told = pass_rows(shift, from, x, y, z, t, index, corrected.redone as usize);
     CorrectedReach {

@@ -91,7 +91,7 @@ pub fn keep_reach(
         };
     }
     let entry = sheet::entry_at(s, 0);
-    let shift = helmert::prepare(kept::step_of(entry));
+    let shift = kept::shift_of(entry);
     let start = helmert::start(shift);
     let tally = pass(shift, start, list);
     KeptTally {
@@ -129,7 +129,7 @@ pub fn correct_reach(
         };
     }
     let entry = sheet::entry_at(s, 0);
-    let shift = helmert::prepare(kept::step_of(entry));
+    let shift = kept::shift_of(entry);
     let from = before(shift, track, index);
     let a = 4 * index;
     let e = 4 * (index + corrected.redone as usize); // the stretch, and no more

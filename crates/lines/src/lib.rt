@@ -146,6 +146,21 @@ fn put_three_at(
     put_end(room, v, unit, rate)
 }
 
+pub fn put_three(
+    room: &mut [u8],
+    at: usize,
+    name: &[u8],
+    s: &[u8],
+    base: u32,
+    k: u32,
+    unit: Unit,
+    rate: bool,
+) -> usize
+    ensures { λ r. ⌜ text (now (room .exit)) r ≡ appended (text (now (room .entry)) at) (threeLine (now (name .entry)) (now (s .entry)) (base + k) unit rate) ⌝ }
+{
+    put_three_at(room, at, name, s, place_of(base, k), unit, rate)
+}
+
 // ----- which of two is in force -----------------------------------------------------------
 
 fn put_winner(room: &mut [u8], at: usize, s: &[u8], single: usize, series: usize) -> usize

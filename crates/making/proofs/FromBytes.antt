@@ -14,8 +14,8 @@ use Rattle.words.specs.Words.{Bytes, word32, word64, numberAt}
 use Rattle.words.proofs.Laws.{word32-is-a-word}
 use Rattle.bodies.specs.declared.Step.{Step}
 use Rattle.bodies.specs.Kinds.{lengthOf}
-use Rattle.bodies.specs.Read.{vec3At, helmertOf, cartOf, molodenskyOf, permtideOf, deformationOf, blankStep, stepOf}
-use Rattle.bodies.specs.Held.{Held, Held3, HeldHelmert, HeldCart, HeldMolodensky, HeldPermtide, HeldDeformation}
+use Rattle.bodies.specs.Read.{vec3At, helmertOf, cartOf, molodenskyOf, permtideOf, deformationOf, badekasOf, blankStep, stepOf}
+use Rattle.bodies.specs.Held.{Held, Held3, HeldHelmert, HeldCart, HeldMolodensky, HeldPermtide, HeldDeformation, HeldBadekas}
 use Rattle.sheet.specs.Layout.{stepCountOf, kindAt, bodyAt, lengthAt, offsetAt, entryAt, entriesFrom, recordOf}
 use Rattle.sheet.specs.Rules.{refusalOf}
 use Rattle.sheet.proofs.Accepted.{accepted-keeps}
@@ -83,6 +83,18 @@ module _ (b : List ℕ) (bytes : Bytes b) where
   unfolding deformationOf
   deformation-held = record { flags-held = word 0; ellipsoid-held = word 4; dt-held = number 8; epoch-held = number 16 }
 
+  badekas-held : HeldBadekas (badekasOf b)
+  unfolding badekasOf
+  badekas-held =
+      record {
+        flags-held = word 0;
+        convention-held = word 4;
+        translation-held = three 8;
+        rotation-held = three 32;
+        scale-held = number 56;
+        pivot-held = three 64;
+      }
+
   either : (t : Bool) (x y : Step) → Held x → Held y → Held (cond t x y)
   either true x y p q = p
   either false x y p q = q
@@ -99,7 +111,8 @@ module _ (b : List ℕ) (bytes : Bytes b) where
       (either (eqb kind 2) _ _ cart-held
       (either (eqb kind 3) _ _ molodensky-held
       (either (eqb kind 4) _ _ permtide-held
-      (either (eqb kind 5) _ _ deformation-held blank-held)))))
+      (either (eqb kind 5) _ _ deformation-held
+      (either (eqb kind 6) _ _ badekas-held blank-held))))))
       blank-held
 
 -- ---- the record of a sheet

@@ -15,9 +15,10 @@ use Rattle.deformation.specs.Record.{directedOf}
 use Rattle.deformation.specs.Step.{motionOf}
 use Rattle.helmert.specs.declared.State.{State}
 use Rattle.helmert.specs.Modes.{prepareOf, startOf}
+use Rattle.badekas.specs.Step.{shiftOf}
 use Rattle.bodies.specs.declared.Step.{Step}
 use Rattle.cart.specs.declared.Cart as record-of
-use Rattle.bodies.specs.declared.Step.the-variants.{Cart, Permtide, Deformation, Molodensky, Helmert}
+use Rattle.bodies.specs.declared.Step.the-variants.{Cart, Permtide, Deformation, Molodensky, Badekas, Helmert}
 use Rattle.bodies.specs.Kinds.{lengthOf}
 use Rattle.lists.specs.Run.{Turns}
 use Rattle.helmert.specs.Turns.{noState, allTurns, helmertTurns}
@@ -43,6 +44,7 @@ planOf inverse (Permtide r) = PermtideEither (tideOf r) inverse
 planOf inverse (Deformation r) = DeformationEither (motionOf r) (directedOf r inverse)
 planOf inverse (Molodensky r) = MolodenskyEither (mopedOf r) inverse
 planOf inverse (Helmert h) = HelmertEither (prepareOf h) inverse
+planOf inverse (Badekas r) = HelmertEither (shiftOf r) inverse
 
 -- the plan at an index of an array; past the end what an array reads as there
 abbrev pub planIn : List Plan → ℕ → Plan

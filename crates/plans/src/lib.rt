@@ -1,7 +1,8 @@
 // A step made ready for a list: what depends on its record alone is worked out once, and the
 // direction is in the plan.
 //
-// It stands in place of the Rust's `Op`, which holds a step's prepared values and its direction.
+// It stands in place of the Rust's `Op`, which holds a step's prepared values and its direction. A
+// ten-parameter step has Helmert's plan, whose shift then has a pivot.
 // `plan_of` reads the record from a sheet's bytes where they lie, `plan_of_step` takes one that is
 // already read. specs/Plans.antt says what a plan makes of one tuple and the state that it starts a
 // list in; specs/Windows.antt says what plans make of a part of a list, each going on from where it
@@ -74,6 +75,9 @@ pub fn plan_of_step(inverse: bool, step: Step) -> Plan
         Step::Helmert(h) => {
             return Plan::HelmertEither(helmert::prepare(h), inverse);
         }
+        Step::Badekas(r) => {
+            return Plan::HelmertEither(badekas::prepare(r), inverse);
+        }
     }
 }
 
@@ -115,6 +119,9 @@ pub fn plan_of(inverse: bool, kind: u32, b: &[u8]) -> Plan
     if held == 5 {
         let r = bodies::read_deformation(b);
         return Plan::DeformationEither(Motion::new(r), r.directed(inverse));
+    }
+    if held == 6 {
+        return Plan::HelmertEither(badekas::prepare(bodies::read_badekas(b)), inverse);
     }
     cart_plan(inverse, cart_of(held, b))
 }

@@ -15,7 +15,7 @@ use Rattle.helmert.specs.Record.{exactOf, ownEpochOf}
 use Rattle.helmert.specs.Units.{parametersOf}
 use Rattle.helmert.specs.Rules.{dynamicOf}
 use Rattle.bodies.specs.declared.Step.{Step}
-use Rattle.bodies.specs.declared.Step.the-variants.{Cart, Permtide, Deformation, Molodensky, Helmert}
+use Rattle.bodies.specs.declared.Step.the-variants.{Cart, Permtide, Deformation, Molodensky, Badekas, Helmert}
 use Rattle.sheet.specs.declared.Refusal.{Refusal}
 use Rattle.sheet.specs.Layout.{stepCountOf, kindAt, stepAt}
 use Rattle.sheet.specs.Rules.{Rule, rule, accepted, ofCall, ofStep, elevens, readerOrder, firstBroken, refusalOf}
@@ -61,6 +61,7 @@ kept-through (Cart r) e = LetsThrough.a-cart
 kept-through (Molodensky r) e = absurd (true≢false e)
 kept-through (Permtide r) e = absurd (true≢false e)
 kept-through (Deformation r) e = absurd (true≢false e)
+kept-through (Badekas r) e = absurd (true≢false e)
 
 -- a step does not offend exactly when the rules in words hold of it
 pub lets-through-exactly-when : (step : Step) → (refusal25 step ≡ false) ↔ LetsThrough step

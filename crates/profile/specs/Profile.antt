@@ -10,7 +10,7 @@ use Rattle.helmert.specs.Record.{exactOf, ownEpochOf}
 use Rattle.helmert.specs.Units.{parametersOf}
 use Rattle.helmert.specs.Rules.{dynamicOf}
 use Rattle.bodies.specs.declared.Step.{Step}
-use Rattle.bodies.specs.declared.Step.the-variants.{Cart, Permtide, Deformation, Molodensky, Helmert}
+use Rattle.bodies.specs.declared.Step.the-variants.{Cart, Permtide, Deformation, Molodensky, Badekas, Helmert}
 use Rattle.sheet.specs.declared.Refusal.{Refusal}
 use Rattle.sheet.specs.Layout.{stepCountOf, kindAt, stepAt}
 use Rattle.sheet.specs.Rules.{Rule, rule, ofCall, ofStep, refusal1, refusal2, refusal3, refusal4, refusal5At, fiveToEight, elevens, firstBroken}
@@ -29,6 +29,7 @@ refusal25 (Cart r) = false
 refusal25 (Molodensky r) = true
 refusal25 (Permtide r) = true
 refusal25 (Deformation r) = true
+refusal25 (Badekas r) = true
 
 -- ---- the order
 

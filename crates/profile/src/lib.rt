@@ -40,6 +40,7 @@ pub fn offends(step: Step) -> bool
         Step::Molodensky(_) => true,
         Step::Permtide(_) => true,
         Step::Deformation(_) => true,
+        Step::Badekas(_) => true,
     }
 }
 

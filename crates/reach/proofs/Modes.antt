@@ -2,12 +2,14 @@
 -- that "met" speaks of are those whose matrix the step uses. A running pass holds, from one change
 -- of time to the next, whether R at the last time is out of reach (`Seen`). Assumes nothing.
 use mathlib.Core.Path.{_≡_, refl, sym, ap, _∙_}
-use mathlib.Core.Bool.{Bool, true, false, not, _&&_, true≢false}
+use mathlib.Core.Bool.{Bool, true, false, not, cond, _&&_, true≢false}
 use lib.Ieee.{Float, isNan, ne}
 use Rattle.floats.specs.Binary64.{_⊖_}
 use Rattle.tuple.specs.declared.Tuple.{Tuple}
 use Rattle.helmert.specs.declared.Shift.{Shift}
 use Rattle.helmert.specs.declared.State.{State}
+use Rattle.rotation.specs.Matrix.{rotationMatrixOf}
+use Rattle.helmert.specs.Apply.{applyAboutOf}
 use Rattle.helmert.specs.Modes.{rotationAtOf, scaleAtOf, grownOf, nextOf, shiftedOf, runningOf, fixedStepOf, ownEpochStepOf, stepOf, timeVaryingOf, isRunningOf, isOwnEpochOf}
 use Rattle.helmert.proofs.Laws.{state-stays, step-in-own-epoch}
 use Rattle.reach.specs.Met.{rotationOut, rotationUsed, matrixOut, ownOut}
@@ -109,7 +111,11 @@ unfolding stepOf runningOf
 running-uses shift inverse state v h = rw h
 
 pub fixed-uses : (shift : Shift) (inverse : Bool) (state : State) (v : Tuple) → isRunningOf shift ≡ false → isOwnEpochOf shift ≡ false
-    → stepOf shift inverse state v .tuple ≡ shiftedOf shift inverse (shift .parameters .t) (rotationUsed shift state v) (shift .parameters .s) v
+    → let p = shift .parameters in
+    stepOf shift inverse state v .tuple
+    ≡ cond (shift .pivoted)
+    (applyAboutOf inverse (shift .pivot) (p .t) (p .s) (shift .rotated) (rotationMatrixOf (rotationUsed shift state v) (shift .exact) (shift .«position_vector»)) v)
+    (shiftedOf shift inverse (p .t) (rotationUsed shift state v) (p .s) v)
 unfolding stepOf fixedStepOf
 fixed-uses shift inverse state v h o = rw (h, o)
 

@@ -27,19 +27,21 @@ pub length-small : (kind : ℕ) → lengthOf kind ≤ 248
 unfolding lengthOf
 length-small kind =
     at-most (eqb kind 1) _ _ 248 (omega arith) (at-most (eqb kind 2) _ _ 248 (omega arith) (at-most (eqb kind 3) _ _ 248 (omega arith)
-    (at-most (eqb kind 4) _ _ 248 (omega arith) (at-most (eqb kind 5) _ _ 248 (omega arith) (omega arith)))))
+    (at-most (eqb kind 4) _ _ 248 (omega arith) (at-most (eqb kind 5) _ _ 248 (omega arith)
+    (at-most (eqb kind 6) _ _ 248 (omega arith) (omega arith))))))
 
 or-less : (b : Bool) (kind k x y m : ℕ) → eqb kind k ≡ b → k ≤ m → ((y ≡ 0 → ⊥) → kind ≤ m) → (cond b x y ≡ 0 → ⊥) → kind ≤ m
 or-less true kind k x y m e h rest some = let same = eqb-true kind k e in omega arith
 or-less false kind k x y m e h rest some = rest some
 
 -- a kind that has a length is a small number
-pub kind-small : (kind : ℕ) → (lengthOf kind ≡ 0 → ⊥) → kind ≤ 5
+pub kind-small : (kind : ℕ) → (lengthOf kind ≡ 0 → ⊥) → kind ≤ 6
 unfolding lengthOf
 kind-small kind some =
-    or-less (eqb kind 1) kind 1 _ _ 5 refl (omega arith) (or-less (eqb kind 2) kind 2 _ _ 5 refl (omega arith)
-    (or-less (eqb kind 3) kind 3 _ _ 5 refl (omega arith) (or-less (eqb kind 4) kind 4 _ _ 5 refl (omega arith)
-    (or-less (eqb kind 5) kind 5 _ _ 5 refl (omega arith) (λ no. absurd (no refl)))))) some
+    or-less (eqb kind 1) kind 1 _ _ 6 refl (omega arith) (or-less (eqb kind 2) kind 2 _ _ 6 refl (omega arith)
+    (or-less (eqb kind 3) kind 3 _ _ 6 refl (omega arith) (or-less (eqb kind 4) kind 4 _ _ 6 refl (omega arith)
+    (or-less (eqb kind 5) kind 5 _ _ 6 refl (omega arith) (or-less (eqb kind 6) kind 6 _ _ 6 refl (omega arith)
+    (λ no. absurd (no refl))))))) some
 
 -- ---- where bodies start
 

@@ -12,7 +12,7 @@ use lib.Seq.{take-at, drop-at}
 use Rattle.words.specs.Words.{word32, le32}
 use Rattle.words.proofs.Laws.{word-back, word32-in-part}
 use Rattle.bodies.specs.declared.Step.{Step}
-use Rattle.bodies.specs.declared.Step.the-variants.{Cart, Permtide, Deformation, Molodensky, Helmert}
+use Rattle.bodies.specs.declared.Step.the-variants.{Cart, Permtide, Deformation, Molodensky, Badekas, Helmert}
 use Rattle.bodies.specs.Kinds.{lengthOf, kindOf}
 use Rattle.bodies.specs.Read.{stepOf}
 use Rattle.body_writer.specs.Write.{bytesOf}
@@ -68,6 +68,7 @@ kind-small (Cart r) = omega arith
 kind-small (Molodensky r) = omega arith
 kind-small (Permtide r) = omega arith
 kind-small (Deformation r) = omega arith
+kind-small (Badekas r) = omega arith
 
 kind-has-length : (st : Step) → lengthOf (kindOf st) ≡ 0 → ⊥
 unfolding kindOf lengthOf
@@ -76,6 +77,7 @@ kind-has-length (Cart r) e = omega arith
 kind-has-length (Molodensky r) e = omega arith
 kind-has-length (Permtide r) e = omega arith
 kind-has-length (Deformation r) e = omega arith
+kind-has-length (Badekas r) e = omega arith
 
 -- ---- what the writer asks of a record
 

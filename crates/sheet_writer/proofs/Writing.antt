@@ -27,7 +27,8 @@ pub length-small : (kind : ℕ) → lengthOf kind ≤ 248
 unfolding lengthOf
 length-small kind =
     at-most (eqb kind 1) _ _ 248 (omega arith) (at-most (eqb kind 2) _ _ 248 (omega arith) (at-most (eqb kind 3) _ _ 248 (omega arith)
-    (at-most (eqb kind 4) _ _ 248 (omega arith) (at-most (eqb kind 5) _ _ 248 (omega arith) (omega arith)))))
+    (at-most (eqb kind 4) _ _ 248 (omega arith) (at-most (eqb kind 5) _ _ 248 (omega arith)
+    (at-most (eqb kind 6) _ _ 248 (omega arith) (omega arith))))))
 
 module _ (sheet : Sheet) where
   pub start-next : (i : ℕ) → bodyStart sheet (i + 1) ≡ bodyStart sheet i + lengthIn sheet i

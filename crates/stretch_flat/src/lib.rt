@@ -14,10 +14,8 @@ ghost use Prim.Native.Nat.{_+_, _*_, _%_, _≤_, _<_};
 ghost use lib.ListN.{length};
 ghost use Rattle.columns.specs.Columns.{Level};
 ghost use Rattle.lists.specs.Run.{ranOf, stateAfterOf};
-ghost use Rattle.helmert.specs.Modes.{prepareOf};
 ghost use Rattle.helmert.specs.Turns.{helmertTurns};
 ghost use Rattle.stretch.specs.Kept.{keptOf, freshOf, redoneOf, redoOf, beforeOf, correctedOf, fitOf, freshRunOf, putRightOf};
-use helmert::Helmert;
 use helmert::Shift;
 use helmert::State;
 use tuple::Tuple;
@@ -171,12 +169,12 @@ fn run(shift: Shift, inverse: bool, list: &[f64], results: &mut [f64], track: &m
 }
 
 // A fresh run; nothing is written where the three lists do not fit together.
-pub fn fresh(step: Helmert, inverse: bool, list: &[f64], results: &mut [f64], track: &mut [f64])
+pub fn fresh(shift: Shift, inverse: bool, list: &[f64], results: &mut [f64], track: &mut [f64])
     ensures { λ _. ⌜ keptOf (now (list .entry)) (now (results .exit)) (now (track .exit))
-        ≡ freshRunOf (prepareOf step) inverse (keptOf (now (list .entry)) (now (results .entry)) (now (track .entry))) ⌝ }
+        ≡ freshRunOf shift inverse (keptOf (now (list .entry)) (now (results .entry)) (now (track .entry))) ⌝ }
 {
     if fits(list.len(), results.len(), track.len()) {
-        run(helmert::prepare(step), inverse, list, results, track);
+        run(shift, inverse, list, results, track);
     }
 }
 
@@ -240,7 +238,7 @@ fn put_and_redo(
 // Corrects a fix, and counts the fixes redone; 0, and nothing is written, where the three lists do
 // not fit together or no fix stands at the index.
 pub fn put_right(
-    step: Helmert,
+    shift: Shift,
     inverse: bool,
     list: &mut [f64],
     results: &mut [f64],
@@ -249,18 +247,10 @@ pub fn put_right(
     fix: Tuple,
 ) -> usize
     ensures { λ r. ⌜ redoneOf r (keptOf (now (list .exit)) (now (results .exit)) (now (track .exit)))
-        ≡ putRightOf (prepareOf step) inverse (keptOf (now (list .entry)) (now (results .entry)) (now (track .entry))) index fix ⌝ }
+        ≡ putRightOf shift inverse (keptOf (now (list .entry)) (now (results .entry)) (now (track .entry))) index fix ⌝ }
 {
     if fits(list.len(), results.len(), track.len()) & (index < list.len() / 4) {
-        return put_and_redo(
-            helmert::prepare(step),
-            inverse,
-            list,
-            results,
-            track,
-            index,
-            fix,
-        );
+        return put_and_redo(shift, inverse, list, results, track, index, fix);
     }
     0
 }

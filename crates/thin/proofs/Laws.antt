@@ -18,7 +18,7 @@ use Rattle.tuple.specs.declared.Tuple.{Tuple}
 use Rattle.tuple.specs.Sums.{nanTuple}
 use Rattle.helmert.specs.declared.State.{State}
 use Rattle.bodies.specs.declared.Step.{Step}
-use Rattle.bodies.specs.declared.Step.the-variants.{Cart, Permtide, Deformation, Molodensky, Helmert}
+use Rattle.bodies.specs.declared.Step.the-variants.{Cart, Permtide, Deformation, Molodensky, Badekas, Helmert}
 use Rattle.lists.specs.Flat.{fourOf, numbersOf}
 use Rattle.lists.specs.Run.{Turns, ranOf, countOf}
 use Rattle.sheet.specs.declared.Entry.{Entry}
@@ -87,6 +87,7 @@ plan-turns velocities marks false (Permtide r) = refl
 plan-turns velocities marks inverse (Deformation r) = refl
 plan-turns velocities marks inverse (Molodensky r) = refl
 plan-turns velocities marks inverse (Helmert h) = refl
+plan-turns velocities marks inverse (Badekas r) = refl
 
 pub plan-met : (velocities : List Float) (marks : List ℕ) (inverse : Bool) (step : Step) → planMetOf marks (planOf inverse step) ≡ metOf inverse (lentOf velocities marks []) step
 unfolding planOf
@@ -97,6 +98,7 @@ plan-met velocities marks false (Permtide r) = refl
 plan-met velocities marks inverse (Deformation r) = refl
 plan-met velocities marks inverse (Molodensky r) = refl
 plan-met velocities marks inverse (Helmert h) = refl
+plan-met velocities marks inverse (Badekas r) = refl
 
 pub plan-pass : (velocities : List Float) (marks : List ℕ) (inverse : Bool) (step : Step) → planPassOf velocities marks (planOf inverse step) ≡ passOf inverse (lentOf velocities marks []) step
 plan-pass velocities marks inverse step =
@@ -113,6 +115,7 @@ plan-starts false (Permtide r) = refl
 plan-starts inverse (Deformation r) = refl
 plan-starts inverse (Molodensky r) = refl
 plan-starts inverse (Helmert h) = refl
+plan-starts inverse (Badekas r) = refl
 
 pub turn-is : (velocities : List Float) (marks : List ℕ) (plan : Plan) (k : ℕ) (at : Carried) (u : Tuple)
     → turnOf velocities marks plan k at u ≡ tallied at (planTurnsOf velocities marks plan k (at .state) u) (planMetOf marks plan k (at .state) u)

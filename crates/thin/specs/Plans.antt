@@ -13,8 +13,9 @@ use Rattle.deformation.specs.Record.{directedOf}
 use Rattle.deformation.specs.Step.{motionOf}
 use Rattle.helmert.specs.declared.State.{State}
 use Rattle.helmert.specs.Modes.{prepareOf, startOf}
+use Rattle.badekas.specs.Step.{shiftOf}
 use Rattle.bodies.specs.declared.Step.{Step}
-use Rattle.bodies.specs.declared.Step.the-variants.{Cart, Permtide, Deformation, Molodensky, Helmert}
+use Rattle.bodies.specs.declared.Step.the-variants.{Cart, Permtide, Deformation, Molodensky, Badekas, Helmert}
 use Rattle.lists.specs.Run.{Turn, Turns}
 use Rattle.helmert.specs.Turns.{noState, allTurns, helmertTurns}
 use Rattle.turns.specs.Turns.{plainTurns, movedTurns}
@@ -34,6 +35,7 @@ planOf inverse (Permtide r) = cond inverse (PermtideInverse (tideOf r)) (Permtid
 planOf inverse (Deformation r) = DeformationEither (motionOf r) (directedOf r inverse)
 planOf inverse (Molodensky r) = MolodenskyEither (mopedOf r) inverse
 planOf inverse (Helmert h) = HelmertEither (prepareOf h) inverse
+planOf inverse (Badekas r) = HelmertEither (shiftOf r) inverse
 
 -- what a plan makes of one tuple
 abbrev pub planTurnsOf : List Float → List ℕ → Plan → Turns State

@@ -3,7 +3,7 @@
 //
 // Document 01: "a lent flat list; afterwards also a thin entry over a lent list of tuple records".
 // The flat entries are the core. What is here walks a `&mut [Tuple]` and hands each tuple to the
-// step that the core is made of: `run_step` has the one loop over tuples, for all five kinds,
+// step that the core is made of: `run_step` has the one loop over tuples, for all six kinds,
 // either way, Helmert in every mode with its carried state; `shift` runs a sheet's steps one after
 // another by it, with `chain::shift`'s refusals in their order, 2,048 tuples at most. Proved for
 // every input: the list and the tally of `run_step` are the step's own definition from tuple to
@@ -85,6 +85,9 @@ fn plan_of(inverse: bool, step: Step) -> Plan
         }
         Step::Helmert(h) => {
             return Plan::HelmertEither(helmert::prepare(h), inverse);
+        }
+        Step::Badekas(r) => {
+            return Plan::HelmertEither(badekas::prepare(r), inverse);
         }
     }
 }

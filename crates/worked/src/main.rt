@@ -4,6 +4,7 @@
 // Lengths are printed to the millimetre, angles in degrees, minutes and seconds to a thousandth.
 // The inputs are the document's own; the last digits of a published figure are its rounding, up to
 // 6 mm where it was worked with rounded parameters.
+use badekas::Badekas;
 use ellipsoid::Ellipsoid;
 use helmert::Helmert;
 use molodensky::Molodensky;
@@ -136,6 +137,51 @@ fn helmert_shifts() {
     io::write_all(OUT, b"  published  3657660.78  255778.43  5201387.75\n");
 }
 
+// La Canoa to REGVEN by the coordinate frame about a pivot in Venezuela, EPSG method 1034
+fn regven(inverse: bool, v: Tuple) -> Tuple {
+    let mut b = Badekas::blank();
+    let t = Vec3 {
+        x: -270.933,
+        y: 115.599,
+        z: -360.226,
+    };
+    let r = Vec3 {
+        x: -5.266,
+        y: -1.238,
+        z: 2.381,
+    };
+    let p = Vec3 {
+        x: 2464351.59,
+        y: -5783466.61,
+        z: 974809.81,
+    };
+    b.convention = 2;
+    b.translation = t;
+    b.rotation = r;
+    b.scale = -5.109;
+    b.pivot = p;
+    helmert::fixed_step(badekas::prepare(b), inverse, v)
+}
+
+fn badekas_shift() {
+    let la_canoa = Tuple {
+        x: 2550408.96,
+        y: -5749912.26,
+        z: 1054891.11,
+        t: 0.0,
+    };
+    let there = regven(false, la_canoa);
+    io::write_all(
+        OUT,
+        b"Molodensky-Badekas, La Canoa to REGVEN\n  ours       ",
+    );
+    print_cartesian(there);
+    io::write_all(OUT, b"  published  2550138.45  -5749799.87  1054530.82\n");
+    io::write_all(OUT, b"and back\n  ours       ");
+    print_cartesian(regven(true, there));
+    io::write_all(OUT, b"  published  2550408.96  -5749912.26  1054891.11\n");
+}
+
 // WGS 84 to ED50
 fn ed50(flags: u32) -> Tuple {
     let mut m = Molodensky::blank();
@@ -160,5 +206,6 @@ fn molodensky_shifts() {
 fn main() {
     geocentric();
     helmert_shifts();
+    badekas_shift();
     molodensky_shifts();
 }

@@ -1,5 +1,5 @@
 //! The published shifts. Where a source names an EPSG code, the parameters were held against the EPSG dataset, version 10.076, as PROJ 9.1.1 carries it.
-use sillfeather::{Cart, Convention, Deformation, Direction, Ellipsoid, Helmert, Molodensky, Permtide, Step, TideSystem};
+use sillfeather::{Badekas, Cart, Convention, Deformation, Direction, Ellipsoid, Helmert, Molodensky, Permtide, Step, TideSystem};
 
 use Direction::{Forward, Inverse};
 use Ellipsoid::{Bessel1841, Grs80, International1924, Krassowsky1940, Wgs84};
@@ -87,6 +87,7 @@ fn shift(name: &'static str, title: &'static str, source: &'static str, accuracy
 pub fn all() -> Vec<Published> {
     let mut all = between_datums();
     all.extend(molodensky());
+    all.extend(about_a_pivot());
     all.extend(between_frames());
     all.extend(the_other_kinds());
     all
@@ -330,6 +331,49 @@ fn between_frames() -> Vec<Published> {
                 "EPSG 9991; itrf.ign.fr, parameters from ITRF2020 to past ITRFs",
                 "0.001 m",
             )
+        },
+    ]
+}
+
+// ----- About a pivot -----------------------------------------------------------------------
+
+fn about_a_pivot() -> Vec<Published> {
+    vec![
+        Published {
+            steps: one(Badekas {
+                convention: COORDINATE_FRAME,
+                translation: [-270.933, 115.599, -360.226],
+                rotation: [-5.266, -1.238, 2.381],
+                scale: -5.109,
+                pivot: [2464351.59, -5783466.61, 974809.81],
+                ..Badekas::BLANK
+            }),
+            from: Geocentric,
+            to: Geocentric,
+            fixes: vec![[2550408.96, -5749912.26, 1054891.11, 0.0], [2464351.59, -5783466.61, 974809.81, 0.0]],
+            published: vec!["2550138.45, -5749799.87, 1054530.82 m (IOGP 373-7-2)"],
+            ..shift("la_canoa_to_regven", "La Canoa to REGVEN, Venezuela", "EPSG 1771; the worked example of IOGP 373-7-2", "2 m")
+        },
+        Published {
+            steps: vec![
+                (false, Cart { ellipsoid: Bessel1841 }.into()),
+                (
+                    false,
+                    Badekas {
+                        convention: COORDINATE_FRAME,
+                        translation: [593.0248, 25.9984, 478.7459],
+                        // 1.9342, -1.6677 and 9.1019 microradians
+                        rotation: [0.3989573882431338, -0.3439878173782826, 1.8774016399804465],
+                        scale: 4.0725,
+                        pivot: [3903453.1482, 368135.3134, 5012970.3051],
+                        ..Badekas::BLANK
+                    }
+                    .into(),
+                ),
+                (true, Cart { ellipsoid: Grs80 }.into()),
+            ],
+            fixes: vec![[5.387638, 52.155172, 0.0, 2024.5], [4.5, 53.0, 10.0, 2024.5], [3.6, 51.5, -30.0, 2024.5]],
+            ..shift("amersfoort_to_etrs89", "Amersfoort to ETRS89, the Netherlands", "EPSG 4831; RDNAPTRANS2008, Kadaster", "0.5 m")
         },
     ]
 }

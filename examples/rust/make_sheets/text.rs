@@ -1,7 +1,7 @@
 //! What is written for a person, and the program's own lines.
 use std::fmt::Write;
 
-use sillfeather::{Deformation, Direction, Ellipsoid, Helmert, Molodensky, Permtide, Sheet, Step};
+use sillfeather::{Badekas, Deformation, Direction, Ellipsoid, Helmert, Molodensky, Permtide, Sheet, Step};
 
 use crate::shifts::{Place, Published};
 
@@ -56,6 +56,7 @@ fn kind(step: &Step) -> &'static str {
         Step::Molodensky(_) => "Molodensky",
         Step::Permtide(_) => "permtide",
         Step::Deformation(_) => "deformation",
+        Step::Badekas(_) => "Molodensky-Badekas",
     }
 }
 
@@ -67,6 +68,7 @@ fn fields(step: &Step) -> Vec<(&'static str, String)> {
         Step::Molodensky(m) => molodensky(m),
         Step::Permtide(p) => permtide(p),
         Step::Deformation(d) => deformation(d),
+        Step::Badekas(b) => badekas(b),
     }
 }
 
@@ -131,6 +133,24 @@ fn deformation(d: &Deformation) -> Vec<(&'static str, String)> {
         out.push(("flags", flags.join(", ")));
     }
     times(&mut out, &[("dt", d.dt), ("t_epoch", d.t_epoch)]);
+    out
+}
+
+fn badekas(b: &Badekas) -> Vec<(&'static str, String)> {
+    let mut out = Vec::new();
+    let flags = [(b.exact, "exact"), (b.uas, "uas"), (b.mm, "mm")];
+    let flags: Vec<&str> = flags.into_iter().filter_map(|(set, name)| set.then_some(name)).collect();
+    if !flags.is_empty() {
+        out.push(("flags", flags.join(", ")));
+    }
+    if let Some(convention) = b.convention {
+        out.push(("convention", words(&format!("{convention:?}"))));
+    }
+    let three = |v: [f64; 3], unit: &str| format!("{}, {}, {} {unit}", v[0], v[1], v[2]);
+    out.push(("translation", three(b.translation, if b.mm { "mm" } else { "m" })));
+    out.push(("rotation", three(b.rotation, if b.uas { "µas" } else { "″" })));
+    out.push(("scale", format!("{} parts in 10⁶", b.scale)));
+    out.push(("pivot", three(b.pivot, "m")));
     out
 }
 

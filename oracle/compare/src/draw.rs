@@ -434,3 +434,19 @@ pub fn deformation(r: &mut Random, raw: bool) -> Body {
     let t_epoch = if r.once_in(if dt.is_nan() { 20 } else { 2 }) { NOT_GIVEN } else { epoch(r, style) };
     Body::Deformation { flags: raw as u32, ellipsoid: ellipsoid(r), dt, t_epoch }
 }
+
+/// A body of kind 6: a pivot near the earth's surface, of zeros, or wild. Now and then the convention that rule 6 asks for is left out, and now and then S is 0.
+pub fn badekas(r: &mut Random) -> Body {
+    let style = style(r);
+    let flags = r.below(8) as u32;
+    let convention = if r.once_in(20) { 0 } else { 1 + r.below(2) as u32 };
+    let translation = three(r, style, 500.0);
+    let rotation = if r.once_in(4) { zeros(r) } else { angles(r, style, 5.0).0 };
+    let scale = if r.once_in(20) { -1e6 } else { parameter(r, style, 20.0) };
+    let pivot = match r.below(4) {
+        0 => zeros(r),
+        1 => [0.0; 3],
+        _ => three(r, style, 6.4e6),
+    };
+    Body::Badekas { flags, convention, translation, rotation, scale, pivot }
+}

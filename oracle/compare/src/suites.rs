@@ -31,11 +31,12 @@ pub const SUITES: [Suite; 12] = [
 ];
 
 /// Suites beside those that the stored vectors are drawn from.
-pub const FURTHER: [Suite; 4] = [
+pub const FURTHER: [Suite; 5] = [
     Suite { name: "helmert small angles", draw: small_angles },
     Suite { name: "permtide at the edges", draw: tides },
     Suite { name: "deformation by the comment", draw: by_the_comment },
     Suite { name: "helmert missing times", draw: missing_times },
+    Suite { name: "badekas", draw: badekas },
 ];
 
 /// One step, asked for in a direction: by the call alone, or turned in the sheet.
@@ -113,6 +114,21 @@ fn by_the_comment(r: &mut Random, inverse: bool, n: usize) -> Job {
     let Body::Deformation { flags, ellipsoid, dt, t_epoch } = draw::deformation(r, raw) else { unreachable!() };
     let list = draw::list(r, n, t_epoch, draw::cartesian);
     one(r, inverse, Body::Deformation { flags: flags + 2, ellipsoid, dt, t_epoch }, list)
+}
+
+/// Kind 6. Now and then a fix is the pivot itself, or three zeros of either sign.
+fn badekas(r: &mut Random, inverse: bool, n: usize) -> Job {
+    let body = draw::badekas(r);
+    let Body::Badekas { pivot, .. } = body else { unreachable!() };
+    let mut list = draw::list(r, n, 2000.0, draw::cartesian);
+    for tuple in list.chunks_exact_mut(4) {
+        if r.once_in(50) {
+            tuple[..3].copy_from_slice(&pivot);
+        } else if r.once_in(50) {
+            tuple[..3].fill_with(|| r.sign(0.0));
+        }
+    }
+    one(r, inverse, body, list)
 }
 
 fn deformation(r: &mut Random, inverse: bool, n: usize, raw: bool) -> Job {

@@ -82,6 +82,14 @@ pub enum Body {
         dt: f64,
         t_epoch: f64,
     },
+    Badekas {
+        flags: u32,
+        convention: u32,
+        translation: [f64; 3],
+        rotation: [f64; 3],
+        scale: f64,
+        pivot: [f64; 3],
+    },
 }
 
 #[derive(Clone, Debug)]
@@ -157,6 +165,7 @@ fn kind(body: &Body) -> u32 {
         Body::Molodensky { .. } => 3,
         Body::Permtide { .. } => 4,
         Body::Deformation { .. } => 5,
+        Body::Badekas { .. } => 6,
     }
 }
 
@@ -180,6 +189,13 @@ fn body_bytes(body: &Body) -> Vec<u8> {
         Body::Deformation { flags, ellipsoid, dt, t_epoch } => {
             b.words(&[flags, ellipsoid]);
             b.numbers(&[dt, t_epoch]);
+        }
+        Body::Badekas { flags, convention, translation, rotation, scale, pivot } => {
+            b.words(&[flags, convention]);
+            b.numbers(&translation);
+            b.numbers(&rotation);
+            b.numbers(&[scale]);
+            b.numbers(&pivot);
         }
     }
     b.0

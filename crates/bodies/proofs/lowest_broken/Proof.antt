@@ -37,8 +37,22 @@ broken-deformation-requires c κs = search needs
 returns-5 : tie.Need-returns-5
 returns-5 c = rw (c .before .if5 .taken) (c .broken-deformation .ensures)
 
+broken-badekas-requires : tie.Need-broken-badekas-requires
+broken-badekas-requires c κs = search needs
+
 returns-6 : tie.Need-returns-6
-returns-6 c = sym (no-kind-lowest _ _ (ne-eqb _ 1 (c .before .before .before .before .if1 .left)) (ne-eqb _ 2 (c .before .before .before .if2 .left)) (ne-eqb _ 3 (c .before .before .if3 .left)) (ne-eqb _ 4 (c .before .if4 .left)) (ne-eqb _ 5 (c .if5 .left)))
+returns-6 c = rw (c .before .if6 .taken) (c .broken-badekas .ensures)
+
+returns-7 : tie.Need-returns-7
+returns-7 c =
+    sym
+    (no-kind-lowest _ _
+    (ne-eqb _ 1 (c .before .before .before .before .before .if1 .left))
+    (ne-eqb _ 2 (c .before .before .before .before .if2 .left))
+    (ne-eqb _ 3 (c .before .before .before .if3 .left))
+    (ne-eqb _ 4 (c .before .before .if4 .left))
+    (ne-eqb _ 5 (c .before .if5 .left))
+    (ne-eqb _ 6 (c .if6 .left)))
 
 pub lowest-broken-spec : {M : Type 1} → statement M
 lowest-broken-spec =
@@ -54,4 +68,6 @@ lowest-broken-spec =
     returns-4
     broken-deformation-requires
     returns-5
-    returns-6)
+    broken-badekas-requires
+    returns-6
+    returns-7)

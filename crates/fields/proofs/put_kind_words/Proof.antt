@@ -82,7 +82,20 @@ same-length-6 c = search needs
 
 returns-6 : tie.Need-returns-6
 unfolding kindText
-returns-6 c = rw (ne-eqb _ _ (c .before .before .before .before .before .before .before .before .before .if1 .left), ne-eqb _ _ (c .before .before .before .before .before .before .before .before .if2 .left), ne-eqb _ _ (c .before .before .before .before .before .before .before .if3 .left), ne-eqb _ _ (c .before .before .before .before .before .before .if4 .left), ne-eqb _ _ (c .before .before .before .before .before .if5 .left)) (c .before .before .put-bytes6 .ensures)
+returns-6 c = rw (ne-eqb _ _ (c .before .before .before .before .before .before .before .before .before .before .if1 .left), ne-eqb _ _ (c .before .before .before .before .before .before .before .before .before .if2 .left), ne-eqb _ _ (c .before .before .before .before .before .before .before .before .if3 .left), ne-eqb _ _ (c .before .before .before .before .before .before .before .if4 .left), ne-eqb _ _ (c .before .before .before .before .before .before .if5 .left), c .before .before .before .before .before .if6 .taken) (c .before .before .put-bytes6 .ensures)
+
+slice-aggregate-put-bytes-7 : tie.Need-slice-aggregate-put-bytes-7
+slice-aggregate-put-bytes-7 c = search needs
+
+put-bytes-requires-7 : tie.Need-put-bytes-requires-7
+put-bytes-requires-7 c κs = search needs
+
+same-length-7 : tie.Need-same-length-7
+same-length-7 c = search needs
+
+returns-7 : tie.Need-returns-7
+unfolding kindText
+returns-7 c = rw (ne-eqb _ _ (c .before .before .before .before .before .before .before .before .before .before .if1 .left), ne-eqb _ _ (c .before .before .before .before .before .before .before .before .before .if2 .left), ne-eqb _ _ (c .before .before .before .before .before .before .before .before .if3 .left), ne-eqb _ _ (c .before .before .before .before .before .before .before .if4 .left), ne-eqb _ _ (c .before .before .before .before .before .before .if5 .left), ne-eqb _ _ (c .before .before .before .before .before .if6 .left)) (c .before .before .put-bytes7 .ensures)
 
 pub put-kind-words-spec : {M : Type 1} → statement M
 put-kind-words-spec =
@@ -111,4 +124,8 @@ put-kind-words-spec =
     slice-aggregate-put-bytes-6
     put-bytes-requires-6
     same-length-6
-    returns-6)
+    returns-6
+    slice-aggregate-put-bytes-7
+    put-bytes-requires-7
+    same-length-7
+    returns-7)

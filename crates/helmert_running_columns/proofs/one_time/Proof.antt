@@ -53,7 +53,7 @@ rotation-matrix-requires : tie.Need-rotation-matrix-requires Inv-loop μ-loop
 rotation-matrix-requires c κs = search needs
 
 row-requires : tie.Need-row-requires Inv-loop μ-loop
-row-requires c κs = search needs
+row-requires c κs = let o = c .before .before .before .before .before .before .before .before .before .before .before .before .before .before .before .before in (o .pre .0, o .pre .1)
 
 add-j : tie.Need-add-j Inv-loop μ-loop
 add-j c = search needs

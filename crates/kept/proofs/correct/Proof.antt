@@ -30,8 +30,8 @@ returns-2 c =
 entry-at-requires : tie.Need-entry-at-requires
 entry-at-requires c κs = search needs
 
-step-of-requires : tie.Need-step-of-requires
-step-of-requires c κs = search needs
+shift-of-requires : tie.Need-shift-of-requires
+shift-of-requires c κs = search needs
 
 reversed-requires : tie.Need-reversed-requires
 reversed-requires c κs = search needs
@@ -58,7 +58,7 @@ returns-3 c =
     correct-done _ _ _ _ _ e none there
     (c .before .before .before .before .before .before .put-right .ensures
     ∙ right-fits _ _ _ _ _ (fit-told _ _ _ (p .whole) (p .long-results) (p .long-track)) (below _ _ there)
-    ∙ rw (c .before .before .before .before .before .before .before .before .before .before .reversed .ensures, c .before .before .before .before .before .before .before .before .before .before .before .step-of .ensures, c .before .before .before .before .before .before .before .before .before .before .before .before .entry-at .ensures))
+    ∙ rw (c .before .before .before .before .before .before .before .before .before .before .reversed .ensures, c .before .before .before .before .before .before .before .before .before .before .before .shift-of .ensures, c .before .before .before .before .before .before .before .before .before .before .before .before .entry-at .ensures))
 
 pub correct-spec : {M : Type 1} → statement M
 correct-spec =
@@ -70,7 +70,7 @@ correct-spec =
     of-call-requires
     returns-2
     entry-at-requires
-    step-of-requires
+    shift-of-requires
     reversed-requires
     put-right-requires
     same-length

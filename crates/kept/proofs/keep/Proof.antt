@@ -21,8 +21,8 @@ returns c =
 entry-at-requires : tie.Need-entry-at-requires
 entry-at-requires c κs = search needs
 
-step-of-requires : tie.Need-step-of-requires
-step-of-requires c κs = search needs
+shift-of-requires : tie.Need-shift-of-requires
+shift-of-requires c κs = search needs
 
 reversed-requires : tie.Need-reversed-requires
 reversed-requires c κs = search needs
@@ -46,7 +46,7 @@ returns-2 c =
       keep-done _ _ _ none
           (c .before .before .before .before .fresh .ensures
           ∙ fresh-fits _ _ _ (fit-told _ _ _ (p .whole) (p .long-results) (p .long-track))
-          ∙ rw (c .before .before .before .before .before .before .before .reversed .ensures, c .before .before .before .before .before .before .before .before .step-of .ensures, c .before .before .before .before .before .before .before .before .before .entry-at .ensures)),
+          ∙ rw (c .before .before .before .before .before .before .before .reversed .ensures, c .before .before .before .before .before .before .before .before .shift-of .ensures, c .before .before .before .before .before .before .before .before .before .entry-at .ensures)),
     )
 
 pub keep-spec : {M : Type 1} → statement M
@@ -56,7 +56,7 @@ keep-spec =
     check-requires
     returns
     entry-at-requires
-    step-of-requires
+    shift-of-requires
     reversed-requires
     fresh-requires
     same-length

@@ -50,55 +50,52 @@ returns c =
 entry-at-requires : tie.Need-entry-at-requires
 entry-at-requires c κs = search needs
 
-step-of-requires : tie.Need-step-of-requires
-step-of-requires c κs = search needs
-
-prepare-requires : tie.Need-prepare-requires
-prepare-requires c κs = search needs
+shift-of-requires : tie.Need-shift-of-requires
+shift-of-requires c κs = search needs
 
 start-requires : tie.Need-start-requires
 start-requires c κs = search needs
 
 pass-rows-requires : tie.Need-pass-rows-requires
 pass-rows-requires c κs =
-    let a = c .before .before .before .before .before .before .before .before .before .before .before .before .before .before .before .before .before .before .before .before .before .before .before .before .before .before .before .before .before .before .before .before .before .before .before .before .before .before .before .before .before .before .before .before .args in
+    let a = c .before .before .before .before .before .before .before .before .before .before .before .before .before .before .before .before .before .before .before .before .before .before .before .before .before .before .before .before .before .before .before .before .before .before .before .before .before .before .before .before .before .before .before .args in
     let old = keptColumns (columns (a .x .now) (a .y .now) (a .z .now) (a .t .now)) (columns (a .rx .now) (a .ry .now) (a .rz .now) (a .rt .now)) (columns (a .kx .now) (a .ky .now) (a .kz .now) (a .kt .now)) in
-    let none = sym (ap (λ (r : Refusal). r .number) (c .before .before .before .before .before .before .before .before .before .before .before .before .before .before .before .before .before .before .before .before .before .before .keep .ensures .0)) ∙ c .before .before .before .before .if1 .left in
+    let none = sym (ap (λ (r : Refusal). r .number) (c .before .before .before .before .before .before .before .before .before .before .before .before .before .before .before .before .before .before .before .before .before .keep .ensures .0)) ∙ c .before .before .before .if1 .left in
     let long = list-length (a .inverse) (a .s .now) old none in
     let few = few-rows (a .inverse) (a .s .now) old none in
     (omega (arith, long), omega (arith, few))
 
 same-length-9 : tie.Need-same-length-9
-same-length-9 c = c .before .before .before .before .before .before .before .before .before .before .before .before .before .before .before .before .before .before .before .before .before .before .rx .given
+same-length-9 c = c .before .before .before .before .before .before .before .before .before .before .before .before .before .before .before .before .before .before .before .before .before .rx .given
 
 same-length-10 : tie.Need-same-length-10
-same-length-10 c = c .before .before .before .before .before .before .before .before .before .before .before .before .before .before .before .before .before .before .before .before .ry .given
+same-length-10 c = c .before .before .before .before .before .before .before .before .before .before .before .before .before .before .before .before .before .before .before .ry .given
 
 same-length-11 : tie.Need-same-length-11
-same-length-11 c = c .before .before .before .before .before .before .before .before .before .before .before .before .before .before .before .before .before .before .rz .given
+same-length-11 c = c .before .before .before .before .before .before .before .before .before .before .before .before .before .before .before .before .before .rz .given
 
 same-length-12 : tie.Need-same-length-12
-same-length-12 c = c .before .before .before .before .before .before .before .before .before .before .before .before .before .before .before .before .rt .given
+same-length-12 c = c .before .before .before .before .before .before .before .before .before .before .before .before .before .before .before .rt .given
 
 same-length-13 : tie.Need-same-length-13
-same-length-13 c = c .before .before .before .before .before .before .before .before .before .before .before .before .before .before .kx .given
+same-length-13 c = c .before .before .before .before .before .before .before .before .before .before .before .before .before .kx .given
 
 same-length-14 : tie.Need-same-length-14
-same-length-14 c = c .before .before .before .before .before .before .before .before .before .before .before .before .ky .given
+same-length-14 c = c .before .before .before .before .before .before .before .before .before .before .before .ky .given
 
 same-length-15 : tie.Need-same-length-15
-same-length-15 c = c .before .before .before .before .before .before .before .before .before .before .kz .given
+same-length-15 c = c .before .before .before .before .before .before .before .before .before .kz .given
 
 same-length-16 : tie.Need-same-length-16
-same-length-16 c = c .before .before .before .before .before .before .before .before .kt .given
+same-length-16 c = c .before .before .before .before .before .before .before .kt .given
 
 returns-2 : tie.Need-returns-2
 returns-2 c =
-    let a = c .before .before .before .before .before .before .before .before .before .before .before .before .before .before .before .before .before .before .before .before .before .before .before .before .before .before .before .before .before .before .before .before .before .before .before .before .before .before .before .before .before .before .before .before .before .args in
+    let a = c .before .before .before .before .before .before .before .before .before .before .before .before .before .before .before .before .before .before .before .before .before .before .before .before .before .before .before .before .before .before .before .before .before .before .before .before .before .before .before .before .before .before .before .before .args in
     let old = keptColumns (columns (a .x .now) (a .y .now) (a .z .now) (a .t .now)) (columns (a .rx .now) (a .ry .now) (a .rz .now) (a .rt .now)) (columns (a .kx .now) (a .ky .now) (a .kz .now) (a .kt .now)) in
-    let e = c .before .before .before .before .before .before .before .before .before .before .before .before .before .before .before .before .before .before .before .before .before .before .before .keep .ensures in
-    let none = sym (ap (λ (r : Refusal). r .number) (e .0)) ∙ c .before .before .before .before .before .if1 .left in
-    let told = rw (c .before .start .ensures, c .before .before .prepare .ensures, c .before .before .before .step-of .ensures, c .before .before .before .before .entry-at .ensures) at (c .pass-rows .ensures) in
+    let e = c .before .before .before .before .before .before .before .before .before .before .before .before .before .before .before .before .before .before .before .before .before .before .keep .ensures in
+    let none = sym (ap (λ (r : Refusal). r .number) (e .0)) ∙ c .before .before .before .before .if1 .left in
+    let told = rw (c .before .start .ensures, c .before .before .shift-of .ensures, c .before .before .before .entry-at .ensures) at (c .pass-rows .ensures) in
     (e .0, columns-tally (a .inverse) (a .s .now) old none told, e .1)
 
 pub keep-reach-spec : {M : Type 1} → statement M
@@ -117,8 +114,7 @@ keep-reach-spec =
     same-length-8
     returns
     entry-at-requires
-    step-of-requires
-    prepare-requires
+    shift-of-requires
     start-requires
     pass-rows-requires
     same-length-9

@@ -26,26 +26,23 @@ returns c = (c .before .before .before .before .before .before .before .before .
 entry-at-requires : tie.Need-entry-at-requires
 entry-at-requires c κs = search needs
 
-step-of-requires : tie.Need-step-of-requires
-step-of-requires c κs = search needs
-
-prepare-requires : tie.Need-prepare-requires
-prepare-requires c κs = search needs
+shift-of-requires : tie.Need-shift-of-requires
+shift-of-requires c κs = search needs
 
 before-requires : tie.Need-before-requires
-before-requires c κs = let a = c .before .before .before .before .before .before .before .before .before .before .before .before .before .before .before .before .before .before .before .before .before .args in track-reaches (a .inverse) (a .s .now) (keptOf (a .list .now) (a .results .now) (a .track .now)) (a .index) (a .fix) (c .before .before .before .before .before .before .before .before .before .before .before .before .before .correct .ensures) (c .before .before .before .before .if1 .left)
+before-requires c κs = let a = c .before .before .before .before .before .before .before .before .before .before .before .before .before .before .before .before .before .before .before .before .args in track-reaches (a .inverse) (a .s .now) (keptOf (a .list .now) (a .results .now) (a .track .now)) (a .index) (a .fix) (c .before .before .before .before .before .before .before .before .before .before .before .before .correct .ensures) (c .before .before .before .if1 .left)
 
 mul-a : tie.Need-mul-a
-mul-a c = search (needs, let a = c .before .before .before .before .before .before .before .before .before .before .before .before .before .before .before .before .before .before .before .before .before .before .args in stretch-small (a .inverse) (a .s .now) (keptOf (a .list .now) (a .results .now) (a .track .now)) (a .index) (a .fix) (c .before .before .before .before .before .before .before .before .before .before .before .before .before .before .correct .ensures) (c .before .before .before .before .before .if1 .left))
+mul-a c = search (needs, let a = c .before .before .before .before .before .before .before .before .before .before .before .before .before .before .before .before .before .before .before .before .before .args in stretch-small (a .inverse) (a .s .now) (keptOf (a .list .now) (a .results .now) (a .track .now)) (a .index) (a .fix) (c .before .before .before .before .before .before .before .before .before .before .before .before .before .correct .ensures) (c .before .before .before .before .if1 .left))
 
 add-e : tie.Need-add-e
-add-e c = search (needs, let a = c .before .before .before .before .before .before .before .before .before .before .before .before .before .before .before .before .before .before .before .before .before .before .args in stretch-small (a .inverse) (a .s .now) (keptOf (a .list .now) (a .results .now) (a .track .now)) (a .index) (a .fix) (c .before .before .before .before .before .before .before .before .before .before .before .before .before .before .correct .ensures) (c .before .before .before .before .before .if1 .left))
+add-e c = search (needs, let a = c .before .before .before .before .before .before .before .before .before .before .before .before .before .before .before .before .before .before .before .before .before .args in stretch-small (a .inverse) (a .s .now) (keptOf (a .list .now) (a .results .now) (a .track .now)) (a .index) (a .fix) (c .before .before .before .before .before .before .before .before .before .before .before .before .before .correct .ensures) (c .before .before .before .before .if1 .left))
 
 mul-e : tie.Need-mul-e
-mul-e c = search (needs, let a = c .before .before .before .before .before .before .before .before .before .before .before .before .before .before .before .before .before .before .before .before .before .before .args in stretch-small (a .inverse) (a .s .now) (keptOf (a .list .now) (a .results .now) (a .track .now)) (a .index) (a .fix) (c .before .before .before .before .before .before .before .before .before .before .before .before .before .before .correct .ensures) (c .before .before .before .before .before .if1 .left))
+mul-e c = search (needs, let a = c .before .before .before .before .before .before .before .before .before .before .before .before .before .before .before .before .before .before .before .before .before .args in stretch-small (a .inverse) (a .s .now) (keptOf (a .list .now) (a .results .now) (a .track .now)) (a .index) (a .fix) (c .before .before .before .before .before .before .before .before .before .before .before .before .before .correct .ensures) (c .before .before .before .before .if1 .left))
 
 mul-pass : tie.Need-mul-pass
-mul-pass c = search (needs, let a = c .before .before .before .before .before .before .before .before .before .before .before .before .before .before .before .before .before .before .before .before .before .before .args in stretch-small (a .inverse) (a .s .now) (keptOf (a .list .now) (a .results .now) (a .track .now)) (a .index) (a .fix) (c .before .before .before .before .before .before .before .before .before .before .before .before .before .before .correct .ensures) (c .before .before .before .before .before .if1 .left))
+mul-pass c = search (needs, let a = c .before .before .before .before .before .before .before .before .before .before .before .before .before .before .before .before .before .before .before .before .before .args in stretch-small (a .inverse) (a .s .now) (keptOf (a .list .now) (a .results .now) (a .track .now)) (a .index) (a .fix) (c .before .before .before .before .before .before .before .before .before .before .before .before .before .correct .ensures) (c .before .before .before .before .if1 .left))
 
 sub-pass : tie.Need-sub-pass
 sub-pass c = search needs
@@ -54,25 +51,25 @@ part-pass-start : tie.Need-part-pass-start
 part-pass-start c = search needs
 
 part-pass-end : tie.Need-part-pass-end
-part-pass-end c = let a = c .before .before .before .before .before .before .before .before .before .before .before .before .before .before .before .before .before .before .before .before .before .before .before .args in stretch-fits (a .inverse) (a .s .now) (keptOf (a .list .now) (a .results .now) (a .track .now)) (a .index) (a .fix) (c .before .before .before .before .before .before .before .before .before .before .before .before .before .before .before .correct .ensures) (c .before .before .before .before .before .before .if1 .left)
+part-pass-end c = let a = c .before .before .before .before .before .before .before .before .before .before .before .before .before .before .before .before .before .before .before .before .before .before .args in stretch-fits (a .inverse) (a .s .now) (keptOf (a .list .now) (a .results .now) (a .track .now)) (a .index) (a .fix) (c .before .before .before .before .before .before .before .before .before .before .before .before .before .before .correct .ensures) (c .before .before .before .before .before .if1 .left)
 
 pass-requires : tie.Need-pass-requires
 pass-requires c κs = search needs
 
 same-length-4 : tie.Need-same-length-4
-same-length-4 c = c .before .before .before .before .before .before .before .before .before .before .before .before .before .before .before .before .list .given
+same-length-4 c = c .before .before .before .before .before .before .before .before .before .before .before .before .before .before .before .list .given
 
 same-length-5 : tie.Need-same-length-5
-same-length-5 c = c .before .before .before .before .before .before .before .before .before .before .before .before .before .before .results .given
+same-length-5 c = c .before .before .before .before .before .before .before .before .before .before .before .before .before .results .given
 
 same-length-6 : tie.Need-same-length-6
-same-length-6 c = c .before .before .before .before .before .before .before .before .before .before .before .before .track .given
+same-length-6 c = c .before .before .before .before .before .before .before .before .before .before .before .track .given
 
 returns-2 : tie.Need-returns-2
 returns-2 c =
-    let e = c .before .before .before .before .before .before .before .before .before .before .before .before .before .before .before .before .before .correct .ensures in
-    let told = rw (c .before .before .before .before2 .ensures, c .before .before .before .before .before .prepare .ensures, c .before .before .before .before .before .before .step-of .ensures, c .before .before .before .before .before .before .before .entry-at .ensures) at (c .pass .ensures) in
-    (e, let a = c .before .before .before .before .before .before .before .before .before .before .before .before .before .before .before .before .before .before .before .before .before .before .before .before .before .args in stretch-met (a .inverse) (a .s .now) (keptOf (a .list .now) (a .results .now) (a .track .now)) (a .index) (a .fix) (c .before .before .before .before .before .before .before .before .before .before .before .before .before .before .before .before .before .correct .ensures) (c .before .before .before .before .before .before .before .before .if1 .left) (ap (λ (t : Tally). t .met) told))
+    let e = c .before .before .before .before .before .before .before .before .before .before .before .before .before .before .before .before .correct .ensures in
+    let told = rw (c .before .before .before .before2 .ensures, c .before .before .before .before .before .shift-of .ensures, c .before .before .before .before .before .before .entry-at .ensures) at (c .pass .ensures) in
+    (e, let a = c .before .before .before .before .before .before .before .before .before .before .before .before .before .before .before .before .before .before .before .before .before .before .before .before .args in stretch-met (a .inverse) (a .s .now) (keptOf (a .list .now) (a .results .now) (a .track .now)) (a .index) (a .fix) (c .before .before .before .before .before .before .before .before .before .before .before .before .before .before .before .before .correct .ensures) (c .before .before .before .before .before .before .before .if1 .left) (ap (λ (t : Tally). t .met) told))
 
 pub correct-reach-spec : {M : Type 1} → statement M
 correct-reach-spec =
@@ -84,8 +81,7 @@ correct-reach-spec =
     same-length-3
     returns
     entry-at-requires
-    step-of-requires
-    prepare-requires
+    shift-of-requires
     before-requires
     mul-a
     add-e

@@ -27,11 +27,8 @@ returns c =
 entry-at-requires : tie.Need-entry-at-requires
 entry-at-requires c κs = search needs
 
-step-of-requires : tie.Need-step-of-requires
-step-of-requires c κs = search needs
-
-prepare-requires : tie.Need-prepare-requires
-prepare-requires c κs = search needs
+shift-of-requires : tie.Need-shift-of-requires
+shift-of-requires c κs = search needs
 
 start-requires : tie.Need-start-requires
 start-requires c κs = search needs
@@ -40,16 +37,16 @@ pass-requires : tie.Need-pass-requires
 pass-requires c κs = search needs
 
 same-length-3 : tie.Need-same-length-3
-same-length-3 c = c .before .before .before .before .before .before .before .before .before .before .results .given
+same-length-3 c = c .before .before .before .before .before .before .before .before .before .results .given
 
 same-length-4 : tie.Need-same-length-4
-same-length-4 c = c .before .before .before .before .before .before .before .before .track .given
+same-length-4 c = c .before .before .before .before .before .before .before .track .given
 
 returns-2 : tie.Need-returns-2
 returns-2 c =
-    let e = c .before .before .before .before .before .before .before .before .before .before .before .keep .ensures in
-    let none = sym (ap (λ (r : Refusal). r .number) (e .0)) ∙ c .before .before .before .before .before .if1 .left in
-    let told = rw (c .before .start .ensures, c .before .before .prepare .ensures, c .before .before .before .step-of .ensures, c .before .before .before .before .entry-at .ensures) at (c .pass .ensures) in
+    let e = c .before .before .before .before .before .before .before .before .before .before .keep .ensures in
+    let none = sym (ap (λ (r : Refusal). r .number) (e .0)) ∙ c .before .before .before .before .if1 .left in
+    let told = rw (c .before .start .ensures, c .before .before .shift-of .ensures, c .before .before .before .entry-at .ensures) at (c .pass .ensures) in
     (e .0, keep-tally _ _ _ none told, e .1)
 
 pub keep-reach-spec : {M : Type 1} → statement M
@@ -62,8 +59,7 @@ keep-reach-spec =
     same-length-2
     returns
     entry-at-requires
-    step-of-requires
-    prepare-requires
+    shift-of-requires
     start-requires
     pass-requires
     same-length-3

@@ -1,8 +1,9 @@
 -- One case for each way through the tests. Each by `holds-helmert`, `holds-molodensky`,
--- `holds-permtide`, `holds-deformation` and `holds-cart`, from what the calls ensure. Assumes nothing.
+-- `holds-permtide`, `holds-deformation`, `holds-badekas` and `holds-cart`, from what the calls
+-- ensure. Assumes nothing.
 use mathlib.Core.Path.{_≡_, sym, _∙_}
 use Rattle.plans.specs.Plans.{planOf}
-use Rattle.plans.proofs.Bodies.{holds-helmert, holds-molodensky, holds-permtide, holds-deformation, holds-cart}
+use Rattle.plans.proofs.Bodies.{holds-helmert, holds-molodensky, holds-permtide, holds-deformation, holds-badekas, holds-cart}
 use borrow.Author.Needs.{needs}
 use Rattle.plans.proofs.plan_of.Statement.{statement}
 use Rattle.plans.proofs.plan_of.Tie as tie
@@ -53,18 +54,28 @@ returns-4 : tie.Need-returns-4
 unfolding planOf
 returns-4 c = rw (holds-deformation _ _ (sym (c .before .before .before .before .before .before .before .held-kind .ensures) ∙ c .before .before .before .if4 .taken), c .directed .ensures, c .before .new3 .ensures, c .before .before .read-deformation .ensures)
 
+read-badekas-requires : tie.Need-read-badekas-requires
+read-badekas-requires c κs = search needs
+
+prepare-requires-2 : tie.Need-prepare-requires-2
+prepare-requires-2 c κs = search needs
+
+returns-5 : tie.Need-returns-5
+unfolding planOf
+returns-5 c = rw (holds-badekas _ _ (sym (c .before .before .before .before .before .before .before .held-kind .ensures) ∙ c .before .before .if5 .taken), c .prepare2 .ensures, c .before .read-badekas .ensures)
+
 cart-of-requires : tie.Need-cart-of-requires
 cart-of-requires c κs = search needs
 
 cart-plan-requires : tie.Need-cart-plan-requires
 cart-plan-requires c κs = search needs
 
-returns-5 : tie.Need-returns-5
+returns-6 : tie.Need-returns-6
 unfolding planOf
-returns-5 c =
-    let held = c .before .before .before .before .before .before .held-kind .ensures in
+returns-6 c =
+    let held = c .before .before .before .before .before .before .before .held-kind .ensures in
     rw (
-      holds-cart _ _ (λ e. c .before .before .before .before .before .if1 .left (held ∙ e)) (λ e. c .before .before .before .before .if2 .left (held ∙ e)) (λ e. c .before .before .before .if3 .left (held ∙ e)) (λ e. c .before .before .if4 .left (held ∙ e)),
+      holds-cart _ _ (λ e. c .before .before .before .before .before .before .if1 .left (held ∙ e)) (λ e. c .before .before .before .before .before .if2 .left (held ∙ e)) (λ e. c .before .before .before .before .if3 .left (held ∙ e)) (λ e. c .before .before .before .if4 .left (held ∙ e)) (λ e. c .before .before .if5 .left (held ∙ e)),
       ← held,
       ← c .before .cart-of .ensures,
     )
@@ -88,6 +99,9 @@ plan-of-spec =
     new-requires-3
     directed-requires
     returns-4
+    read-badekas-requires
+    prepare-requires-2
+    returns-5
     cart-of-requires
     cart-plan-requires
-    returns-5)
+    returns-6)

@@ -58,6 +58,16 @@ returns-5 : tie.Need-returns-5
 unfolding planOf
 returns-5 c = rw (c .before .before .step5 .given .1, c .prepare .ensures)
 
+enum-known-step-6 : tie.Need-enum-known-step-6
+enum-known-step-6 c = search needs
+
+prepare-requires-2 : tie.Need-prepare-requires-2
+prepare-requires-2 c κs = search needs
+
+returns-6 : tie.Need-returns-6
+unfolding planOf
+returns-6 c = rw (c .before .before .step6 .given .1, c .prepare2 .ensures)
+
 pub plan-of-step-spec : {M : Type 1} → statement M
 plan-of-step-spec =
     tie.close
@@ -77,4 +87,7 @@ plan-of-step-spec =
     returns-4
     enum-known-step-5
     prepare-requires
-    returns-5)
+    returns-5
+    enum-known-step-6
+    prepare-requires-2
+    returns-6)

@@ -23,6 +23,9 @@ enum-told-3 c = search needs
 enum-told-4 : tie.Need-enum-told-4
 enum-told-4 c = search needs
 
+enum-told-5 : tie.Need-enum-told-5
+enum-told-5 c = search needs
+
 returns : tie.Need-returns
 unfolding refusal25
 returns c = rw (c .helmert-offends .ensures, c .before .before .step .given .1)
@@ -43,6 +46,10 @@ returns-5 : tie.Need-returns-5
 unfolding refusal25
 returns-5 c = rw (c .enum-told4 .given .1)
 
+returns-6 : tie.Need-returns-6
+unfolding refusal25
+returns-6 c = rw (c .enum-told5 .given .1)
+
 pub offends-spec : {M : Type 1} → statement M
 offends-spec =
     tie.close
@@ -53,8 +60,10 @@ offends-spec =
     enum-told-2
     enum-told-3
     enum-told-4
+    enum-told-5
     returns
     returns-2
     returns-3
     returns-4
-    returns-5)
+    returns-5
+    returns-6)

@@ -9,12 +9,9 @@ use Rattle.stretch_flat.proofs.fresh.Tie as tie
 fits-requires : tie.Need-fits-requires
 fits-requires c κs = search needs
 
-prepare-requires : tie.Need-prepare-requires
-prepare-requires c κs = search needs
-
 run-requires : tie.Need-run-requires
 run-requires c κs =
-    let f = fit _ _ _ (sym (c .before .before .before .before .fits2 .ensures) ∙ c .before .before .before .if1 .taken) in
+    let f = fit _ _ _ (sym (c .before .before .before .fits2 .ensures) ∙ c .before .before .if1 .taken) in
     (f .whole, f .long-results, f .long-track)
 
 same-length : tie.Need-same-length
@@ -25,7 +22,7 @@ same-length-2 c = search needs
 
 returns : tie.Need-returns
 returns c =
-    rw (c .before .before .before .before .before .before .before .prepare .ensures) at (c .before .before .before .before .run .ensures) ∙ sym (fresh-fits _ _ _ (sym (c .before .before .before .before .before .before .before .before .before .fits2 .ensures) ∙ c .before .before .before .before .before .before .before .before .if1 .taken))
+    c .before .before .before .before .run .ensures ∙ sym (fresh-fits _ _ _ (sym (c .before .before .before .before .before .before .before .before .fits2 .ensures) ∙ c .before .before .before .before .before .before .before .if1 .taken))
 
 returns-2 : tie.Need-returns-2
 returns-2 c = sym (fresh-unfit _ _ _ (sym (c .before .fits2 .ensures) ∙ c .if1 .left))
@@ -35,7 +32,6 @@ fresh-spec =
     tie.close
     (tie.spec
     fits-requires
-    prepare-requires
     run-requires
     same-length
     same-length-2

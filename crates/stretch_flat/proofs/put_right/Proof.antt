@@ -9,12 +9,9 @@ use Rattle.stretch_flat.proofs.put_right.Tie as tie
 fits-requires : tie.Need-fits-requires
 fits-requires c κs = search needs
 
-prepare-requires : tie.Need-prepare-requires
-prepare-requires c κs = search needs
-
 put-and-redo-requires : tie.Need-put-and-redo-requires
 put-and-redo-requires c κs =
-    let h = fix-there _ _ _ _ (rw (c .before .before .before .before .before .fits2 .ensures) at (c .before .before .before .before .if1 .taken)) in
+    let h = fix-there _ _ _ _ (rw (c .before .before .before .before .fits2 .ensures) at (c .before .before .before .if1 .taken)) in
     (h .0 .whole, h .1, h .0 .long-results, h .0 .long-track)
 
 same-length : tie.Need-same-length
@@ -28,7 +25,7 @@ same-length-3 c = search needs
 
 returns : tie.Need-returns
 returns c =
-    rw (c .before .before .before .before .before .before .before .before .before .before .prepare .ensures) at (c .before .before .before .before .before .before .put-and-redo .ensures) ∙ sym (right-there _ _ _ _ _ (rw (c .before .before .before .before .before .before .before .before .before .before .before .before .fits2 .ensures) at (c .before .before .before .before .before .before .before .before .before .before .before .if1 .taken)))
+    c .before .before .before .before .before .before .put-and-redo .ensures ∙ sym (right-there _ _ _ _ _ (rw (c .before .before .before .before .before .before .before .before .before .before .before .fits2 .ensures) at (c .before .before .before .before .before .before .before .before .before .before .if1 .taken)))
 
 returns-2 : tie.Need-returns-2
 returns-2 c = sym (right-nowhere _ _ _ _ _ (rw (c .before .fits2 .ensures) at (c .if1 .left)))
@@ -38,7 +35,6 @@ put-right-spec =
     tie.close
     (tie.spec
     fits-requires
-    prepare-requires
     put-and-redo-requires
     same-length
     same-length-2

@@ -69,6 +69,16 @@ returns-7 : tie.Need-returns-7
 unfolding planOf
 returns-7 c = rw (c .before .before .step5 .given .1, c .prepare .ensures)
 
+enum-known-step-6 : tie.Need-enum-known-step-6
+enum-known-step-6 c = search needs
+
+prepare-requires-2 : tie.Need-prepare-requires-2
+prepare-requires-2 c κs = search needs
+
+returns-8 : tie.Need-returns-8
+unfolding planOf
+returns-8 c = rw (c .before .before .step6 .given .1, c .prepare2 .ensures)
+
 pub plan-of-spec : {M : Type 1} → statement M
 plan-of-spec =
     tie.close
@@ -91,4 +101,7 @@ plan-of-spec =
     returns-6
     enum-known-step-5
     prepare-requires
-    returns-7)
+    returns-7
+    enum-known-step-6
+    prepare-requires-2
+    returns-8)

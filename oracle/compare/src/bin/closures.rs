@@ -9,7 +9,7 @@
 use compare::LANDED;
 use reader::closure::{Listed, Report, judge, report};
 use reader::random::Random;
-use reader::sheet::{Body, Cart, Deformation, Helmert, Molodensky, NOT_GIVEN, Permtide, Record, Step, bytes_untested};
+use reader::sheet::{Badekas, Body, Cart, Deformation, Helmert, Molodensky, NOT_GIVEN, Permtide, Record, Step, bytes_untested};
 use reader::{chain, draw, same_numbers};
 use std::process::ExitCode;
 
@@ -219,8 +219,11 @@ fn profiles(name: &str, part: &mut Part, r: &mut Random) {
                     part.try_all(name, r, &bytes_untested(&Record::of(&all)), &[], None, true);
                 }
             }
-            for body in [Body::Molodensky(Molodensky::blank()), Body::Permtide(Permtide { to: 1, from: 2, ..Permtide::blank() })]
-            {
+            for body in [
+                Body::Molodensky(Molodensky::blank()),
+                Body::Permtide(Permtide { to: 1, from: 2, ..Permtide::blank() }),
+                Body::Badekas(Badekas::blank()),
+            ] {
                 let mut all = vec![cart.clone(); steps];
                 all[at].body = body;
                 part.try_all(name, r, &bytes_untested(&Record::of(&all)), &[], None, true);

@@ -93,9 +93,9 @@ fn lengths(told: &mut Told, name: &str, job: &Job) {
     );
 }
 
-/// One Helmert step, which is what a kept run is of.
+/// One Helmert or ten-parameter step, which is what a kept run is of.
 fn keeps(job: &Job) -> bool {
-    matches!(job.steps[..], [job::Step { body: Body::Helmert(_), .. }])
+    matches!(job.steps[..], [job::Step { body: Body::Helmert(_) | Body::Badekas { .. }, .. }])
 }
 
 /// A kept run, and corrections at its ends, beside edges, past its end and at any index.
@@ -192,7 +192,7 @@ fn kept_unequal(told: &mut Told, name: &str, job: &Job) {
 fn payloads(r: &mut Random, told: &mut Told, name: &str, mut job: Job) {
     let carried: &[usize] = match job.steps[..] {
         [job::Step { body: Body::Permtide { .. }, .. }] => &[0, 1, 3],
-        [job::Step { body: Body::Cart { .. } | Body::Molodensky { .. } | Body::Helmert(_), .. }] => &[3],
+        [job::Step { body: Body::Cart { .. } | Body::Molodensky { .. } | Body::Helmert(_) | Body::Badekas { .. }, .. }] => &[3],
         _ => return,
     };
     for tuple in job.list.chunks_mut(4) {

@@ -37,15 +37,19 @@ impl Told {
 
     /// The same of a kept run, and of each fix corrected to itself, whose stretch is at least that fix.
     fn kept(&mut self, what: &str, helmert: &Helmert, times: &[f64], expected: u64, each: &[u64]) {
-        let body = Body::Helmert(helmert.clone());
+        self.kept_body(what, &Body::Helmert(helmert.clone()), times, expected, each);
+    }
+
+    fn kept_body(&mut self, what: &str, body: &Body, times: &[f64], expected: u64, each: &[u64]) {
         let list: Vec<[f64; 4]> = times.iter().map(|t| [1.0, 2.0, 3.0, *t]).collect();
         for inverse in [false, true] {
-            self.step(what, inverse, &body, &list, &[], expected);
+            self.step(what, inverse, body, &list, &[], expected);
             let bytes = sheet(&[Step { inverted: false, body: body.clone() }]);
             let mut flat = list.as_flattened().to_vec();
             let (mut results, mut track) = (vec![0.0; flat.len()], vec![0.0; flat.len()]);
             let (told, counted, met) = ours::keep_reach(inverse, &bytes, &flat, &mut results, &mut track);
-            let lost = if helmert.flags & 8 != 0 { times.iter().filter(|t| t.is_nan()).count() } else { 0 };
+            let own_epoch = matches!(body, Body::Helmert(h) if h.flags & 8 != 0);
+            let lost = if own_epoch { times.iter().filter(|t| t.is_nan()).count() } else { 0 };
             assert_eq!((told, counted), ((0, 0), (times.len() - lost) as u64), "{what}");
             self.expect(&format!("{what}, kept"), met, expected);
             for (index, met) in each.iter().enumerate() {
@@ -128,6 +132,20 @@ fn main() -> ExitCode {
         0,
         &[0; 4],
     );
+
+    // About a pivot: an exact matrix is used by all or none, whatever the fix and its time.
+    let about = |flags, angles: [f64; 3]| Body::Badekas {
+        flags,
+        convention: 2,
+        translation: [1.0, 2.0, 3.0],
+        rotation: angles.map(|a| a * radian),
+        scale: 1.0,
+        pivot: [1.0, 2.0, 3.0],
+    };
+    told.kept_body("about a pivot, in reach", &about(1, [1023.0, -1023.0, 0.0]), &times, 0, &[0; 4]);
+    told.kept_body("about a pivot, out of reach", &about(1, [0.0, -1025.0, 0.0]), &times, 4, &[1; 4]);
+    told.kept_body("about a pivot, small angles", &about(0, [0.0, -1025.0, 0.0]), &times, 0, &[0; 4]);
+    told.kept_body("about a pivot, exact and not rotated", &about(1, [0.0; 3]), &times, 0, &[0; 4]);
 
     // A refused call tells zeros.
     let (answer, out_of_reach) = ours::shift_reach(false, &sheet(&[]), &[f64::NAN; 4], &[], &[]);

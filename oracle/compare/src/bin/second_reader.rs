@@ -63,7 +63,7 @@ fn sheets(part: &str, r: &mut Random, tally: &mut Tally) {
 }
 
 fn steps(part: &str, r: &mut Random, tally: &mut Tally) {
-    let kind = 1 + r.below(5) as u32;
+    let kind = 1 + r.below(6) as u32;
     shift(part, draw::draw_step(r, &LANDED, kind), tally);
 }
 

@@ -1,0 +1,2 @@
+-- What the contract of `badekas_entries` cites.
+pub mod Made
