@@ -107,26 +107,38 @@ static uint32_t shift_columns(void) {
 }
 
 static uint32_t keep_columns(void) {
+    uint32_t told = 0;
+    for (int own = 0; own < 2; own++)
+        told |= sillfeather_keep_columns(0, helmerts[own], (size_t)helmerts_len[own], LENT(columns[0], ROWS), LENT(columns[1], ROWS), LENT(columns[2], ROWS));
+    return told;
+}
+
+static uint32_t keep_columns_reach(void) {
     uint64_t counted, out_of_reach;
     uint32_t told = 0;
-    for (int own = 0; own < 2; own++) {
-        told |= sillfeather_keep_columns(0, helmerts[own], (size_t)helmerts_len[own], LENT(columns[0], ROWS), LENT(columns[1], ROWS), LENT(columns[2], ROWS));
+    for (int own = 0; own < 2; own++)
         told |= sillfeather_keep_columns_reach(0, helmerts[own], (size_t)helmerts_len[own], LENT(columns[0], ROWS), LENT(columns[1], ROWS),
                                                LENT(columns[2], ROWS), &counted, &out_of_reach);
-    }
     return told;
 }
 
 static uint32_t correct_columns(void) {
     const double fix[4] = {1, 2, 3, 2001};
-    uint64_t redone, out_of_reach;
+    uint64_t redone;
     uint32_t told = 0;
-    for (int own = 0; own < 2; own++) {
+    for (int own = 0; own < 2; own++)
         told |= sillfeather_correct_columns(0, helmerts[own], (size_t)helmerts_len[own], LENT(columns[0], ROWS), LENT(columns[1], ROWS), LENT(columns[2], ROWS), 3, fix,
                                 &redone);
+    return told;
+}
+
+static uint32_t correct_columns_reach(void) {
+    const double fix[4] = {1, 2, 3, 2001};
+    uint64_t redone, out_of_reach;
+    uint32_t told = 0;
+    for (int own = 0; own < 2; own++)
         told |= sillfeather_correct_columns_reach(0, helmerts[own], (size_t)helmerts_len[own], LENT(columns[0], ROWS), LENT(columns[1], ROWS),
                                                   LENT(columns[2], ROWS), 3, fix, &redone, &out_of_reach);
-    }
     return told;
 }
 
@@ -197,6 +209,8 @@ int main(void) {
                  {"shift over columns", shift_columns, 10240},
                  {"keep over columns", keep_columns, 6144},
                  {"correct over columns", correct_columns, 6144},
+                 {"keep over columns, with its numbers", keep_columns_reach, 8192},
+                 {"correct over columns, with its numbers", correct_columns_reach, 8192},
                  {"rescue", rescue, 6144},
                  {"check with a profile", check_profile, 4096},
                  {"closure", closure, 20480},
