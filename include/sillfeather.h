@@ -18,12 +18,12 @@
  * A RESULT of type uint32_t is 0 where the call is done. Otherwise the call is refused: the result
  * is the refusal's number plus 65536 times the step, which is counted from 1 and is 0 where no step
  * is to blame. A refused call leaves all the memory lent to it as it was, but that `counts` and
- * `out_of_reach` get zeros, and `*redone`, `*counted` and `*changed` 0. A refusal is given exactly
- * when its rule is broken and no rule before it in the function's order is.
+ * `out_of_reach` get zeros, as do `places`, and `*redone`, `*counted` and `*changed` 0. A refusal is
+ * given exactly when its rule is broken and no rule before it in the function's order is.
  *
  * WHAT IS PROVED. For each function, and for every input, that the result and the memory afterwards
  * are what its definition says (crates/sillfeather, crates/badekas_entries, crates/reach_entries,
- * crates/closure_entries and crates/grid_entries have the contracts in src/lib.rt,
+ * crates/closure_entries, crates/grid_entries and crates/store have the contracts in src/lib.rt,
  * docs/CONFORMANCE.md the way from the documents to them); that it ends; and that it touches nothing
  * but what it is lent.
  * What is said below of what a call reads, writes, refuses and leaves alone follows from that. The
@@ -103,6 +103,10 @@ enum {
     SILLFEATHER_REFUSED_GRID_NUMBER = 18, /* a number of a velocity grid not finite, or a spacing not
                                              positive */
     SILLFEATHER_REFUSED_RESCUE = 19,      /* the damaged sheet cannot be rebuilt */
+    SILLFEATHER_REFUSED_IDENTIFIER = 21,  /* store: an identifier out of range, taken or unknown */
+    SILLFEATHER_REFUSED_ALL_OPEN = 22,    /* store: all 16 runs are open */
+    SILLFEATHER_REFUSED_STORE_ROOM = 23,  /* store: what is free is below what the run needs */
+    SILLFEATHER_REFUSED_STORE = 24,       /* store: its header is out of its rule */
     SILLFEATHER_REFUSED_PROFILE = 25      /* the step is outside the profile that was asked for, or
                                              nobody knows that profile */
 };
@@ -451,6 +455,52 @@ uint32_t sillfeather_closure(uint64_t report[16], uint32_t profile, const uint8_
 uint32_t sillfeather_closure_grid(uint64_t report[16], uint32_t profile, const uint8_t *sheet, size_t sheet_len, const double *list, size_t list_len,
                                   double *room, size_t room_len, const double *velocities, size_t velocities_len, const uint8_t *marks,
                                   size_t marks_len, const uint8_t *grid, size_t grid_len);
+
+/* ----- many kept runs in one buffer ----------------------------------------------------------- */
+
+/* A store: up to 16 kept runs in one lent buffer of at least SILLFEATHER_STORE_HEADER bytes, each under
+ * an identifier from 1 to 65,535. A header of zeros is an empty store. docs/FORMAT.md has the layout
+ * and the header's rule. A run takes its sheet's length and 96 bytes a fix.
+ *
+ * To read a run in place, ask sillfeather_store_find for its places: results stand at store +
+ * places[2], four doubles a fix, and the track at store + places[3], each number as 8 bytes. Where the
+ * store begins at a multiple of 8 and the sheets' lengths are multiples of 8, as every sheet's is, so
+ * are the places, and they may be read as doubles; else copy the bytes. A later opening may move a run:
+ * ask again after each. */
+#define SILLFEATHER_STORE_HEADER 392
+
+/* Opens a run: a fresh kept run of the list under the sheet, which the run keeps with its direction.
+ * The lowest gap that holds it is taken; where none does and what is free suffices, the open runs are
+ * moved together first.
+ *   Reads     the sheet and the list, in doubles, four a tuple.
+ *   Writes    the run and its slot in the store; slots and runs that move.
+ *   Refuses   24, the store's header out of its rule; 21, an identifier out of range or taken; 22, all
+ *             16 open; then as sillfeather_keep; 23, what is free below what is needed.
+ *   Leaves    the other runs' bytes, wherever they stand; on refusal the store as it was. */
+uint32_t sillfeather_store_open(uint8_t *store, size_t store_len, uint32_t id, uint32_t inverse, const uint8_t *sheet, size_t sheet_len,
+                                const double *list, size_t list_len);
+
+/* Closes a run: its room is free, and its bytes stay until another run takes them.
+ *   Writes    the header.
+ *   Refuses   24; 21, an identifier out of range or unknown.
+ *   Leaves    all bytes behind the header; on refusal the store as it was. */
+uint32_t sillfeather_store_close(uint8_t *store, size_t store_len, uint32_t id);
+
+/* Corrects one fix of a run, as sillfeather_correct does outside a store.
+ *   Reads     the new fix; the run's own sheet and direction.
+ *   Writes    the fix into the run's list, and results and track of the fixes that are redone; *redone,
+ *             how many those are.
+ *   Refuses   24; 21; then as sillfeather_correct, by the stored sheet, with 14 the last.
+ *   Leaves    every other byte; on refusal the store as it was, and 0 in *redone. */
+uint32_t sillfeather_store_correct(uint8_t *store, size_t store_len, uint32_t id, size_t index, const double fix[4], uint64_t *redone);
+
+/* Tells where a run stands.
+ *   Reads     the store's header.
+ *   Writes    places: in bytes from the store's start where sheet, list, results and track begin; the
+ *             sheet's length, the fixes, the direction. Zeros where refused.
+ *   Refuses   24; 21.
+ *   Leaves    the store. */
+uint32_t sillfeather_store_find(const uint8_t *store, size_t store_len, uint32_t id, uint64_t places[7]);
 
 /* ----- the kernels --------------------------------------------------------------------------- */
 

@@ -166,6 +166,9 @@ fn main() {
     for run in runs.iter().filter(|run| run.row.helmert() && !run.inverse) {
         kept(run, passes / 4 + 1);
     }
+    if let Some(run) = runs.iter().find(|run| run.row.helmert()) {
+        compaction(run, passes);
+    }
 }
 
 fn lists(run: &Run, passes: usize) {
@@ -360,11 +363,105 @@ impl KeptColumns {
     }
 }
 
+/// The same in a store, with two other runs open: each keep is an opening and the closing before it.
+struct Stored {
+    store: Vec<u8>,
+    list: Vec<f64>,
+    redone: u64,
+}
+
+impl Stored {
+    const ID: u32 = 3;
+
+    fn new(run: &Run) -> Stored {
+        let mut store = vec![0; HEADER + 3 * (run.sheet.len() + 24 * run.list.len()) + run.sheet.len() + 96];
+        for id in [1, 2, Stored::ID] {
+            assert_eq!(ours::store::open(&mut store, id, 0, &run.sheet, &run.list), (0, 0));
+        }
+        Stored { store, list: run.list.clone(), redone: 0 }
+    }
+
+    fn keep(&mut self, run: &Run) -> f64 {
+        took(|| {
+            assert_eq!(ours::store::close(&mut self.store, Stored::ID), (0, 0));
+            assert_eq!(ours::store::open(&mut self.store, Stored::ID, 0, &run.sheet, &run.list), (0, 0));
+        })
+    }
+
+    fn keep_one(&mut self, run: &Run) -> f64 {
+        took(|| {
+            for _ in 0..CALLS {
+                assert_eq!(ours::store::open(&mut self.store, 4, 0, &run.sheet, &run.list[..4]), (0, 0));
+                assert_eq!(ours::store::close(&mut self.store, 4), (0, 0));
+            }
+        })
+    }
+
+    fn correct(&mut self, _: &Run) -> f64 {
+        took(|| {
+            for k in 0..CALLS {
+                let i = 31 * k % TUPLES;
+                self.list[4 * i] += 1.0;
+                let fix = self.list[4 * i..4 * i + 4].try_into().unwrap();
+                let (told, redone) = ours::store::correct(&mut self.store, Stored::ID, i, fix);
+                assert_eq!(told, (0, 0));
+                self.redone += redone;
+            }
+        })
+    }
+}
+
+/// The header's bytes.
+const HEADER: usize = 392;
+
+/// A store of some 3 MB packed, beside the memory's own move of as many bytes: of sixteen runs the first,
+/// of one fix, and the last, of 2,047, are closed, so that one of 2,048 is opened where all others are
+/// packed, and one of 2,047 where they stay.
+fn compaction(run: &Run, passes: usize) {
+    let (sheet, list) = (&run.sheet, &run.list);
+    let size = sheet.len() + 24 * list.len();
+    let shorter = &list[..list.len() - 4];
+    let mut made = vec![0; HEADER + sheet.len() + 96 + 14 * size + size - 96];
+    assert_eq!(ours::store::open(&mut made, 1, 0, sheet, &list[..4]), (0, 0));
+    for id in 2..=15 {
+        assert_eq!(ours::store::open(&mut made, id, 0, sheet, list), (0, 0));
+    }
+    assert_eq!(ours::store::close(&mut made, 1), (0, 0));
+    let from = HEADER + sheet.len() + 96;
+    let moved = 14 * size;
+    let (mut a, mut b, mut c) = (made.clone(), made.clone(), made.clone());
+    let told = in_turns(
+        passes,
+        [
+            Some(&mut || {
+                a.copy_from_slice(&made);
+                took(|| a.copy_within(from..from + moved, HEADER))
+            }),
+            Some(&mut || {
+                b.copy_from_slice(&made);
+                took(|| assert_eq!(ours::store::open(&mut b, 16, 0, sheet, shorter), (0, 0)))
+            }),
+            Some(&mut || {
+                c.copy_from_slice(&made);
+                took(|| assert_eq!(ours::store::open(&mut c, 16, 0, sheet, list), (0, 0)))
+            }),
+        ],
+    )
+    .map(|passes| clock::least(&passes));
+    println!(
+        "compaction of {moved} bytes: {:.0} ns, memmove {:.0} ns, {:.2} of its speed",
+        told[2] - told[1],
+        told[0],
+        told[0] / (told[2] - told[1])
+    );
+}
+
 /// The cost of correcting one fix of a kept list beside that of keeping the list, and a list of one;
 /// a line a way.
 fn kept(run: &Run, passes: usize) {
     let (mut then, mut now, mut of_columns) =
         (before().map(|b| Kept::new(run, b)), Kept::new(run, present()), KeptColumns::new(run));
+    let mut stored = Stored::new(run);
     macro_rules! turns {
         ($way:ident) => {
             in_turns(
@@ -373,14 +470,15 @@ fn kept(run: &Run, passes: usize) {
                     then.as_mut().map(|then| || then.$way(run)).as_mut().map(|way| way as _),
                     Some(&mut || now.$way(run)),
                     Some(&mut || of_columns.$way(run)),
+                    Some(&mut || stored.$way(run)),
                 ],
             )
             .map(|passes| clock::least(&passes))
         };
     }
     let (whole, single, corrected) = (turns!(keep), turns!(keep_one), turns!(correct));
-    let redone = [then.as_ref().map(|then| then.redone), Some(now.redone), Some(of_columns.redone)];
-    for (i, way) in ["before", "flat", "columns"].into_iter().enumerate() {
+    let redone = [then.as_ref().map(|then| then.redone), Some(now.redone), Some(of_columns.redone), Some(stored.redone)];
+    for (i, way) in ["before", "flat", "columns", "stored"].into_iter().enumerate() {
         let Some(redone) = redone[i] else { continue };
         let (single, corrected) = (single[i] / CALLS as f64, corrected[i] / CALLS as f64);
         let redone = redone as f64 / ((passes + 1) * CALLS) as f64;

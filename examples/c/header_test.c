@@ -1173,6 +1173,103 @@ static void grid_shifts(void) {
     holds("is shifted as without", same_doubles(origin, moved, 4) && counts[0] == 1);
 }
 
+/* ----- the store ----------------------------------------------------------------------------------------------------------------------------------------------- */
+
+enum { STORE = SILLFEATHER_STORE_HEADER + 16 * 280 + 17 * 96 };
+
+static uint64_t long_at(const uint8_t *at) {
+    uint64_t n = 0;
+    for (int i = 7; i >= 0; i--) n = 256 * n + at[i];
+    return n;
+}
+
+/* a run's three lists, read where it stands, are those of a kept run of its own */
+static int stored_is(const uint8_t *store, const uint64_t places[7], const double *list, const double *results, const double *track, size_t numbers) {
+    const double *lists[3] = {list, results, track};
+    for (int k = 0; k < 3; k++)
+        for (size_t i = 0; i < numbers; i++) {
+            double x = lists[k][i], y = of_bits(long_at(store + places[1 + k] + 8 * i));
+            if (!(bits_of(x) == bits_of(y) || (x != x && y != y))) return 0;
+        }
+    return 1;
+}
+
+static void stores(void) {
+    static struct room r;
+    static uint8_t store[STORE + GUARD], before[STORE + GUARD];
+    struct sillfeather_helmert h = SILLFEATHER_HELMERT_BLANK;
+    h.dxyz[0] = 1.0;
+    h.t_epoch = 2000.0;
+    fresh(&r);
+    sillfeather_add_helmert(r.at, SILLFEATHER_SHEET_MAX, &r.len, 0, 0, 0, SILLFEATHER_NUMBERS(&h));
+    size_t len = (size_t)r.len;
+    double list[12] = {0, 0, 0, 2001, 0, 0, 0, 2000, 0, 0, 0, 2002}, results[12], track[12];
+    const double retimed[4] = {0, 0, 0, 2001};
+    uint64_t redone = 99, places[7];
+    sillfeather_keep(0, r.at, len, list, 12, results, 12, track, 12);
+    memset(store, FILL, sizeof store);
+    memset(store, 0, SILLFEATHER_STORE_HEADER);
+
+    result_is("open", sillfeather_store_open(store, STORE, 7, 0, r.at, len, list, 12), 0, 0);
+    result_is("find", sillfeather_store_find(store, STORE, 7, places), 0, 0);
+    holds("a run stands behind the header, part after part",
+          places[0] == SILLFEATHER_STORE_HEADER && places[1] == places[0] + len && places[2] == places[1] + 96 && places[3] == places[2] + 96 &&
+              places[4] == len && places[5] == 3 && places[6] == 0);
+    holds("its sheet is the lent one", memcmp(store + places[0], r.at, len) == 0);
+    holds("its lists are a kept run's", stored_is(store, places, list, results, track, 12));
+    result_is("P6 in the store", sillfeather_store_correct(store, STORE, 7, 1, retimed, &redone), 0, 0);
+    sillfeather_correct(0, r.at, len, list, 12, results, 12, track, 12, 1, retimed, &redone);
+    holds("P6 in the store: two redone", redone == 2);
+    holds("its lists are the corrected run's", stored_is(store, places, list, results, track, 12));
+
+    /* sixteen, a seventeenth, and the lowest gap */
+    int opened = 1;
+    for (uint32_t id = 1; id <= 16; id++)
+        if (id != 7) opened &= sillfeather_store_open(store, STORE, id, id % 2, r.at, len, list, id == 16 ? 0 : 4) == 0;
+    holds("sixteen open", opened);
+    memcpy(before, store, sizeof store);
+    result_is("21 before 22, a taken identifier", sillfeather_store_open(store, STORE, 16, 0, r.at, len, list, 4), 21, 0);
+    result_is("22 before 9", sillfeather_store_open(store, STORE, 17, 0, r.at, len, list, 3), 22, 0);
+    result_is("an identifier of 0", sillfeather_store_open(store, STORE, 0, 0, r.at, len, list, 4), 21, 0);
+    result_is("an identifier of 65536", sillfeather_store_close(store, STORE, 65536), 21, 0);
+    result_is("an unknown identifier", sillfeather_store_correct(store, STORE, 17, 0, retimed, &redone), 21, 0);
+    holds("nothing redone", redone == 0);
+    result_is("14 of a run without fixes", sillfeather_store_correct(store, STORE, 16, 0, retimed, &redone), 14, 0);
+    result_is("find of an unknown identifier", sillfeather_store_find(store, STORE, 65535, places), 21, 0);
+    holds("zeros in places", places[0] == 0 && places[1] == 0 && places[2] == 0 && places[3] == 0 && places[4] == 0 && places[5] == 0 && places[6] == 0);
+    holds("refused calls leave the store", memcmp(before, store, sizeof store) == 0);
+    result_is("close", sillfeather_store_close(store, STORE, 2), 0, 0);
+    result_is("the lowest gap", sillfeather_store_open(store, STORE, 65535, 1, r.at, len, list, 4), 0, 0);
+    sillfeather_store_find(store, STORE, 65535, places);
+    holds("stands where the closed run stood", places[0] == SILLFEATHER_STORE_HEADER + len + 3 * 96 + len + 96 && places[6] == 1);
+
+    /* two gaps that together hold a run: it is compacted */
+    sillfeather_store_close(store, STORE, 3);
+    sillfeather_store_close(store, STORE, 9);
+    memcpy(before, store, sizeof store);
+    result_is("24 of a store cut inside its last run", sillfeather_store_open(store, places[3] + 1, 3, 0, r.at, len, list, 8), 24, 0);
+    holds("leaves it", memcmp(before, store, sizeof store) == 0);
+    result_is("compacted", sillfeather_store_open(store, STORE, 3, 0, r.at, len, list, 8), 0, 0);
+    sillfeather_store_find(store, STORE, 7, places);
+    holds("a moved run holds the same", stored_is(store, places, list, results, track, 12));
+    int guard = 1;
+    for (size_t i = STORE; i < sizeof store; i++) guard &= store[i] == FILL;
+    holds("nothing behind the store is written", guard);
+
+    /* exact room, and one byte less */
+    memset(before, 0, sizeof before);
+    result_is("a byte too few", sillfeather_store_open(before, SILLFEATHER_STORE_HEADER + len + 95, 1, 0, r.at, len, list, 4), 23, 0);
+    result_is("9 before 23", sillfeather_store_open(before, SILLFEATHER_STORE_HEADER + len + 95, 1, 0, r.at, len, list, 5), 9, 0);
+    result_is("exact room", sillfeather_store_open(before, SILLFEATHER_STORE_HEADER + len + 96, 1, 0, r.at, len, list, 4), 0, 0);
+
+    /* no store */
+    result_is("a header of 391 bytes", sillfeather_store_open(store, 391, 1, 0, r.at, len, list, 4), 24, 0);
+    store[8] ^= 0xff; /* an identifier */
+    store[9] ^= 0xff;
+    store[10] ^= 0xff;
+    result_is("24 before 21", sillfeather_store_close(store, STORE, 0), 24, 0);
+}
+
 int main(void) {
     holds("30 numbers in a Helmert record", sizeof(struct sillfeather_helmert) == 30 * sizeof(double));
     each_kind_by_hand();
@@ -1189,6 +1286,7 @@ int main(void) {
     refused_kept_runs();
     kept_runs_over_columns();
     refused_kept_columns();
+    stores();
     rescues();
     closures();
     grids();

@@ -92,6 +92,26 @@ static uint32_t correct(void) {
     return told;
 }
 
+static uint8_t store[SILLFEATHER_STORE_HEADER + 4 * (SILLFEATHER_SHEET_MAX + 96 * ROWS)];
+
+/* opened, one closed, and the others packed for a fourth */
+static uint32_t store_open(void) {
+    uint32_t told = 0;
+    memset(store, 0, SILLFEATHER_STORE_HEADER);
+    for (uint32_t id = 1; id <= 4; id++)
+        told |= sillfeather_store_open(store, sizeof store, id, 0, helmerts[id % 2], (size_t)helmerts_len[id % 2], list, NUMBERS);
+    told |= sillfeather_store_close(store, sizeof store, 1) | sillfeather_store_close(store, sizeof store, 3);
+    told |= sillfeather_store_open(store, sizeof store, 5, 1, helmerts[0], (size_t)helmerts_len[0], list, NUMBERS);
+    return told;
+}
+
+static uint32_t store_correct(void) {
+    const double fix[4] = {1, 2, 3, 2001};
+    uint64_t redone, places[7];
+    return sillfeather_store_correct(store, sizeof store, 2, 3, fix, &redone) | sillfeather_store_correct(store, sizeof store, 4, 3, fix, &redone) |
+           sillfeather_store_find(store, sizeof store, 4, places);
+}
+
 #define LENT(c, rows) (c)[0], rows, (c)[1], rows, (c)[2], rows, (c)[3], rows
 
 static uint32_t shift_columns(void) {
@@ -217,6 +237,8 @@ int main(void) {
                  {"check of a grid", check_grid, 4096},
                  {"shift with a grid", shift_grid, 20480},
                  {"closure with a grid", closure_grid, 20480},
+                 {"open in a store", store_open, 12288},
+                 {"correct in a store", store_correct, 12288},
                  {"add", add, 32768}};
     int passed = 0, failed = 0;
     void *stack;

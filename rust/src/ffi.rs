@@ -177,6 +177,26 @@ unsafe extern "C" {
         fix: *const f64,
         redone: *mut u64,
     ) -> u32;
+    fn sillfeather_store_open(
+        store: *mut u8,
+        store_len: usize,
+        id: u32,
+        inverse: u32,
+        sheet: *const u8,
+        sheet_len: usize,
+        list: *const f64,
+        list_len: usize,
+    ) -> u32;
+    fn sillfeather_store_close(store: *mut u8, store_len: usize, id: u32) -> u32;
+    fn sillfeather_store_correct(
+        store: *mut u8,
+        store_len: usize,
+        id: u32,
+        index: usize,
+        fix: *const f64,
+        redone: *mut u64,
+    ) -> u32;
+    fn sillfeather_store_find(store: *const u8, store_len: usize, id: u32, places: *mut u64) -> u32;
     fn sillfeather_add_helmert(
         room: *mut u8,
         room_len: usize,
@@ -526,6 +546,43 @@ pub fn correct_columns(
         )
     };
     (told, [redone, out_of_reach])
+}
+
+pub fn store_open(store: &mut [u8], id: u32, inverse: u32, sheet: &[u8], list: &[f64]) -> u32 {
+    // SAFETY: slices with their lengths; the store is written, borrowed mutably.
+    unsafe {
+        sillfeather_store_open(
+            store.as_mut_ptr(),
+            store.len(),
+            id,
+            inverse,
+            sheet.as_ptr(),
+            sheet.len(),
+            list.as_ptr(),
+            list.len(),
+        )
+    }
+}
+
+pub fn store_close(store: &mut [u8], id: u32) -> u32 {
+    // SAFETY: a slice with its length, borrowed mutably.
+    unsafe { sillfeather_store_close(store.as_mut_ptr(), store.len(), id) }
+}
+
+pub fn store_correct(store: &mut [u8], id: u32, index: usize, fix: &[f64; 4]) -> (u32, u64) {
+    let mut redone = 0;
+    // SAFETY: a slice with its length, borrowed mutably; four numbers; one word to write.
+    let told = unsafe {
+        sillfeather_store_correct(store.as_mut_ptr(), store.len(), id, index, fix.as_ptr(), &mut redone)
+    };
+    (told, redone)
+}
+
+pub fn store_find(store: &[u8], id: u32) -> (u32, [u64; 7]) {
+    let mut places = [0; 7];
+    // SAFETY: a slice with its length, read alone; seven words to write.
+    let told = unsafe { sillfeather_store_find(store.as_ptr(), store.len(), id, places.as_mut_ptr()) };
+    (told, places)
 }
 
 pub fn keep(inverse: u32, sheet: &[u8], list: &[f64], results: &mut [f64], track: &mut [f64]) -> u32 {

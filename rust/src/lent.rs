@@ -204,3 +204,31 @@ pub fn closure_grid(
 ) -> Result<(), Refusal> {
     Refusal::told(ffi::closure_grid(report, profile.word(), sheet, list, room, grid))
 }
+
+/// Opens a kept run in a store of bytes, under an identifier from 1 to 65,535: a fresh run of the list, with its sheet and direction.
+///
+/// Refused: 24 where the store's header is out of its rule, 21 for an identifier out of range or taken, 22 where all 16 are open; then as [`keep`]; 23 where
+/// what is free is less than the sheet's length and 96 bytes a fix.
+pub fn store_open(store: &mut [u8], id: u32, direction: Direction, sheet: &[u8], list: &[f64]) -> Result<(), Refusal> {
+    Refusal::told(ffi::store_open(store, id, direction.word(), sheet, list))
+}
+
+/// Closes a run of a store: its room is free. Refused: 24; 21 for an identifier out of range or unknown.
+pub fn store_close(store: &mut [u8], id: u32) -> Result<(), Refusal> {
+    Refusal::told(ffi::store_close(store, id))
+}
+
+/// [`correct`] of a run inside a store, by its own sheet and direction. Refused: 24, 21; then as [`correct`].
+pub fn store_correct(store: &mut [u8], id: u32, index: usize, fix: [f64; 4]) -> Result<u64, Refusal> {
+    let (told, redone) = ffi::store_correct(store, id, index, &fix);
+    Refusal::told(told)?;
+    Ok(redone)
+}
+
+/// Where a run of a store stands: bytes from the store's start to its sheet, list, results and track; then the sheet's length, the fixes and the direction's
+/// word. Refused: 24, 21.
+pub fn store_find(store: &[u8], id: u32) -> Result<[u64; 7], Refusal> {
+    let (told, places) = ffi::store_find(store, id);
+    Refusal::told(told)?;
+    Ok(places)
+}

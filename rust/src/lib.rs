@@ -1,10 +1,11 @@
 //! Datum shifts for positioning boxes: safe functions over the archive of the proved library Sillfeather.
 //!
-//! A *sheet* holds 1 to 16 steps (Helmert, cart, Molodensky, permanent tide, deformation, Molodensky-Badekas), as the bytes that boxes hand each other. It is made by a
-//! [`Sheet::builder`] or checked by [`Sheet::from_bytes`], and shifts a list of fixes in place, forward or inverse. A [`KeptRun`] keeps a list with its
-//! results, and redoes only what the correction of one fix changes. [`Columns`] are a list as a display holds it. [`Sheet::rescue`] mends a sheet whose
-//! header or directory was damaged. A [`Report`] tells what a sheet forward and then inverse leaves of lists of fixes, and [`Sheet::judge`] whether a
-//! [`Profile`] lets a sheet through. A [`Grid`] is a checked velocity grid, in which a deformation step finds each fix's velocity.
+//! A *sheet* holds 1 to 16 steps (Helmert, cart, Molodensky, permanent tide, deformation, Molodensky-Badekas), as the bytes that boxes hand each other. It is
+//! made by a [`Sheet::builder`] or checked by [`Sheet::from_bytes`], and shifts a list of fixes in place, forward or inverse. A [`KeptRun`] keeps a list with
+//! its results, and redoes only what the correction of one fix changes. A [`Store`] keeps up to 16 of them in one buffer. [`Columns`] are a list as a display
+//! holds it. [`Sheet::rescue`] mends a sheet whose header or directory was damaged. A [`Report`] tells what a sheet forward and then inverse leaves of lists of
+//! fixes, and [`Sheet::judge`] whether a [`Profile`] lets a sheet through. A [`Grid`] is a checked velocity grid, in which a deformation step finds each fix's
+//! velocity.
 //!
 //! ```
 //! use sillfeather::{Cart, Convention, Direction, Ellipsoid, Helmert, Sheet};
@@ -70,6 +71,7 @@ mod refusal;
 mod report;
 mod sheet;
 mod steps;
+mod store;
 
 pub use columns::Columns;
 pub use grid::Grid;
@@ -78,6 +80,7 @@ pub use refusal::Refusal;
 pub use report::{Largest, Profile, Report};
 pub use sheet::{Change, Counts, Sheet, SheetBuilder};
 pub use steps::{Badekas, Cart, Convention, Deformation, Ellipsoid, Helmert, Molodensky, Permtide, Step, TideSystem};
+pub use store::{Store, StoredRun};
 
 /// Which way a sheet runs.
 #[derive(Clone, Copy, Debug, PartialEq, Eq, Hash)]

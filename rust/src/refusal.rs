@@ -4,7 +4,8 @@ use core::fmt;
 /// Why nothing was done. Each refusal has its number, given exactly when its rule is broken; those of a step carry the step, counted from 1.
 ///
 /// Where several rules are broken the first of this order is given: 1, 2, 3, 4; then step by step 5 to 8; then 25 where a profile is
-/// asked for; then 11, 12, 9, 13, 10, 17, 18, 14, 15. A rescue gives 19, then 15, before the sheet's own. What was lent holds what it held.
+/// asked for; then 11, 12, 9, 13, 10, 17, 18, 14, 15. A rescue gives 19, then 15, before the sheet's own; a store 24, 21 and 22 before, 23 after all others.
+/// What was lent holds what it held.
 ///
 /// ```
 /// use sillfeather::{Helmert, Refusal, Sheet};
@@ -70,6 +71,14 @@ pub enum Refusal {
     GridNumber,
     /// 19: a damaged sheet that cannot be rebuilt.
     Rescue,
+    /// 21: a store's identifier out of range, taken or unknown.
+    Identifier,
+    /// 22: all 16 runs of a store are open.
+    AllOpen,
+    /// 23: what is free in a store is below what the run needs.
+    StoreRoom,
+    /// 24: a store's header out of its rule.
+    StoreHeader,
     /// 25: a step outside the profile that was asked for.
     Profile {
         /// The first such step, from 1; 0 where nobody knows the profile.
@@ -80,7 +89,7 @@ pub enum Refusal {
 }
 
 impl Refusal {
-    /// The rule's number, 1 to 19 or 25.
+    /// The rule's number, 1 to 19 or 21 to 25.
     pub fn number(self) -> u32 {
         self.code() % 65536
     }
@@ -116,6 +125,10 @@ impl Refusal {
             Refusal::Grid => 17,
             Refusal::GridNumber => 18,
             Refusal::Rescue => 19,
+            Refusal::Identifier => 21,
+            Refusal::AllOpen => 22,
+            Refusal::StoreRoom => 23,
+            Refusal::StoreHeader => 24,
             Refusal::Profile { step } => of_step(25, step),
             Refusal::Other(code) => code,
         }
@@ -149,6 +162,10 @@ impl Refusal {
             }
             Refusal::GridNumber => "a number of the velocity grid is not finite, or a spacing not positive",
             Refusal::Rescue => "the damaged sheet cannot be rebuilt from its step count, kinds, inverted words and length",
+            Refusal::Identifier => "the identifier is out of range, taken or unknown",
+            Refusal::AllOpen => "all 16 runs are open",
+            Refusal::StoreRoom => "what is free in the store is less than the run needs",
+            Refusal::StoreHeader => "the bytes are not a store: its header is out of its rule",
             Refusal::Profile { .. } => "outside the profile that was asked for",
             Refusal::Other(_) => "a refusal without a name",
         }
@@ -179,6 +196,10 @@ impl From<u32> for Refusal {
             (17, 0) => Refusal::Grid,
             (18, 0) => Refusal::GridNumber,
             (19, 0) => Refusal::Rescue,
+            (21, 0) => Refusal::Identifier,
+            (22, 0) => Refusal::AllOpen,
+            (23, 0) => Refusal::StoreRoom,
+            (24, 0) => Refusal::StoreHeader,
             (25, _) => Refusal::Profile { step },
             _ => Refusal::Other(code),
         }
@@ -217,7 +238,7 @@ mod tests {
 
     #[test]
     fn each_number_has_its_name() {
-        for number in (1..=19).chain([25]) {
+        for number in (1..=19).chain(21..=25) {
             assert!(!matches!(Refusal::from(number), Refusal::Other(_)), "{number}");
         }
         assert_eq!(Refusal::from(6 + 65536 * 3), Refusal::Convention { step: 3 });

@@ -25,6 +25,10 @@ uint32_t sillfeather_correct_columns_reach(uint32_t, const uint8_t *, size_t, do
                                            uint64_t *);
 uint32_t sillfeather_keep(uint32_t, const uint8_t *, size_t, const double *, size_t, double *, size_t, double *, size_t);
 uint32_t sillfeather_correct(uint32_t, const uint8_t *, size_t, double *, size_t, double *, size_t, double *, size_t, size_t, const double[4], uint64_t *);
+uint32_t sillfeather_store_open(uint8_t *, size_t, uint32_t, uint32_t, const uint8_t *, size_t, const double *, size_t);
+uint32_t sillfeather_store_close(uint8_t *, size_t, uint32_t);
+uint32_t sillfeather_store_correct(uint8_t *, size_t, uint32_t, size_t, const double[4], uint64_t *);
+uint32_t sillfeather_store_find(const uint8_t *, size_t, uint32_t, uint64_t[7]);
 uint32_t sillfeather_add_helmert(uint8_t *, size_t, uint64_t *, uint32_t, uint32_t, uint32_t, const double[30]);
 uint32_t sillfeather_add_cart(uint8_t *, size_t, uint64_t *, uint32_t, uint32_t);
 uint32_t sillfeather_add_molodensky(uint8_t *, size_t, uint64_t *, uint32_t, uint32_t, uint32_t, uint32_t, const double[5]);

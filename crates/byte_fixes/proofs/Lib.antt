@@ -1,0 +1,3 @@
+-- What the proofs of this crate share, and the laws that callers cite.
+pub mod Laws
+pub mod Back

@@ -1,0 +1,2 @@
+-- What the contracts of `byte_fixes` cite.
+pub mod Fixes

@@ -1,0 +1,4 @@
+-- What the proofs of this crate share, and its promises.
+pub mod Answers
+pub mod Passing
+pub mod Promises

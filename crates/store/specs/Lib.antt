@@ -1,0 +1,4 @@
+-- What the contracts of `store` cite, and what its promises speak of.
+pub mod Entries
+pub mod Places
+pub mod Material

@@ -1,0 +1,2 @@
+-- What the contracts of `store_lines` cite.
+pub mod Lines

@@ -1,0 +1,2 @@
+-- What the contracts of `store_pack` cite.
+pub mod Packed

@@ -1,0 +1,2 @@
+-- The loop over windows.
+pub mod Windows

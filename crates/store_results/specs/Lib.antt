@@ -1,0 +1,2 @@
+-- What the contracts of `store_results` cite.
+pub mod Results

@@ -1,0 +1,4 @@
+-- What the proofs of this crate share.
+pub mod Found
+pub mod Totals
+pub mod Gaps

@@ -1,0 +1,2 @@
+-- The laws that callers cite, and the loops.
+pub mod Loops

@@ -1,0 +1,2 @@
+-- What the contracts of `store_track` cite.
+pub mod Times
