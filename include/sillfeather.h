@@ -23,7 +23,7 @@
  *
  * WHAT IS PROVED. For each function, and for every input, that the result and the memory afterwards
  * are what its definition says (crates/sillfeather, crates/badekas_entries, crates/reach_entries,
- * crates/closure_entries and crates/grid_entries have the contracts in src/lib.rt,
+ * crates/closure_entries, crates/grid_entries and crates/chain_entries have the contracts in src/lib.rt,
  * docs/CONFORMANCE.md the way from the documents to them); that it ends; and that it touches nothing
  * but what it is lent.
  * What is said below of what a call reads, writes, refuses and leaves alone follows from that. The
@@ -91,10 +91,13 @@ enum {
     SILLFEATHER_REFUSED_VELOCITIES = 10,  /* velocities or marks of wrong length; a mark over 1 */
     SILLFEATHER_REFUSED_DEFORMATION = 11, /* a second deformation step */
     SILLFEATHER_REFUSED_KEPT_SHEET = 12,  /* kept run: the sheet is not one Helmert or ten-parameter
-                                             step */
-    SILLFEATHER_REFUSED_KEPT_LENGTH = 13, /* kept run: results or track not as long as the list */
+                                             step; of a chain: a raw flag in a deformation step */
+    SILLFEATHER_REFUSED_KEPT_LENGTH = 13, /* kept run: results or track not as long as the list; of a
+                                             chain: a track not of 4 doubles a fix for each step, or
+                                             not one word a fix */
     SILLFEATHER_REFUSED_INDEX = 14,       /* the corrected fix's index is not below the number of
-                                             tuples */
+                                             tuples; of a chain: indices that do not rise, or not
+                                             one new fix for each */
     SILLFEATHER_REFUSED_ROOM = 15,        /* the room is too short for the sheet, or a rescue's list
                                              for its changes, or a closure's room for its list */
     SILLFEATHER_REFUSED_GRID = 17,        /* a velocity grid of fewer than 8 bytes, with a count
@@ -238,6 +241,56 @@ uint32_t sillfeather_correct_columns_reach(uint32_t inverse, const uint8_t *shee
                                            double *rz, size_t rz_len, double *rt, size_t rt_len, double *kx, size_t kx_len, double *ky, size_t ky_len,
                                            double *kz, size_t kz_len, double *kt, size_t kt_len, size_t index, const double fix[4], uint64_t *redone,
                                            uint64_t *out_of_reach);
+
+/* ----- the kept run of a chain ----------------------------------------------------------------- */
+
+/* A run that is kept, as sillfeather_keep keeps one, of any sheet without a deformation step that has
+ * the raw flag.
+ *   Reads     the sheet, the list, the velocities and the marks.
+ *   Writes    results: what sillfeather_shift makes of the list. track: for each step, in the sheet's
+ *             order and in either direction, four doubles a fix, the state after it; those of step
+ *             i + 1 after fix k of n begin at 4 (n i + k). A step without a translation has NaN, +0,
+ *             +0, +0. words: one a fix, whose bit i is 1 where step i + 1 counted it. All 16 of counts
+ *             and of out_of_reach, in the sheet's order, as sillfeather_shift_reach.
+ *   Refuses   as sillfeather_check; then 12 (a deformation step with the raw flag), 9, 13 (results not
+ *             as long as the list, a track not of 4 doubles a fix for each step, or not one word a
+ *             fix), 10.
+ *   Leaves    the list; on refusal results, track and words as they were, and zeros in counts and
+ *             out_of_reach. */
+uint32_t sillfeather_keep_chain(uint32_t inverse, const uint8_t *sheet, size_t sheet_len, const double *list, size_t list_len, double *results,
+                                size_t results_len, double *track, size_t track_len, uint32_t *words, size_t words_len, const double *velocities,
+                                size_t velocities_len, const uint8_t *marks, size_t marks_len, uint32_t counts[16], uint32_t out_of_reach[16]);
+
+/* Corrects a set of fixes of such a run: puts new ones at `indices`, which rise, four doubles of
+ * `fixes` for each, and redoes these and each fix before which the carried state of some step is not
+ * the one that the track has. With `inverse`, sheet and lists of a sillfeather_keep_chain that was
+ * done, and of corrections after it, and the same velocities and marks at the fixes that are not
+ * listed, the four lists and `counts` end as a sillfeather_keep_chain of the corrected list would leave
+ * them. No index is a set too: nothing is written.
+ *   Reads     the sheet, the list, the indices, the fixes, the track, the words, velocities and marks.
+ *   Writes    list, results, track and words of the fixes redone and of no others; *written, how many
+ *             those are. counts: for each step the fixes of the whole list that it counts, by the
+ *             words; out_of_reach: of the fixes redone alone.
+ *   Refuses   as sillfeather_keep_chain; then 14 (an index not above the one before it or not below
+ *             the number of fixes, or not four doubles of `fixes` for each).
+ *   Leaves    on refusal the four lists as they were, and zeros in *written, counts and
+ *             out_of_reach. */
+uint32_t sillfeather_correct_chain(uint32_t inverse, const uint8_t *sheet, size_t sheet_len, double *list, size_t list_len, double *results,
+                                   size_t results_len, double *track, size_t track_len, uint32_t *words, size_t words_len, const uint64_t *indices,
+                                   size_t indices_len, const double *fixes, size_t fixes_len, const double *velocities, size_t velocities_len,
+                                   const uint8_t *marks, size_t marks_len, uint64_t *written, uint32_t counts[16], uint32_t out_of_reach[16]);
+
+/* The same two with a velocity grid, as sillfeather_shift_grid takes one.
+ *   Refuses   as the two above, 10 where velocities or marks are not empty; then 17, 18, before 14. */
+uint32_t sillfeather_keep_chain_grid(uint32_t inverse, const uint8_t *sheet, size_t sheet_len, const double *list, size_t list_len, double *results,
+                                     size_t results_len, double *track, size_t track_len, uint32_t *words, size_t words_len, const double *velocities,
+                                     size_t velocities_len, const uint8_t *marks, size_t marks_len, const uint8_t *grid, size_t grid_len,
+                                     uint32_t counts[16], uint32_t out_of_reach[16]);
+uint32_t sillfeather_correct_chain_grid(uint32_t inverse, const uint8_t *sheet, size_t sheet_len, double *list, size_t list_len, double *results,
+                                        size_t results_len, double *track, size_t track_len, uint32_t *words, size_t words_len,
+                                        const uint64_t *indices, size_t indices_len, const double *fixes, size_t fixes_len, const double *velocities,
+                                        size_t velocities_len, const uint8_t *marks, size_t marks_len, const uint8_t *grid, size_t grid_len,
+                                        uint64_t *written, uint32_t counts[16], uint32_t out_of_reach[16]);
 
 /* ----- making a sheet ------------------------------------------------------------------------ */
 

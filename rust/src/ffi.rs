@@ -282,6 +282,96 @@ unsafe extern "C" {
         counts: *mut u32,
         out_of_reach: *mut u32,
     ) -> u32;
+    fn sillfeather_keep_chain(
+        inverse: u32,
+        sheet: *const u8,
+        sheet_len: usize,
+        list: *const f64,
+        list_len: usize,
+        results: *mut f64,
+        results_len: usize,
+        track: *mut f64,
+        track_len: usize,
+        words: *mut u32,
+        words_len: usize,
+        velocities: *const f64,
+        velocities_len: usize,
+        marks: *const u8,
+        marks_len: usize,
+        counts: *mut u32,
+        out_of_reach: *mut u32,
+    ) -> u32;
+    fn sillfeather_keep_chain_grid(
+        inverse: u32,
+        sheet: *const u8,
+        sheet_len: usize,
+        list: *const f64,
+        list_len: usize,
+        results: *mut f64,
+        results_len: usize,
+        track: *mut f64,
+        track_len: usize,
+        words: *mut u32,
+        words_len: usize,
+        velocities: *const f64,
+        velocities_len: usize,
+        marks: *const u8,
+        marks_len: usize,
+        grid: *const u8,
+        grid_len: usize,
+        counts: *mut u32,
+        out_of_reach: *mut u32,
+    ) -> u32;
+    fn sillfeather_correct_chain(
+        inverse: u32,
+        sheet: *const u8,
+        sheet_len: usize,
+        list: *mut f64,
+        list_len: usize,
+        results: *mut f64,
+        results_len: usize,
+        track: *mut f64,
+        track_len: usize,
+        words: *mut u32,
+        words_len: usize,
+        indices: *const u64,
+        indices_len: usize,
+        fixes: *const f64,
+        fixes_len: usize,
+        velocities: *const f64,
+        velocities_len: usize,
+        marks: *const u8,
+        marks_len: usize,
+        written: *mut u64,
+        counts: *mut u32,
+        out_of_reach: *mut u32,
+    ) -> u32;
+    fn sillfeather_correct_chain_grid(
+        inverse: u32,
+        sheet: *const u8,
+        sheet_len: usize,
+        list: *mut f64,
+        list_len: usize,
+        results: *mut f64,
+        results_len: usize,
+        track: *mut f64,
+        track_len: usize,
+        words: *mut u32,
+        words_len: usize,
+        indices: *const u64,
+        indices_len: usize,
+        fixes: *const f64,
+        fixes_len: usize,
+        velocities: *const f64,
+        velocities_len: usize,
+        marks: *const u8,
+        marks_len: usize,
+        grid: *const u8,
+        grid_len: usize,
+        written: *mut u64,
+        counts: *mut u32,
+        out_of_reach: *mut u32,
+    ) -> u32;
 }
 
 pub fn sin_cos(x: f64) -> (f64, f64) {
@@ -734,4 +824,138 @@ pub fn shift_grid(
             out_of_reach.as_mut_ptr(),
         )
     }
+}
+
+/// The four lists of a kept run of a chain, as a call takes them.
+pub struct KeptLists<'a> {
+    pub list: &'a mut [f64],
+    pub results: &'a mut [f64],
+    pub track: &'a mut [f64],
+    pub words: &'a mut [u32],
+}
+
+/// What a deformation step goes by: velocities and marks, or a grid.
+#[derive(Clone, Copy)]
+pub enum Lent<'a> {
+    Velocities(&'a [f64], &'a [u8]),
+    Grid(&'a [u8]),
+}
+
+pub fn keep_chain(inverse: u32, sheet: &[u8], kept: KeptLists, lent: Lent) -> (u32, [[u32; 16]; 2]) {
+    let [mut counts, mut out_of_reach] = [[0; 16]; 2];
+    let KeptLists { list, results, track, words } = kept;
+    // SAFETY: slices with their lengths; results, track and words, each borrowed mutably, and twice 16 numbers of our own are written.
+    let told = unsafe {
+        match lent {
+            Lent::Velocities(velocities, marks) => sillfeather_keep_chain(
+                inverse,
+                sheet.as_ptr(),
+                sheet.len(),
+                list.as_ptr(),
+                list.len(),
+                results.as_mut_ptr(),
+                results.len(),
+                track.as_mut_ptr(),
+                track.len(),
+                words.as_mut_ptr(),
+                words.len(),
+                velocities.as_ptr(),
+                velocities.len(),
+                marks.as_ptr(),
+                marks.len(),
+                counts.as_mut_ptr(),
+                out_of_reach.as_mut_ptr(),
+            ),
+            Lent::Grid(grid) => sillfeather_keep_chain_grid(
+                inverse,
+                sheet.as_ptr(),
+                sheet.len(),
+                list.as_ptr(),
+                list.len(),
+                results.as_mut_ptr(),
+                results.len(),
+                track.as_mut_ptr(),
+                track.len(),
+                words.as_mut_ptr(),
+                words.len(),
+                [0.0; 0].as_ptr(),
+                0,
+                [0; 0].as_ptr(),
+                0,
+                grid.as_ptr(),
+                grid.len(),
+                counts.as_mut_ptr(),
+                out_of_reach.as_mut_ptr(),
+            ),
+        }
+    };
+    (told, [counts, out_of_reach])
+}
+
+pub fn correct_chain(
+    inverse: u32,
+    sheet: &[u8],
+    kept: KeptLists,
+    indices: &[u64],
+    fixes: &[f64],
+    lent: Lent,
+) -> (u32, u64, [[u32; 16]; 2]) {
+    let ([mut counts, mut out_of_reach], mut written) = ([[0; 16]; 2], 0);
+    let KeptLists { list, results, track, words } = kept;
+    // SAFETY: slices with their lengths; the four lists, each borrowed mutably, and numbers of our own are written.
+    let told = unsafe {
+        match lent {
+            Lent::Velocities(velocities, marks) => sillfeather_correct_chain(
+                inverse,
+                sheet.as_ptr(),
+                sheet.len(),
+                list.as_mut_ptr(),
+                list.len(),
+                results.as_mut_ptr(),
+                results.len(),
+                track.as_mut_ptr(),
+                track.len(),
+                words.as_mut_ptr(),
+                words.len(),
+                indices.as_ptr(),
+                indices.len(),
+                fixes.as_ptr(),
+                fixes.len(),
+                velocities.as_ptr(),
+                velocities.len(),
+                marks.as_ptr(),
+                marks.len(),
+                &mut written,
+                counts.as_mut_ptr(),
+                out_of_reach.as_mut_ptr(),
+            ),
+            Lent::Grid(grid) => sillfeather_correct_chain_grid(
+                inverse,
+                sheet.as_ptr(),
+                sheet.len(),
+                list.as_mut_ptr(),
+                list.len(),
+                results.as_mut_ptr(),
+                results.len(),
+                track.as_mut_ptr(),
+                track.len(),
+                words.as_mut_ptr(),
+                words.len(),
+                indices.as_ptr(),
+                indices.len(),
+                fixes.as_ptr(),
+                fixes.len(),
+                [0.0; 0].as_ptr(),
+                0,
+                [0; 0].as_ptr(),
+                0,
+                grid.as_ptr(),
+                grid.len(),
+                &mut written,
+                counts.as_mut_ptr(),
+                out_of_reach.as_mut_ptr(),
+            ),
+        }
+    };
+    (told, written, [counts, out_of_reach])
 }

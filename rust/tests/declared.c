@@ -37,5 +37,13 @@ uint32_t sillfeather_rescue(const uint8_t *, size_t, uint8_t *, size_t, uint32_t
 uint32_t sillfeather_closure_grid(uint64_t[16], uint32_t, const uint8_t *, size_t, const double *, size_t, double *, size_t, const double *, size_t, const uint8_t *, size_t, const uint8_t *, size_t);
 uint32_t sillfeather_check_grid(const uint8_t *, size_t);
 uint32_t sillfeather_shift_grid(uint32_t, const uint8_t *, size_t, double *, size_t, const double *, size_t, const uint8_t *, size_t, const uint8_t *, size_t, uint32_t[16], uint32_t[16]);
+uint32_t sillfeather_keep_chain(uint32_t, const uint8_t *, size_t, const double *, size_t, double *, size_t, double *, size_t, uint32_t *, size_t, const double *, size_t, const uint8_t *, size_t,
+                                uint32_t[16], uint32_t[16]);
+uint32_t sillfeather_keep_chain_grid(uint32_t, const uint8_t *, size_t, const double *, size_t, double *, size_t, double *, size_t, uint32_t *, size_t, const double *, size_t, const uint8_t *,
+                                     size_t, const uint8_t *, size_t, uint32_t[16], uint32_t[16]);
+uint32_t sillfeather_correct_chain(uint32_t, const uint8_t *, size_t, double *, size_t, double *, size_t, double *, size_t, uint32_t *, size_t, const uint64_t *, size_t, const double *, size_t,
+                                   const double *, size_t, const uint8_t *, size_t, uint64_t *, uint32_t[16], uint32_t[16]);
+uint32_t sillfeather_correct_chain_grid(uint32_t, const uint8_t *, size_t, double *, size_t, double *, size_t, double *, size_t, uint32_t *, size_t, const uint64_t *, size_t, const double *,
+                                        size_t, const double *, size_t, const uint8_t *, size_t, const uint8_t *, size_t, uint64_t *, uint32_t[16], uint32_t[16]);
 
 _Static_assert(sizeof(struct sillfeather_helmert) == 30 * sizeof(double), "thirty numbers");

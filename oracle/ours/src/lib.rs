@@ -5,6 +5,7 @@
 //! in the answer and in every number (`columns`).
 pub mod columns;
 pub mod grid;
+pub mod kept_chain;
 
 use job::{Answer, Job, sheet};
 

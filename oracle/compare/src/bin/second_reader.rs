@@ -37,8 +37,14 @@ fn main() -> ExitCode {
     let (cases, seed) = (args.next().unwrap_or(5000), args.next().unwrap_or(1));
     println!("second reader: {cases} cases a part, seed {seed}");
     let (mut passed, mut failed) = (0, 0);
-    let parts: [(&str, fn(&str, &mut Random, &mut Tally)); 5] =
-        [("sheets", sheets), ("steps", steps), ("lists", lists), ("kept runs", kept_runs), ("missing times", missing_times)];
+    let parts: [(&str, fn(&str, &mut Random, &mut Tally)); 6] = [
+        ("sheets", sheets),
+        ("steps", steps),
+        ("lists", lists),
+        ("kept runs", kept_runs),
+        ("missing times", missing_times),
+        ("kept chains", kept_chains),
+    ];
     for (i, (name, part)) in parts.into_iter().enumerate() {
         let mut r = Random::new(seed.wrapping_mul(1000) + i as u64);
         let mut tally = Tally::default();
@@ -147,4 +153,47 @@ fn missing_times(part: &str, r: &mut Random, tally: &mut Tally) {
         let agree = told == (0, 0) && redone == 1 && memory.same(&of(&list));
         tally.count(part, 0, agree, (&job, index, fix));
     }
+}
+
+/// A kept run of a chain over what the memory held, then a correction of a set of its fixes; where the
+/// memory came from a fresh run and the premise holds, what is left and the counts are those of a fresh
+/// run of the corrected list.
+fn kept_chains(part: &str, r: &mut Random, tally: &mut Tally) {
+    let run = draw::draw_kept_chain(r, &LANDED, kept::Layout::ByStep);
+    let lent = |velocities, marks| ours::kept_chain::Given {
+        inverse: run.inverse,
+        sheet: &run.sheet,
+        velocities,
+        marks,
+        grid: run.grid.as_deref(),
+    };
+
+    let expected = kept::keep_chain(&LANDED, &run.given(), &run.memory);
+    let mut memory = run.memory.clone();
+    let (told, [counts, met]) = ours::kept_chain::keep(lent(&run.velocities, &run.marks), lent_lists(&mut memory));
+    let agree = told == (expected.refusal, expected.step)
+        && (counts, met) == (expected.whole, expected.out_of_reach)
+        && memory.same(&expected.memory);
+    tally.met(met.iter().sum::<u32>() as u64);
+    tally.count(part, expected.refusal, agree, &run);
+
+    let expected = kept::correct_chain(&LANDED, &run.given_anew(), &run.memory, &run.indices, &run.fixes);
+    let mut memory = run.memory.clone();
+    let (told, written, [counts, met]) =
+        ours::kept_chain::correct(lent(&run.new_velocities, &run.new_marks), lent_lists(&mut memory), &run.indices, &run.fixes);
+    let mut agree = told == (expected.refusal, expected.step)
+        && written == u64::from(expected.redone)
+        && (counts, met) == (expected.whole, expected.out_of_reach)
+        && memory.same(&expected.memory);
+    if run.fresh && run.premise && expected.refusal == 0 {
+        let fresh = kept::keep_chain(&LANDED, &run.given_anew(), &memory);
+        agree &= memory.same(&fresh.memory) && counts == fresh.whole;
+    }
+    tally.met(met.iter().sum::<u32>() as u64);
+    tally.count(part, expected.refusal, agree, &run);
+}
+
+fn lent_lists(memory: &mut kept::Memory) -> ours::kept_chain::Lists<'_> {
+    let kept::Memory { list, results, track, words } = memory;
+    ours::kept_chain::Lists { list, results, track, words }
 }

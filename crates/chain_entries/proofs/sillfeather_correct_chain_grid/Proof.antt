@@ -1,0 +1,60 @@
+-- The answer's parts are handed over one by one, and no number is cut (`correct-fits`). Assumes nothing.
+use mathlib.Core.Path.{ap}
+use Rattle.codes.proofs.Counts.{narrow-small}
+use Rattle.chain_entries.specs.Codes.{writtenToldOf}
+use Rattle.chain_entries.proofs.Fit.{correct-fits}
+use borrow.Author.Needs.{needs}
+use Rattle.chain_entries.proofs.sillfeather_correct_chain_grid.Statement.{statement}
+use Rattle.chain_entries.proofs.sillfeather_correct_chain_grid.Tie as tie
+
+correct-grid-requires : tie.Need-correct-grid-requires
+correct-grid-requires c κs = search needs
+
+counts-requires : tie.Need-counts-requires
+counts-requires c κs = search needs
+
+narrow-requires : tie.Need-narrow-requires
+narrow-requires c κs = search needs
+
+mets-requires : tie.Need-mets-requires
+mets-requires c κs = search needs
+
+narrow-requires-2 : tie.Need-narrow-requires-2
+narrow-requires-2 c κs = search needs
+
+code-requires : tie.Need-code-requires
+code-requires c κs = search needs
+
+same-length : tie.Need-same-length
+same-length c = search needs
+
+same-length-2 : tie.Need-same-length-2
+same-length-2 c = search needs
+
+same-length-3 : tie.Need-same-length-3
+same-length-3 c = search needs
+
+same-length-4 : tie.Need-same-length-4
+same-length-4 c = search needs
+
+returns : tie.Need-returns
+returns c =
+    let e = c .before .before .before .before .before .before .before .before .before .before .before .before .before .before .before .correct-grid .ensures in
+    let fit = correct-fits _ _ _ _ _ _ _ e in
+    rw (c .code .ensures, c .before .narrow2 .ensures, c .before .before .mets .ensures, c .before .before .before .narrow .ensures, c .before .before .before .before .counts .ensures, narrow-small _ (fit .0), narrow-small _ (fit .1)) (ap writtenToldOf e)
+
+pub sillfeather-correct-chain-grid-spec : {M : Type 1} → statement M
+sillfeather-correct-chain-grid-spec =
+    tie.close
+    (tie.spec
+    correct-grid-requires
+    counts-requires
+    narrow-requires
+    mets-requires
+    narrow-requires-2
+    code-requires
+    same-length
+    same-length-2
+    same-length-3
+    same-length-4
+    returns)

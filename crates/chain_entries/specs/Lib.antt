@@ -1,0 +1,2 @@
+-- What the contracts of `chain_entries` cite.
+pub mod Codes

@@ -1,0 +1,4 @@
+pub mod Forward
+pub mod Inverse
+pub mod States
+pub mod Made

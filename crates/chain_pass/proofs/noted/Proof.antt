@@ -1,0 +1,18 @@
+-- By whether it is told. Assumes nothing.
+use borrow.Author.Needs.{needs}
+use native.Mathlib.Omega.{arith}
+use native.Mathlib.Nat.{add-zero}
+use Rattle.chain_pass.proofs.noted.Statement.{statement}
+use Rattle.chain_pass.proofs.noted.Tie as tie
+
+add-result : tie.Need-add-result
+add-result c = search needs
+
+returns : tie.Need-returns
+returns c = (rw (c .if1 .taken), omega arith)
+
+returns-2 : tie.Need-returns-2
+returns-2 c = (rw (c .if1 .left, add-zero), omega arith)
+
+pub noted-spec : {M : Type 1} → statement M
+noted-spec = tie.close (tie.spec add-result returns returns-2)

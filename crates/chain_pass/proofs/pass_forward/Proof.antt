@@ -1,0 +1,87 @@
+-- Invariant (`Under`): at each step, what is done and what is left to do are the whole pass. Assumes
+-- nothing.
+use borrow.Author.Needs.{needs}
+use Prim.Native.Nat.{_-_, _<_}
+use native.Mathlib.Omega.{arith}
+use Rattle.plans.specs.Lent.{lentOf}
+use Rattle.plans.proofs.Arrays.{at-most-sixteen}
+use Rattle.chain_pass.proofs.Forward.{Under, under-start, under-again, under-done, bit-small}
+use Rattle.chain_pass.proofs.pass_forward.Statement.{statement}
+use Rattle.chain_pass.proofs.pass_forward.Tie as tie
+
+abbrev Inv-loop : tie.InvT-loop
+Inv-loop m k velocities marks grid plans steps all₀ v₀ word₀ reached₀ bit₀ i₀ all v word reached bit i = Under (lentOf velocities marks grid) plans steps k all₀ v₀ i all v word reached bit
+
+abbrev μ-loop : tie.MeasureT-loop
+μ-loop m k velocities marks grid plans steps all₀ v₀ word₀ reached₀ bit₀ i₀ all v word reached bit i = steps - i
+
+at-most-sixteen-requires : tie.Need-at-most-sixteen-requires Inv-loop μ-loop
+at-most-sixteen-requires c κs = search needs
+
+loop-holds : tie.Need-loop-holds Inv-loop μ-loop
+loop-holds c = under-start _ _ _ _ _ _ (rw (c .at-most-sixteen .ensures) (at-most-sixteen _)) (c .before .before .before .before .good .1 .1 .1 .0 .1 .0 .1) (c .before .before .before .before .good .0 .1 .0 .1)
+
+mul-plan : tie.Need-mul-plan Inv-loop μ-loop
+mul-plan c = search needs
+
+array-copy-out-plan : tie.Need-array-copy-out-plan Inv-loop μ-loop
+array-copy-out-plan c = search needs
+
+mul-state : tie.Need-mul-state Inv-loop μ-loop
+mul-state c = search needs
+
+array-copy-out-state : tie.Need-array-copy-out-state Inv-loop μ-loop
+array-copy-out-state c = search needs
+
+turn-requires : tie.Need-turn-requires Inv-loop μ-loop
+turn-requires c κs = search needs
+
+mul-all : tie.Need-mul-all Inv-loop μ-loop
+mul-all c = search needs
+
+array-set-from-all : tie.Need-array-set-from-all Inv-loop μ-loop
+array-set-from-all c = search needs
+
+noted-requires : tie.Need-noted-requires Inv-loop μ-loop
+noted-requires c κs = let now = c .before .before .before .before .before .before .loop .inv in (now .below, bit-small _ _ _ _ (c .before .before .before .before .before .loop-test .taken) now)
+
+noted-requires-2 : tie.Need-noted-requires-2 Inv-loop μ-loop
+noted-requires-2 c κs = let now = c .before .before .before .before .before .before .before .loop .inv in (now .below-too, bit-small _ _ _ _ (c .before .before .before .before .before .before .loop-test .taken) now)
+
+add-bit : tie.Need-add-bit Inv-loop μ-loop
+add-bit c = let now = c .before .before .before .before .before .before .before .before .loop .inv in omega (arith, bit-small _ _ _ _ (c .before .before .before .before .before .before .before .loop-test .taken) now)
+
+add-i : tie.Need-add-i Inv-loop μ-loop
+add-i c = search needs
+
+loop-less : tie.Need-loop-less Inv-loop μ-loop
+loop-less c = search needs
+
+loop-again : tie.Need-loop-again Inv-loop μ-loop
+loop-again c = under-again _ _ _ _ (c .before .before .before .before .before .before .before .loop-test .taken) (c .before .before .before .before .before .before .before .before .loop .inv) _ _ (c .before .before .before .before .turn .ensures) (c .before .noted .ensures) (c .noted2 .ensures)
+
+returns : tie.Need-returns Inv-loop μ-loop
+returns c = under-done _ _ _ _ (c .before .before .at-most-sixteen .ensures) (c .loop-test .left) (c .before .loop .inv)
+
+pub pass-forward-spec : {M : Type 1} → statement M
+pass-forward-spec =
+    tie.close
+    (tie.spec
+    Inv-loop
+    μ-loop
+    at-most-sixteen-requires
+    loop-holds
+    mul-plan
+    array-copy-out-plan
+    mul-state
+    array-copy-out-state
+    turn-requires
+    mul-all
+    array-set-from-all
+    noted-requires
+    noted-requires-2
+    add-bit
+    add-i
+    loop-less
+    loop-again
+    returns)

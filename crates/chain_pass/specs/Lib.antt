@@ -1,0 +1,2 @@
+-- What the contracts of `chain_pass` cite.
+pub mod Passes

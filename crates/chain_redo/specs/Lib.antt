@@ -1,0 +1,2 @@
+-- What the contracts of `chain_redo` cite.
+pub mod Loops

@@ -1,0 +1,5 @@
+pub mod Steps
+pub mod Lockstep
+pub mod Laws
+pub mod Unwritten
+pub mod Single

@@ -1,0 +1,2 @@
+-- What the contracts of `keep_chain` cite beside `kept_chain`.
+pub mod Lent

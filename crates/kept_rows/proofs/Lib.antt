@@ -1,0 +1,4 @@
+pub mod Same
+pub mod Flat
+pub mod Written
+pub mod Listed

@@ -1,0 +1,1 @@
+-- `plan_steps` defines nothing of its own.

@@ -1,0 +1,2 @@
+-- What the contracts of `plan_turns` cite.
+pub mod Turns
