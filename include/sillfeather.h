@@ -10,7 +10,7 @@
  * tuples one after another, 0 to 2,048 of them, so up to 8,192 doubles. Any bits are allowed: NaNs
  * and infinities are numbers like others, and no call refuses them in a list.
  *
- * A SHEET is 16 to 4,240 bytes that name 1 to 16 steps with their parameters. docs/FORMAT.md gives
+ * A SHEET is 16 to 4,376 bytes that name 1 to 16 steps with their parameters. docs/FORMAT.md gives
  * it byte by byte; the sillfeather_add_ functions below make one without a byte placed by hand.
  *
  * LENGTHS count elements: bytes of a sheet, doubles of a list.
@@ -64,7 +64,7 @@ extern "C" {
 /* ----- limits -------------------------------------------------------------------------------- */
 
 #define SILLFEATHER_SHEET_MIN 16   /* bytes */
-#define SILLFEATHER_SHEET_MAX 4240 /* bytes: a room that any sheet fits */
+#define SILLFEATHER_SHEET_MAX 4376 /* bytes: a room that any sheet fits */
 #define SILLFEATHER_STEPS_MAX 16
 #define SILLFEATHER_TUPLES_MAX 2048
 
@@ -75,9 +75,10 @@ extern "C" {
 
 enum {
     SILLFEATHER_DONE = 0,
-    SILLFEATHER_REFUSED_LENGTH = 1,       /* fewer than 16 or more than 4,240 bytes, or not as many
-                                             as the sheet's total length says */
-    SILLFEATHER_REFUSED_FORM = 2,         /* the form is not 1 */
+    SILLFEATHER_REFUSED_LENGTH = 1,       /* fewer than 16 or more than 4,240 bytes, of form 2 than
+                                             24 and 4,376; or not as many as the sheet's total length
+                                             says */
+    SILLFEATHER_REFUSED_FORM = 2,         /* the form is neither 1 nor 2 */
     SILLFEATHER_REFUSED_COUNT = 3,        /* no step, or more than 16 */
     SILLFEATHER_REFUSED_DIRECTORY = 4,    /* a directory offset, kind, inverted word, body length or
                                              body offset outside its rule; a directory that does not
@@ -103,6 +104,10 @@ enum {
     SILLFEATHER_REFUSED_GRID_NUMBER = 18, /* a number of a velocity grid not finite, or a spacing not
                                              positive */
     SILLFEATHER_REFUSED_RESCUE = 19,      /* the damaged sheet cannot be rebuilt */
+    SILLFEATHER_REFUSED_ELLIPSOIDS = 20,  /* the sheet's own ellipsoids: more than 8, a table offset
+                                             that is not where the directory ends, or a row whose a
+                                             is not within 1 to 1e9 or whose 1/f is not within 2 to
+                                             1e9 */
     SILLFEATHER_REFUSED_PROFILE = 25      /* the step is outside the profile that was asked for, or
                                              nobody knows that profile */
 };
@@ -112,7 +117,7 @@ enum {
 /* Whether a sheet breaks no rule.
  *   Reads     the sheet.
  *   Writes    nothing.
- *   Refuses   1, 2, 3, 4; then step by step 5, 6, 7, 8; then 11. With the step: 5 to 8 and 11. */
+ *   Refuses   1, 2, 3, 4, 20; then step by step 5, 6, 7, 8; then 11. With the step: 5 to 8 and 11. */
 uint32_t sillfeather_check(const uint8_t *sheet, size_t sheet_len);
 
 /* Runs a sheet's steps over a list, in place: in order where `inverse` is 0, else in reverse with
@@ -415,7 +420,7 @@ enum { SILLFEATHER_PROFILE_NONE = 0, SILLFEATHER_PROFILE_CHART = 1 };
 /* Whether a sheet breaks no rule, and none of a profile's.
  *   Reads     the sheet.
  *   Writes    nothing.
- *   Refuses   1, 2, 3, 4; then step by step 5, 6, 7, 8; then 25, where a profile is asked for, with
+ *   Refuses   1, 2, 3, 4, 20; then step by step 5, 6, 7, 8; then 25, where a profile is asked for, with
  *             the first offending step, or with step 0 where `profile` is neither 0 nor 1: no sheet
  *             passes a profile that nobody knows. Then 11. With SILLFEATHER_PROFILE_NONE it answers
  *             as sillfeather_check. */

@@ -6,6 +6,7 @@ Writes to standard output, for each sheet: u32 length, u32 number + 65536 * step
 prefix; every byte set to every value; every pair of words swapped; steps dropped, doubled and reordered, with and without the
 header and offsets set right; every word at its limits and one past; every number at the edges of its rule; then random bytes.
 """
+import math
 import random
 import struct
 import sys
@@ -54,15 +55,21 @@ def badekas(flags=0, convention=1, translation=(1.0, 2.0, 3.0), rotation=(0.0, 0
     return 6, body([flags, convention], [*translation, *rotation, scale, *pivot])
 
 
-def sheet(steps, inverted=None):
-    """Header, directory, bodies. A step is its kind and its body."""
-    at = 16 + 16 * len(steps)
+def sheet(steps, inverted=None, rows=None):
+    """Header, directory, own ellipsoids, bodies. A step is its kind and its body; with a list of rows, even none, the form is 2."""
+    head = 16 if rows is None else 24
+    table = head + 16 * len(steps)
+    at = table + 16 * len(rows or [])
     entries = b""
     for i, (kind, b) in enumerate(steps):
         turned = inverted[i] if inverted else i % 2
         entries += struct.pack("<4I", kind, turned, at, len(b))
         at += len(b)
-    return struct.pack("<4I", 1, at, len(steps), 16) + entries + b"".join(b for _, b in steps)
+    bodies = b"".join(b for _, b in steps)
+    if rows is None:
+        return struct.pack("<4I", 1, at, len(steps), head) + entries + bodies
+    header = struct.pack("<6I", 2, at, len(steps), head, len(rows), table)
+    return header + entries + b"".join(struct.pack("<2d", *row) for row in rows) + bodies
 
 
 TWO = molodensky(flags=2, first=3, second=2, offsets=(-87.0, -98.0, -121.0, 0.0, 0.0))
@@ -70,6 +77,15 @@ MOVING = helmert(flags=6, n0=54.7, n15=1701.0, n18=81.0, n26=0.00011, t_epoch=20
 BARE = helmert(convention=0, t_epoch=NOT_GIVEN)
 PIVOTED = badekas(flags=6, rotation=(1.0, -2.0, 3.0))
 SIX = [cart(), helmert(n3=1.0), deformation(), permtide(), TWO, badekas(convention=0)]
+
+# own ellipsoids: GRS80's numbers, a sphere nearly, and the bounds of the rule
+ROWS = [(6378137.0, 298.257222101), (6371000.0, 1e9), (1.0, 2.0), (1e9, 1e9)]
+OWN = [
+    ([cart(6)], ROWS[:1]),
+    ([cart(1)], []),
+    ([molodensky(flags=2, first=7, second=2, offsets=(-87.0, -98.0, -121.0, 0.0, 0.0)), permtide(6), deformation(ellipsoid=9), cart(8)], ROWS),
+    ([cart(13), helmert(n3=1.0)], ROWS + ROWS),
+]
 
 GOOD = [[cart()], [permtide()], [deformation()], [molodensky()], [TWO], [MOVING], [BARE], [PIVOTED], SIX]
 
@@ -113,6 +129,11 @@ EDGES = [
 TIDES = [0, 1, 2, 3, 4, 2**32 - 1]
 LOVE = [1.7976931348623157e308, 5e-324, 0.0, 0.3, NOT_GIVEN, float("inf")]
 EDGES += [[permtide(to=to, source=source, k=s * k)] for to in TIDES for source in TIDES for k in LOVE for s in (1, -1)]
+
+
+# rows one step past a bound, and no numbers
+ROWS_OUT = [(math.nextafter(1.0, 0.0), 2.0), (math.nextafter(1e9, 2e9), 2.0), (1.0, math.nextafter(2.0, 0.0)), (1.0, math.nextafter(1e9, 2e9))]
+ROWS_OUT += [(NOT_GIVEN, 298.0), (6378137.0, NOT_GIVEN), (float("inf"), 298.0), (6378137.0, float("inf")), (0.0, 0.0), (-6378137.0, 298.0)]
 
 
 # ---- damage -----------------------------------------------------------------------------
@@ -168,6 +189,17 @@ def steps_moved(steps):
         yield head + b"".join(entries) + b"".join(b for _, b in moved)
 
 
+def counts_laid_out():
+    """Form 2 with so many rows laid out and another number counted; and as long as form 2 may be, and a byte longer."""
+    for laid_out in range(10):
+        s = sheet([cart()], rows=[ROWS[0]] * laid_out)
+        for counted in [*range(11), 2**28, 2**32 - 1]:
+            yield s[:16] + struct.pack("<I", counted) + s[20:]
+    longest = sheet([MOVING] * 16, rows=ROWS + ROWS)
+    yield longest
+    yield longest[:4] + struct.pack("<I", len(longest) + 1) + longest[8:] + b"\0"
+
+
 def swap(order, i, j):
     order = list(order)
     order[i], order[j] = order[j], order[i]
@@ -197,6 +229,14 @@ def damaged(count, seed):
         for damage in (prefixes, bytes_set, words_swapped, words_at_limits, numbers_at_limits):
             yield from damage(s)
         yield from steps_moved(steps)
+    for steps, rows in OWN:
+        s = sheet(steps, rows=rows)
+        for damage in (prefixes, bytes_set, words_swapped, words_at_limits, numbers_at_limits):
+            yield from damage(s)
+    for row in ROWS_OUT:
+        yield sheet([cart(6)], rows=[row])
+        yield sheet([cart(6)], rows=ROWS + [row])
+    yield from counts_laid_out()
     for steps in EDGES:
         yield sheet(steps)
         yield from words_at_limits(sheet(steps)[:64])

@@ -68,7 +68,7 @@ def refusal(job):
     if len(job) < 16:
         return 16, 0
     direction, length, tuples, velocities = struct.unpack_from("<4I", job)
-    if direction > 1 or length > 4240 or tuples > 512 or velocities not in (0, tuples):
+    if direction > 1 or length > 4376 or tuples > 512 or velocities not in (0, tuples):
         return 16, 0
     if len(job) != 16 + length + 32 * tuples + 25 * velocities:
         return 16, 0
@@ -103,7 +103,7 @@ def changed(draw, job):
         return job + bytes(draw.randrange(1, 40))
     if way == 2:
         at = 4 * draw.randrange(4)
-        return job[:at] + struct.pack("<I", draw.choice([0, 1, 2, 3, 40, 512, 513, 4240, 4241, 2**31, 2**32 - 1])) + job[at + 4 :]
+        return job[:at] + struct.pack("<I", draw.choice([0, 1, 2, 3, 40, 512, 513, 4240, 4241, 4376, 4377, 2**31, 2**32 - 1])) + job[at + 4 :]
     if way == 3:
         at = draw.randrange(16, len(job))
         return job[:at] + bytes([draw.randrange(256)]) + job[at + 1 :]

@@ -1,5 +1,5 @@
 """A second reader of sheets, written from document 01 alone ("The sheet", "Numbers of refusal"),
-with the requests of document 02 that have landed: A13 (deformation has flag 2), A4 (kind 6).
+with the requests of document 02 that have landed: A13 (deformation has flag 2), A4 (kind 6), A8 (form 2, own ellipsoids).
 
 check(sheet) gives (number, step) of the refusal that document 01 asks for, (0, 0) for an accepted sheet.
 As a program: sheet_reader.py FILE prints the refusal of a sheet.
@@ -34,23 +34,31 @@ def time(pattern):
     return finite(pattern) or pattern == NOT_GIVEN
 
 
-def is_ellipsoid(n):
-    return 1 <= n <= 5
+def own(sheet):
+    """How many ellipsoids a sheet has of its own."""
+    return word(sheet, 16) if word(sheet, 0) == 2 else 0
+
+
+def is_ellipsoid(sheet, n):
+    return 1 <= n <= 5 + own(sheet)
 
 
 # ---- the sheet ------------------------------------------------------------------------
 
 
 def check(sheet):
-    if not 16 <= len(sheet) <= 4240 or word(sheet, 4) != len(sheet):
+    least, most = (24, 4376) if sheet[:4] == b"\2\0\0\0" else (16, 4240)
+    if not least <= len(sheet) <= most or word(sheet, 4) != len(sheet):
         return 1, 0
-    if word(sheet, 0) != 1:
+    if word(sheet, 0) not in (1, 2):
         return 2, 0
     if not 1 <= word(sheet, 8) <= 16:
         return 3, 0
     steps = directory(sheet)
     if steps is None:
         return 4, 0
+    if not ellipsoids(sheet):
+        return 20, 0
     for i, (kind, at) in enumerate(steps, 1):
         refusal = BODIES[kind](sheet, at)
         if refusal:
@@ -64,17 +72,29 @@ def check(sheet):
 def directory(sheet):
     """Kind and body offset of each step, or None where rule 4 is broken."""
     count = word(sheet, 8)
-    end = 16 + 16 * count
-    if word(sheet, 12) != 16 or end > len(sheet):
+    head = 24 if word(sheet, 0) == 2 else 16
+    end = head + 16 * count + 16 * own(sheet)
+    if word(sheet, 12) != head or end > len(sheet):
         return None
     steps = []
     for i in range(count):
-        kind, inverted, at, length = struct.unpack_from("<4I", sheet, 16 + 16 * i)
+        kind, inverted, at, length = struct.unpack_from("<4I", sheet, head + 16 * i)
         if kind not in LENGTHS or inverted > 1 or length != LENGTHS[kind] or at != end:
             return None
         steps.append((kind, at))
         end += length
     return steps if end == len(sheet) else None
+
+
+def ellipsoids(sheet):
+    """Whether rule 20 is kept: count, table offset, and each row's a and 1/f, in which a NaN is out of rule."""
+    if word(sheet, 0) == 1:
+        return True
+    table = 24 + 16 * word(sheet, 8)
+    if own(sheet) > 8 or word(sheet, 20) != table:
+        return False
+    rows = [map(number, bits(sheet, table + 16 * j, 2)) for j in range(own(sheet))]
+    return all(1.0 <= a <= 1e9 and 2.0 <= rf <= 1e9 for a, rf in rows)
 
 
 # ---- the bodies: the first of 5 to 8 that is broken, else 0 ------------------------------
@@ -110,16 +130,16 @@ def rotated_and_dynamic(flags, x):
 
 
 def cart(sheet, at):
-    return 0 if is_ellipsoid(word(sheet, at)) and word(sheet, at + 4) == 0 else 5
+    return 0 if is_ellipsoid(sheet, word(sheet, at)) and word(sheet, at + 4) == 0 else 5
 
 
 def molodensky(sheet, at):
     flags, first, second, zero = struct.unpack_from("<4I", sheet, at)
     patterns = bits(sheet, at + 16, 5)
     two = flags & 2
-    if flags > 3 or not is_ellipsoid(first) or zero != 0 or not all(map(finite, patterns)):
+    if flags > 3 or not is_ellipsoid(sheet, first) or zero != 0 or not all(map(finite, patterns)):
         return 5
-    if two and not (is_ellipsoid(second) and patterns[3] == patterns[4] == PLUS_ZERO):
+    if two and not (is_ellipsoid(sheet, second) and patterns[3] == patterns[4] == PLUS_ZERO):
         return 5
     if not two and second != 0:
         return 5
@@ -129,13 +149,13 @@ def molodensky(sheet, at):
 def permtide(sheet, at):
     ellipsoid, to, source, zero = struct.unpack_from("<4I", sheet, at)
     codes = 1 <= to <= 3 and 1 <= source <= 3
-    return 0 if is_ellipsoid(ellipsoid) and codes and zero == 0 and finite(bits(sheet, at + 16, 1)[0]) else 5
+    return 0 if is_ellipsoid(sheet, ellipsoid) and codes and zero == 0 and finite(bits(sheet, at + 16, 1)[0]) else 5
 
 
 def deformation(sheet, at):
     flags, ellipsoid = word(sheet, at), word(sheet, at + 4)
     dt, t_epoch = bits(sheet, at + 8, 2)
-    if flags > 3 or not is_ellipsoid(ellipsoid) or not (time(dt) and time(t_epoch)):
+    if flags > 3 or not is_ellipsoid(sheet, ellipsoid) or not (time(dt) and time(t_epoch)):
         return 5
     return 8 if dt == t_epoch == NOT_GIVEN else 0
 

@@ -16,7 +16,7 @@ import subprocess
 import sys
 
 import damaged
-from damaged import NOT_GIVEN, badekas, cart, deformation, helmert, molodensky, permtide, sheet
+from damaged import NOT_GIVEN, OWN, ROWS, badekas, cart, deformation, helmert, molodensky, permtide, sheet
 from sheet_reader import LENGTHS, check
 
 HERE = os.path.join(os.path.dirname(os.path.abspath(__file__)), "shown")
@@ -24,16 +24,17 @@ HERE = os.path.join(os.path.dirname(os.path.abspath(__file__)), "shown")
 # ---- the text ------------------------------------------------------------------------------
 
 RULES = {
-    1: "fewer than 16 or more than 4,240 bytes, or total length differs",
-    2: "form not 1",
+    1: "fewer than 16 or more than 4,240 bytes, of form 2 fewer than 24 or more than 4,376, or total length differs",
+    2: "form neither 1 nor 2",
     3: "step count 0 or over 16",
-    4: "directory offset not 16, a directory outside the sheet, a kind, inverted word or body length outside its rule, an offset not where "
-    "the body before it ends, or bodies not ending at the total length",
+    4: "directory offset not where the header ends, a directory or own ellipsoids outside the sheet, a kind, inverted word or body length "
+    "outside its rule, an offset not where the body before it ends, or bodies not ending at the total length",
     5: "a body field outside its rule",
     6: "rotated, convention none",
     7: "dynamic, t_epoch not given",
     8: "neither dt nor t_epoch",
     11: "second deformation step",
+    20: "more than 8 own ellipsoids, a table offset not where the directory ends, or a row outside its rule",
 }
 KINDS = {1: "Helmert", 2: "cart", 3: "Molodensky", 4: "permtide", 5: "deformation", 6: "Molodensky-Badekas"}
 ELLIPSOIDS = {
@@ -176,13 +177,32 @@ FIELDS = {1: helmert_lines, 2: cart_lines, 3: molodensky_lines, 4: permtide_line
 
 def head(s):
     """The header's words; one that the sheet ends before, or in the middle of, is missing."""
-    for i, name in enumerate(["form", "total length", "step count", "directory offset"]):
+    names = ["form", "total length", "step count", "directory offset"]
+    if word(s, 0) == 2:
+        names += ["ellipsoid count", "table offset"]
+    for i, name in enumerate(names):
         whole = len(s[4 * i : 4 * i + 4]) == 4
         yield "%s: %s" % (name, word(s, 4 * i) if whole else "missing")
 
 
+def header(s):
+    """Where the directory begins."""
+    return 24 if word(s, 0) == 2 else 16
+
+
+def table(s):
+    """Where the own ellipsoids begin, and how many are counted."""
+    return header(s) + 16 * word(s, 8), word(s, 16) if word(s, 0) == 2 else 0
+
+
+def rows(s):
+    at, own = table(s)
+    for j in range(own):
+        yield "ellipsoid %d: a %s m, 1/f %s" % (j + 6, number(pattern(s, at + 16 * j)), number(pattern(s, at + 16 * j + 8)))
+
+
 def step(s, i):
-    kind, inverted, at, length = (word(s, 16 + 16 * i + 4 * j) for j in range(4))
+    kind, inverted, at, length = (word(s, header(s) + 16 * i + 4 * j) for j in range(4))
     yield "step %d" % (i + 1)
     yield "  kind: %d %s" % (kind, KINDS[kind])
     yield "  inverted: %d %s" % (inverted, "yes" if inverted else "no")
@@ -194,13 +214,16 @@ def step(s, i):
 def fault(s):
     """The byte of the first word that breaks rule 4, in the rule's own order."""
     count = word(s, 8)
-    if word(s, 12) != 16:
+    start, own = table(s)
+    if word(s, 12) != header(s):
         return 12
-    if 16 + 16 * count > len(s):
+    if start > len(s):
         return 8
-    end = 16 + 16 * count
+    end = start + 16 * own
+    if end > len(s):
+        return 16
     for i in range(count):
-        entry = 16 + 16 * i
+        entry = header(s) + 16 * i
         kind, inverted, at, length = (word(s, entry + 4 * j) for j in range(4))
         if kind not in LENGTHS:
             return entry
@@ -214,21 +237,37 @@ def fault(s):
     return 4
 
 
+def ellipsoid_fault(s):
+    """The byte of the first word, or row, that breaks rule 20."""
+    at, own = table(s)
+    if own > 8:
+        return 16
+    if word(s, 20) != at:
+        return 20
+    for j in range(own):
+        a, rf = (number_of(pattern(s, at + 16 * j + k)) for k in (0, 8))
+        if not (1.0 <= a <= 1e9 and 2.0 <= rf <= 1e9):
+            return at + 16 * j
+
+
 def lines(s):
     refusal, at = check(s)
     if refusal == 0:
         yield from head(s)
+        yield from rows(s)
         for i in range(word(s, 8)):
             yield from step(s, i)
         return
     yield "refused %d step %d: %s" % (refusal, at, RULES[refusal])
     if at == 0:
-        yield "place: byte %d" % {1: 4, 2: 0, 3: 8}.get(refusal, fault(s))
+        place = {1: lambda s: 4, 2: lambda s: 0, 3: lambda s: 8, 4: fault, 20: ellipsoid_fault}[refusal]
+        yield "place: byte %d" % place(s)
         yield "bytes: %d" % len(s)
         yield from head(s)
     else:
-        yield "place: directory entry at byte %d" % (16 * at)
-        yield "place: body at byte %d" % word(s, 16 * at + 8)
+        entry = header(s) + 16 * (at - 1)
+        yield "place: directory entry at byte %d" % entry
+        yield "place: body at byte %d" % word(s, entry + 8)
         yield from step(s, at - 1)
 
 
@@ -289,7 +328,15 @@ STORED = {
     "refused_1_empty": b"",
     "refused_1_in_a_word": P1[:11],
     "refused_1_header_cut": P1[:12],
-    "refused_2": set_word(P1, 0, 2),
+    "own": sheet(*OWN[2][:1], [0, 1, 0, 1], rows=OWN[2][1]),
+    "own_none": sheet([cart()], [0], rows=[]),
+    "refused_1_form_2": sheet([cart(6)], [0], rows=ROWS[:1])[:-1],
+    "refused_2": set_word(P1, 0, 3),
+    "refused_4_rows_outside": set_word(sheet([cart(6)], [0], rows=ROWS[:1]), 16, 2**32 - 1),
+    "refused_5_own": sheet([cart(7)], [0], rows=ROWS[:1]),
+    "refused_20_count": sheet([cart(6)], [0], rows=ROWS[:1] * 9),
+    "refused_20_offset": set_word(sheet([cart(6)], [0], rows=ROWS[:1]), 20, 56),
+    "refused_20_row": sheet([cart(6)], [0], rows=ROWS[:2] + [(6378137.0, 1.0)]),
     "refused_3": sheet([cart()] * 17, [0] * 17),
     "refused_3_none": sheet([], []),
     "refused_4_directory_offset": set_word(TWO_STEPS, 12, 32),
@@ -316,7 +363,8 @@ STORED = {
 
 def drawn(rng):
     steps = [rng.choice(rng.choice(damaged.GOOD)) for _ in range(rng.randint(1, 16))]
-    s = sheet(steps, [rng.randint(0, 1) for _ in steps])
+    rows = rng.choice([None, [rng.choice(damaged.ROWS) for _ in range(rng.randint(0, 8))]])
+    s = sheet(steps, [rng.randint(0, 1) for _ in steps], rows)
     how = rng.randrange(6)
     at = rng.randrange(len(s))
     if how == 1:

@@ -17,9 +17,9 @@ use core::fmt;
 #[derive(Clone, Copy, Debug, PartialEq, Eq, Hash)]
 #[non_exhaustive]
 pub enum Refusal {
-    /// 1: fewer than 16 or more than 4,240 bytes, or the header's total length differs.
+    /// 1: fewer than 16 or more than 4,240 bytes, of form 2 fewer than 24 or more than 4,376, or the header's total length differs.
     Length,
-    /// 2: a form other than 1.
+    /// 2: a form other than 1 and 2.
     Form,
     /// 3: a step count of 0 or over 16.
     StepCount,
@@ -70,6 +70,8 @@ pub enum Refusal {
     GridNumber,
     /// 19: a damaged sheet that cannot be rebuilt.
     Rescue,
+    /// 20: a sheet's own ellipsoids: more than 8, a table offset not where the directory ends, or a row outside its rule.
+    Ellipsoids,
     /// 25: a step outside the profile that was asked for.
     Profile {
         /// The first such step, from 1; 0 where nobody knows the profile.
@@ -80,7 +82,7 @@ pub enum Refusal {
 }
 
 impl Refusal {
-    /// The rule's number, 1 to 19 or 25.
+    /// The rule's number, 1 to 20 or 25.
     pub fn number(self) -> u32 {
         self.code() % 65536
     }
@@ -116,6 +118,7 @@ impl Refusal {
             Refusal::Grid => 17,
             Refusal::GridNumber => 18,
             Refusal::Rescue => 19,
+            Refusal::Ellipsoids => 20,
             Refusal::Profile { step } => of_step(25, step),
             Refusal::Other(code) => code,
         }
@@ -129,7 +132,7 @@ impl Refusal {
     fn words(self) -> &'static str {
         match self {
             Refusal::Length => "the bytes are not a whole sheet: too few, too many, or not as many as the header says",
-            Refusal::Form => "another form of sheet than 1",
+            Refusal::Form => "another form of sheet than 1 and 2",
             Refusal::StepCount => "no step, or more than 16",
             Refusal::Directory => "header and directory do not fit together: an offset, a length, a kind or an inverted word",
             Refusal::Field { .. } => "a field of the step's body is out of its rule",
@@ -149,6 +152,7 @@ impl Refusal {
             }
             Refusal::GridNumber => "a number of the velocity grid is not finite, or a spacing not positive",
             Refusal::Rescue => "the damaged sheet cannot be rebuilt from its step count, kinds, inverted words and length",
+            Refusal::Ellipsoids => "the sheet's own ellipsoids are more than 8, not where the directory ends, or one is out of its rule",
             Refusal::Profile { .. } => "outside the profile that was asked for",
             Refusal::Other(_) => "a refusal without a name",
         }
@@ -179,6 +183,7 @@ impl From<u32> for Refusal {
             (17, 0) => Refusal::Grid,
             (18, 0) => Refusal::GridNumber,
             (19, 0) => Refusal::Rescue,
+            (20, 0) => Refusal::Ellipsoids,
             (25, _) => Refusal::Profile { step },
             _ => Refusal::Other(code),
         }
@@ -217,11 +222,11 @@ mod tests {
 
     #[test]
     fn each_number_has_its_name() {
-        for number in (1..=19).chain([25]) {
+        for number in (1..=20).chain([25]) {
             assert!(!matches!(Refusal::from(number), Refusal::Other(_)), "{number}");
         }
         assert_eq!(Refusal::from(6 + 65536 * 3), Refusal::Convention { step: 3 });
-        assert_eq!(Refusal::from(20), Refusal::Other(20));
+        assert_eq!(Refusal::from(21), Refusal::Other(21));
         assert_eq!(Refusal::from(9 + 65536), Refusal::Other(9 + 65536), "9 carries no step");
         assert_eq!(Refusal::told(0), Ok(()));
         assert_eq!(Refusal::told(14), Err(Refusal::Index));

@@ -5,7 +5,7 @@ use crate::steps::{Step, or_not_given};
 use crate::{Direction, Grid, Refusal, ffi, lent};
 
 /// The longest sheet: header, sixteen entries of the directory, sixteen Helmert bodies.
-const LONGEST: usize = 4240;
+const LONGEST: usize = 4376;
 
 /// The most words that a rescue changes: form, total length and directory offset, and offset and length of sixteen bodies.
 const MOST_CHANGES: usize = 35;
@@ -55,7 +55,7 @@ impl Sheet {
         Ok((Sheet { bytes: room[..damaged.len()].to_vec() }, changes))
     }
 
-    /// The sheet's bytes, 40 to 4,240.
+    /// The sheet's bytes, 40 to 4,376.
     pub fn as_bytes(&self) -> &[u8] {
         &self.bytes
     }

@@ -7,7 +7,7 @@ use Rattle.floats.specs.Number.{signOf}
 use Rattle.root.specs.Sqrt.{sqrtOf}
 use Rattle.trig.specs.Table.{rowOf}
 use Rattle.trig.specs.Trig.{reducedOf, bendOf, atMostOne, clampOf, sumOf, sineOf, cosineOf, signedOf, sinOf, cosOf}
-use Rattle.ellipsoid.specs.Figure.{ellipsoidOf, namedOf, wOf, primeVerticalOf}
+use Rattle.ellipsoid.specs.Figure.{ellipsoidOf, namedOf, amongOf, wOf, primeVerticalOf}
 use Rattle.geocart.specs.Geocart.{cartesianOf}
 use Rattle.trig.specs.Trig.{outOfReach}
 use Rattle.tally.specs.Tallies.{eachOf}
@@ -15,8 +15,8 @@ use Rattle.words.specs.Words.{word32, word64, numberAt, oneNanAt, le32}
 use Rattle.bodies.specs.Kinds.{lengthOf as bodyLengthOf}
 use Rattle.bodies.specs.Read.{stepOf as readOf, cartOf as cartRecordOf}
 use Rattle.bodies.specs.Rules.{stepInRule, lacksConvention, lacksEpoch, lacksDuration, writtenInRule, bodyInRule}
-use Rattle.sheet.specs.Layout.{bodyAt, entryAt}
-use Rattle.sheet.specs.Rules.{refusal1, refusal2, refusal3, refusal4, refusal5, endBefore, placeBroken, someFrom, hasDeformation, refusal11, rulesOfStep, fiveToEight, elevens, readerOrder, firstBroken, refusalOf}
+use Rattle.sheet.specs.Layout.{headerOf, mostOf, inFormTwo, bodyAt, entryAt}
+use Rattle.sheet.specs.Rules.{refusal1, refusal2, refusal3, refusal4, refusal20, rowBroken, refusal5, endBefore, placeBroken, someFrom, hasDeformation, refusal11, rulesOfStep, fiveToEight, elevens, readerOrder, firstBroken, refusalOf}
 use Rattle.chain.specs.Chain.{chainForwardOf, entriesOf, stepListOf, tuplesCountedOf, tuplesMetOf}
 use Rattle.chain.specs.Rules.{shiftOf, outcomeOf, shiftRefusalOf, refusal9, refusal10, overOne}
 use Rattle.chain.specs.MarkedPoints.{bytes, p1}
@@ -29,7 +29,7 @@ use Rattle.answer.specs.MarkedPoints.{p1-job, P1Printed}
 
 -- P1, complete
 pub p1-complete : P1Printed
-unfolding bytes p1 p1-job lentAnswerOf lentJobText toldOf refusal16 numbersOf sheetOf tuplesOf velocitiesOf marksOf ranText lineOf countsText tuplesText tupleText wordOf decimalOf placesOf digitsOf hexOf shiftOf outcomeOf shiftRefusalOf refusal9 refusal10 overOne chainForwardOf entriesOf stepListOf tuplesCountedOf tuplesMetOf eachOf outOfReach word32 word64 numberAt oneNanAt le32 bodyLengthOf bodyAt readOf cartRecordOf stepInRule lacksConvention lacksEpoch lacksDuration writtenInRule bodyInRule refusal1 refusal2 refusal3 refusal4 refusal5 endBefore placeBroken someFrom hasDeformation refusal11 rulesOfStep fiveToEight elevens readerOrder firstBroken refusalOf entryAt cartesianOf namedOf ellipsoidOf primeVerticalOf wOf sqrtOf sinOf cosOf signedOf sineOf cosineOf reducedOf rowOf bendOf sumOf clampOf atMostOne signOf isNan ofBits toBits neg add sub mul div lt le eq ne sum round size
+unfolding bytes p1 p1-job lentAnswerOf lentJobText toldOf refusal16 numbersOf sheetOf tuplesOf velocitiesOf marksOf ranText lineOf countsText tuplesText tupleText wordOf decimalOf placesOf digitsOf hexOf shiftOf outcomeOf shiftRefusalOf refusal9 refusal10 overOne chainForwardOf entriesOf stepListOf tuplesCountedOf tuplesMetOf eachOf outOfReach word32 word64 numberAt oneNanAt le32 bodyLengthOf bodyAt readOf cartRecordOf stepInRule lacksConvention lacksEpoch lacksDuration writtenInRule bodyInRule refusal1 refusal2 refusal3 refusal4 refusal20 rowBroken headerOf mostOf inFormTwo refusal5 endBefore placeBroken someFrom hasDeformation refusal11 rulesOfStep fiveToEight elevens readerOrder firstBroken refusalOf entryAt cartesianOf namedOf amongOf ellipsoidOf primeVerticalOf wOf sqrtOf sinOf cosOf signedOf sineOf cosineOf reducedOf rowOf bendOf sumOf clampOf atMostOne signOf isNan ofBits toBits neg add sub mul div lt le eq ne sum round size
 p1-complete = refl
 
 -- A bad job is 16, whatever stands in it: nothing, P1 without its last byte and with one more, a
@@ -47,5 +47,5 @@ bad-jobs = (refl, refl, refl, refl, refl, refl, refl)
 
 -- P7: P1's sheet cut by a byte
 p7-complete : answerOf (bytes (0 ∷ 39 ∷ 1 ∷ 0 ∷ []) ++ take 39 p1 ++ replicate 32 0) ≡ ascii "refused 1 step 0\n"
-unfolding bytes p1 lentAnswerOf lentJobText toldOf refusal16 numbersOf sheetOf tuplesOf velocitiesOf marksOf lineOf decimalOf placesOf digitsOf shiftOf outcomeOf shiftRefusalOf word32 word64 numberAt le32 refusal1 refusal2 refusal3 refusal4 someFrom endBefore placeBroken readerOrder firstBroken refusalOf
+unfolding bytes p1 lentAnswerOf lentJobText toldOf refusal16 numbersOf sheetOf tuplesOf velocitiesOf marksOf lineOf decimalOf placesOf digitsOf shiftOf outcomeOf shiftRefusalOf word32 word64 numberAt le32 refusal1 refusal2 refusal3 refusal4 refusal20 rowBroken headerOf mostOf inFormTwo someFrom endBefore placeBroken readerOrder firstBroken refusalOf
 p7-complete = refl

@@ -11,12 +11,11 @@ use lib.ListN.{length, take, drop, length-drop}
 use lib.Seq.{take-all}
 use lib.Ieee.{Float}
 use borrow.Author.Tests.{ltb-false, eqb-true, eqb-false, not-false, lt-ltb, le-ltb}
-use Rattle.sheet.specs.declared.Entry.{Entry}
-use Rattle.sheet.specs.Layout.{stepCountOf, kindAt, entryAt}
+use Rattle.sheet.specs.Layout.{stepCountOf, kindAt}
 use Rattle.sheet.specs.Rules.{refusalOf, hasDeformation}
 use Rattle.sheet.proofs.Order.{neither, accepted-count}
 use Rattle.plans.specs.Lent.{Lent, lentOf}
-use Rattle.chain.specs.Chain.{chainForwardOf, chainInverseOf, chainOf, entriesOf, stepListOf}
+use Rattle.chain.specs.Chain.{linkAt, Link, chainForwardOf, chainInverseOf, chainOf, entriesOf, stepListOf}
 use Rattle.chain.specs.Rules.{Outcome, shiftOf, outcomeOf, shiftRefusalOf, refusal9}
 use Rattle.chain.proofs.Laws.{step-length}
 use Rattle.chain.specs.Grid.{shiftGridOf, gridOutcomeOf, gridRefusalOf}
@@ -36,7 +35,7 @@ use Rattle.answer.specs.Answer.{toldOf, lentShiftOf, shiftText, lentJobT
 -- ---- a job that is not bad
 
 pub record Good (h : Head) (bytes : ℕ) : Type 0 where
-  pub sheet : h .sheet ≤ 4240
+  pub sheet : h .sheet ≤ 4376
   pub tuples : h .tuples ≤ 512
   pub velocities : h .velocities ≤ 512
   pub ends : bytes ≡ endAt h
@@ -51,12 +50,12 @@ none-or-all v t h e = by (eqb v 0) refl e
 pub good-job : (h : Head) (bytes : ℕ) → refusal16 h bytes ≡ false → Good h bytes
 unfolding refusal16
 good-job h bytes e =
-    let n1 = neither (ltb 1 (h .direction) || ltb 4240 (h .sheet) || ltb 512 (h .tuples) || not (eqb (h .velocities) 0 || eqb (h .velocities) (h .tuples))) (not (eqb bytes (endAt h))) e in
-    let n2 = neither (ltb 1 (h .direction) || ltb 4240 (h .sheet) || ltb 512 (h .tuples)) (not (eqb (h .velocities) 0 || eqb (h .velocities) (h .tuples))) (n1 .0) in
-    let n3 = neither (ltb 1 (h .direction) || ltb 4240 (h .sheet)) (ltb 512 (h .tuples)) (n2 .0) in
-    let n4 = neither (ltb 1 (h .direction)) (ltb 4240 (h .sheet)) (n3 .0) in
+    let n1 = neither (ltb 1 (h .direction) || ltb 4376 (h .sheet) || ltb 512 (h .tuples) || not (eqb (h .velocities) 0 || eqb (h .velocities) (h .tuples))) (not (eqb bytes (endAt h))) e in
+    let n2 = neither (ltb 1 (h .direction) || ltb 4376 (h .sheet) || ltb 512 (h .tuples)) (not (eqb (h .velocities) 0 || eqb (h .velocities) (h .tuples))) (n1 .0) in
+    let n3 = neither (ltb 1 (h .direction) || ltb 4376 (h .sheet)) (ltb 512 (h .tuples)) (n2 .0) in
+    let n4 = neither (ltb 1 (h .direction)) (ltb 4376 (h .sheet)) (n3 .0) in
     record {
-      sheet = ltb-false 4240 (h .sheet) (n4 .1);
+      sheet = ltb-false 4376 (h .sheet) (n4 .1);
       tuples = ltb-false 512 (h .tuples) (n3 .1);
       velocities = none-or-all (h .velocities) (h .tuples) (ltb-false 512 (h .tuples) (n3 .1)) (not-false (eqb (h .velocities) 0 || eqb (h .velocities) (h .tuples)) (n2 .1));
       ends = eqb-true bytes (endAt h) (not-false (eqb bytes (endAt h)) (n1 .1));
@@ -105,18 +104,18 @@ pick-length : (b : Bool) (x y : Outcome) (n : ℕ) → length (x .list) ≡ n �
 pick-length true x y n p q = p
 pick-length false x y n p q = q
 
-forward-length : (lent : Lent) (es : List Entry) (l : List Float) → length (chainForwardOf lent es l .list) ≡ length l
+forward-length : (lent : Lent) (es : List Link) (l : List Float) → length (chainForwardOf lent es l .list) ≡ length l
 unfolding chainForwardOf
 forward-length lent [] l = refl
 forward-length lent (e ∷ es) l =
     forward-length lent es (stepListOf false lent e l) ∙ step-length false lent e l
 
-inverse-length : (lent : Lent) (es : List Entry) (l : List Float) → length (chainInverseOf lent es l .list) ≡ length l
+inverse-length : (lent : Lent) (es : List Link) (l : List Float) → length (chainInverseOf lent es l .list) ≡ length l
 unfolding chainInverseOf
 inverse-length lent [] l = refl
 inverse-length lent (e ∷ es) l = step-length true lent e (chainInverseOf lent es l .list) ∙ inverse-length lent es l
 
-chain-length : (inverse : Bool) (lent : Lent) (es : List Entry) (l : List Float)
+chain-length : (inverse : Bool) (lent : Lent) (es : List Link) (l : List Float)
     → length (chainOf inverse lent es l .list) ≡ length l
 chain-length true lent es l = inverse-length lent es l
 chain-length false lent es l = forward-length lent es l
@@ -125,7 +124,7 @@ shift-length : (inverse : Bool) (s : List ℕ) (l velocities : List Float) (mark
 unfolding shiftOf outcomeOf
 shift-length inverse s l velocities marks =
     pick-length (eqb (shiftRefusalOf (refusalOf s) (hasDeformation (kindAt s) (stepCountOf s)) l velocities marks .number) 0) _ _ (length l)
-    (chain-length inverse (lentOf velocities marks []) (entriesOf (entryAt s) (stepCountOf s) 0) l) refl
+    (chain-length inverse (lentOf velocities marks []) (entriesOf (linkAt s) (stepCountOf s) 0) l) refl
 
 -- a sheet that runs has at most sixteen steps
 few-steps : (inverse : Bool) (s : List ℕ) (l velocities : List Float) (marks : List ℕ) → shiftOf inverse s l velocities marks .answer .refusal .number ≡ 0
@@ -137,7 +136,7 @@ few-steps inverse s l velocities marks h = by (eqb (refusalOf s .number) 0) refl
     by true e = accepted-count s (eqb-true (refusalOf s .number) 0 e)
     by false e =
         let broken = eqb-false (refusalOf s .number) 0 e in
-        let own = refused-own (refusalOf s) (hasDeformation (kindAt s) (stepCountOf s)) inverse (entriesOf (entryAt s) (stepCountOf s) 0) l velocities marks broken in
+        let own = refused-own (refusalOf s) (hasDeformation (kindAt s) (stepCountOf s)) inverse (entriesOf (linkAt s) (stepCountOf s) 0) l velocities marks broken in
         absurd (broken (ap (λ (o : Outcome). o .answer .refusal .number) (sym own) ∙ h))
 
 grid-length : (inverse : Bool) (s : List ℕ) (l velocities : List Float) (marks grid : List ℕ)
@@ -145,7 +144,7 @@ grid-length : (inverse : Bool) (s : List ℕ) (l velocities : List Float) (marks
 unfolding shiftGridOf gridOutcomeOf
 grid-length inverse s l velocities marks grid =
     pick-length (eqb (gridRefusalOf (refusalOf s) (refusal9 (length l)) velocities marks grid .number) 0) _ _ (length l)
-    (chain-length inverse (lentOf velocities marks grid) (entriesOf (entryAt s) (stepCountOf s) 0) l) refl
+    (chain-length inverse (lentOf velocities marks grid) (entriesOf (linkAt s) (stepCountOf s) 0) l) refl
 
 few-steps-with-grid : (inverse : Bool) (s : List ℕ) (l velocities : List Float) (marks grid : List ℕ)
     → shiftGridOf inverse s l velocities marks grid .answer .refusal .number ≡ 0 → stepCountOf s ≤ 16
@@ -156,7 +155,7 @@ few-steps-with-grid inverse s l velocities marks grid h = by (eqb (refusalOf s .
     by true e = accepted-count s (eqb-true (refusalOf s .number) 0 e)
     by false e =
         let broken = eqb-false (refusalOf s .number) 0 e in
-        let own = grid-refused-own (refusalOf s) inverse (entriesOf (entryAt s) (stepCountOf s) 0) l velocities marks grid broken in
+        let own = grid-refused-own (refusalOf s) inverse (entriesOf (linkAt s) (stepCountOf s) 0) l velocities marks grid broken in
         absurd (broken (ap (λ (o : Outcome). o .answer .refusal .number) (sym own) ∙ h))
 
 -- with a grid or without

@@ -22,15 +22,15 @@ use Rattle.bodies.specs.Rules.{stepInRule, writtenInRule, bodyInRule}
 abbrev pub p1 : List ℕ
 p1 = 1 ∷ 0 ∷ 0 ∷ 0 ∷ 0 ∷ 0 ∷ 0 ∷ 0 ∷ []
 
-p1-is-grs80 : (stepOf 2 p1 ≡ Cart (record { ellipsoid = 1 })) × (bodyInRule 2 p1 ≡ true)
+p1-is-grs80 : (stepOf 2 p1 ≡ Cart (record { ellipsoid = 1 })) × (bodyInRule 5 2 p1 ≡ true)
 unfolding stepOf lengthOf cartOf word32 bodyInRule writtenInRule stepInRule
 p1-is-grs80 = (refl, refl)
 
 -- cut by a byte, under another kind, or with a word in the reserved place it is not in rule
 p1-damaged :
-    (bodyInRule 2 (1 ∷ 0 ∷ 0 ∷ 0 ∷ 0 ∷ 0 ∷ 0 ∷ []) ≡ false)
-    × (bodyInRule 7 p1 ≡ false)
-    × (bodyInRule 2 (1 ∷ 0 ∷ 0 ∷ 0 ∷ 1 ∷ 0 ∷ 0 ∷ 0 ∷ []) ≡ false)
+    (bodyInRule 5 2 (1 ∷ 0 ∷ 0 ∷ 0 ∷ 0 ∷ 0 ∷ 0 ∷ []) ≡ false)
+    × (bodyInRule 5 7 p1 ≡ false)
+    × (bodyInRule 5 2 (1 ∷ 0 ∷ 0 ∷ 0 ∷ 1 ∷ 0 ∷ 0 ∷ 0 ∷ []) ≡ false)
     × (stepOf 7 p1 ≡ blankStep)
 unfolding stepOf lengthOf cartOf word32 bodyInRule writtenInRule stepInRule
 p1-damaged = (refl, refl, refl, refl)
@@ -86,7 +86,7 @@ distinct-read : stepOf 1 body ≡ Helmert distinct
 unfolding distinct body stepOf lengthOf helmertOf vec3At numberAt word64 word32 ofBits ofFields
 distinct-read = refl
 
-distinct-in-rule : bodyInRule 1 body ≡ true
+distinct-in-rule : bodyInRule 5 1 body ≡ true
 unfolding body bodyInRule writtenInRule stepInRule oneNanAt fieldsInRuleOf vectorsFiniteOf scalesFiniteOf finite3Of timeOf stepOf lengthOf helmertOf vec3At numberAt word64 word32 ofBits ofFields isNan
 distinct-in-rule = refl
 
@@ -111,6 +111,6 @@ body6 =
     ++ eight 7
     ++ eight 8 ++ eight 9 ++ eight 10
 
-distinct6-read : (stepOf 6 body6 ≡ Badekas distinct6) × (bodyInRule 6 body6 ≡ true)
+distinct6-read : (stepOf 6 body6 ≡ Badekas distinct6) × (bodyInRule 5 6 body6 ≡ true)
 unfolding distinct6 body6 bodyInRule writtenInRule stepInRule badekasInRuleOf finite3Of stepOf lengthOf badekasOf vec3At numberAt word64 word32 ofBits ofFields
 distinct6-read = (refl, refl)

@@ -38,20 +38,20 @@ by-kind P k p1 p2 p3 p4 p5 p6 other =
         by false e = q e
 
 -- the parts of rule 5 on a body
-pub length-in-rule : (k : ℕ) (b : List ℕ) → bodyInRule k b ≡ true → length b ≡ lengthOf k
+pub length-in-rule : (known k : ℕ) (b : List ℕ) → bodyInRule known k b ≡ true → length b ≡ lengthOf k
 unfolding bodyInRule
-length-in-rule k b h =
-    eqb-true (length b) (lengthOf k) (left (eqb (length b) (lengthOf k)) (writtenInRule k b) (left (eqb (length b) (lengthOf k) && writtenInRule k b) (stepInRule (stepOf k b)) h))
+length-in-rule known k b h =
+    eqb-true (length b) (lengthOf k) (left (eqb (length b) (lengthOf k)) (writtenInRule k b) (left (eqb (length b) (lengthOf k) && writtenInRule k b) (stepInRule known (stepOf k b)) h))
 
-pub body-written-in-rule : (k : ℕ) (b : List ℕ) → bodyInRule k b ≡ true → writtenInRule k b ≡ true
+pub body-written-in-rule : (known k : ℕ) (b : List ℕ) → bodyInRule known k b ≡ true → writtenInRule k b ≡ true
 unfolding bodyInRule
-body-written-in-rule k b h =
-    right (eqb (length b) (lengthOf k)) (writtenInRule k b) (left (eqb (length b) (lengthOf k) && writtenInRule k b) (stepInRule (stepOf k b)) h)
+body-written-in-rule known k b h =
+    right (eqb (length b) (lengthOf k)) (writtenInRule k b) (left (eqb (length b) (lengthOf k) && writtenInRule k b) (stepInRule known (stepOf k b)) h)
 
 -- the step of a body in rule is in rule
-pub step-of-body-in-rule : (k : ℕ) (b : List ℕ) → bodyInRule k b ≡ true → stepInRule (stepOf k b) ≡ true
+pub step-of-body-in-rule : (known k : ℕ) (b : List ℕ) → bodyInRule known k b ≡ true → stepInRule known (stepOf k b) ≡ true
 unfolding bodyInRule
-step-of-body-in-rule k b h = right (eqb (length b) (lengthOf k) && writtenInRule k b) (stepInRule (stepOf k b)) h
+step-of-body-in-rule known k b h = right (eqb (length b) (lengthOf k) && writtenInRule k b) (stepInRule known (stepOf k b)) h
 
 -- a body of its kind's length is read by its kind's table
 pub reads-helmert : (b : List ℕ) → length b ≡ 248 → stepOf 1 b ≡ Helmert (helmertOf b)
@@ -85,23 +85,23 @@ unfolding writtenInRule
 no-kind-in-rule k b e1 e2 e3 e4 e5 e6 = rw (e1, e2, e3, e4, e5, e6)
 
 -- a body in rule is of one of the six kinds
-pub none : (k : ℕ) (b : List ℕ) → bodyInRule k b ≡ true → eqb k 1 ≡ false → eqb k 2 ≡ false → eqb k 3 ≡ false → eqb k 4 ≡ false → eqb k 5 ≡ false → eqb k 6 ≡ false → ⊥
-none k b h e1 e2 e3 e4 e5 e6 = subst T (sym (body-written-in-rule k b h) ∙ no-kind-in-rule k b e1 e2 e3 e4 e5 e6) tt
+pub none : (known k : ℕ) (b : List ℕ) → bodyInRule known k b ≡ true → eqb k 1 ≡ false → eqb k 2 ≡ false → eqb k 3 ≡ false → eqb k 4 ≡ false → eqb k 5 ≡ false → eqb k 6 ≡ false → ⊥
+none known k b h e1 e2 e3 e4 e5 e6 = subst T (sym (body-written-in-rule known k b h) ∙ no-kind-in-rule k b e1 e2 e3 e4 e5 e6) tt
 
 -- a body in rule is read as a step of its kind
-pub kind-after-read : (k : ℕ) (b : List ℕ) → bodyInRule k b ≡ true → kindOf (stepOf k b) ≡ k
+pub kind-after-read : (known k : ℕ) (b : List ℕ) → bodyInRule known k b ≡ true → kindOf (stepOf k b) ≡ k
 unfolding kindOf lengthOf
-kind-after-read k b =
+kind-after-read known k b =
     by-kind
-    (λ (n : ℕ). bodyInRule n b ≡ true → kindOf (stepOf n b) ≡ n)
+    (λ (n : ℕ). bodyInRule known n b ≡ true → kindOf (stepOf n b) ≡ n)
     k
-    (λ h. rw (reads-helmert b (length-in-rule 1 b h)))
-    (λ h. rw (reads-cart b (length-in-rule 2 b h)))
-    (λ h. rw (reads-molodensky b (length-in-rule 3 b h)))
-    (λ h. rw (reads-permtide b (length-in-rule 4 b h)))
-    (λ h. rw (reads-deformation b (length-in-rule 5 b h)))
-    (λ h. rw (reads-badekas b (length-in-rule 6 b h)))
-    (λ e1 e2 e3 e4 e5 e6 h. absurd (none k b h e1 e2 e3 e4 e5 e6))
+    (λ h. rw (reads-helmert b (length-in-rule known 1 b h)))
+    (λ h. rw (reads-cart b (length-in-rule known 2 b h)))
+    (λ h. rw (reads-molodensky b (length-in-rule known 3 b h)))
+    (λ h. rw (reads-permtide b (length-in-rule known 4 b h)))
+    (λ h. rw (reads-deformation b (length-in-rule known 5 b h)))
+    (λ h. rw (reads-badekas b (length-in-rule known 6 b h)))
+    (λ e1 e2 e3 e4 e5 e6 h. absurd (none known k b h e1 e2 e3 e4 e5 e6))
 
 -- a reader of one kind gives what the body holds
 pub whole-helmert : (b : List ℕ) → length b ≡ 248 → helmertIn b ≡ helmertOf b
@@ -138,16 +138,16 @@ not-five true false false true = refl
 not-five true false false false = refl
 
 -- 5 is the lowest exactly where rule 5 is broken
-pub five-lowest : (k : ℕ) (b : List ℕ) → bodyInRule k b ≡ not (eqb (lowestBroken k b) 5)
+pub five-lowest : (known k : ℕ) (b : List ℕ) → bodyInRule known k b ≡ not (eqb (lowestBroken known k b) 5)
 unfolding lowestBroken
-five-lowest k b = not-five (bodyInRule k b) (lacksConvention (stepOf k b)) (lacksEpoch (stepOf k b)) (lacksDuration (stepOf k b))
+five-lowest known k b = not-five (bodyInRule known k b) (lacksConvention (stepOf k b)) (lacksEpoch (stepOf k b)) (lacksDuration (stepOf k b))
 
 -- a body of no kind breaks 5
-pub no-kind-lowest : (k : ℕ) (b : List ℕ) → eqb k 1 ≡ false → eqb k 2 ≡ false → eqb k 3 ≡ false → eqb k 4 ≡ false → eqb k 5 ≡ false → eqb k 6 ≡ false
-    → lowestBroken k b ≡ 5
+pub no-kind-lowest : (known k : ℕ) (b : List ℕ) → eqb k 1 ≡ false → eqb k 2 ≡ false → eqb k 3 ≡ false → eqb k 4 ≡ false → eqb k 5 ≡ false → eqb k 6 ≡ false
+    → lowestBroken known k b ≡ 5
 unfolding lowestBroken
-no-kind-lowest k b e1 e2 e3 e4 e5 e6 = by (bodyInRule k b) refl _
+no-kind-lowest known k b e1 e2 e3 e4 e5 e6 = by (bodyInRule known k b) refl _
   where
-    by : (t : Bool) → bodyInRule k b ≡ t → (n : ℕ) → cond t n 5 ≡ 5
-    by true e n = absurd (none k b e e1 e2 e3 e4 e5 e6)
+    by : (t : Bool) → bodyInRule known k b ≡ t → (n : ℕ) → cond t n 5 ≡ 5
+    by true e n = absurd (none known k b e e1 e2 e3 e4 e5 e6)
     by false e n = refl

@@ -19,14 +19,15 @@ use Rattle.bodies.specs.Read.{stepOf}
 
 -- ---- a step's record
 
--- rule 5, "a body field outside its rule": kept
-unfoldable pub stepInRule : Step → Bool
-stepInRule (Helmert h) = fieldsInRuleOf h
-stepInRule (Cart r) = cartInRuleOf r
-stepInRule (Molodensky r) = molodenskyInRuleOf r
-stepInRule (Permtide r) = permtideInRuleOf r
-stepInRule (Deformation r) = deformationInRuleOf r
-stepInRule (Badekas r) = badekasInRuleOf r
+-- rule 5, "a body field outside its rule": kept, where so many ellipsoids are known, the table's five
+-- and the sheet's own
+unfoldable pub stepInRule : ℕ → Step → Bool
+stepInRule known (Helmert h) = fieldsInRuleOf h
+stepInRule known (Cart r) = cartInRuleOf known r
+stepInRule known (Molodensky r) = molodenskyInRuleOf known r
+stepInRule known (Permtide r) = permtideInRuleOf known r
+stepInRule known (Deformation r) = deformationInRuleOf known r
+stepInRule known (Badekas r) = badekasInRuleOf r
 
 -- rule 6, "rotated, convention none": broken
 unfoldable pub lacksConvention : Step → Bool
@@ -72,13 +73,13 @@ writtenInRule kind b =
 
 -- rule 5 on the bytes of a body: its length is its kind's, it is written by the rule, and so are
 -- the fields of its record
-unfoldable pub bodyInRule : ℕ → List ℕ → Bool
-bodyInRule kind b = eqb (length b) (lengthOf kind) && writtenInRule kind b && stepInRule (stepOf kind b)
+unfoldable pub bodyInRule : ℕ → ℕ → List ℕ → Bool
+bodyInRule known kind b = eqb (length b) (lengthOf kind) && writtenInRule kind b && stepInRule known (stepOf kind b)
 
 -- the lowest of rules 5 to 8 that a body breaks; 0 where it keeps all four
-unfoldable pub lowestBroken : ℕ → List ℕ → ℕ
-lowestBroken kind b =
-    cond (bodyInRule kind b)
+unfoldable pub lowestBroken : ℕ → ℕ → List ℕ → ℕ
+lowestBroken known kind b =
+    cond (bodyInRule known kind b)
     (cond (lacksConvention (stepOf kind b)) 6
     (cond (lacksEpoch (stepOf kind b)) 7
     (cond (lacksDuration (stepOf kind b)) 8 0)))

@@ -289,16 +289,16 @@ pub fn read_body(kind: u32, b: &[u8]) -> Step
 
 // ----- rules -----------------------------------------------------------------------------
 
-// Rule 5 on a step's record.
-pub fn step_in_rule(step: Step) -> bool
-    ensures { λ r. ⌜ r ≡ stepInRule step ⌝ }
+// Rule 5 on a step's record, where so many ellipsoids are known.
+pub fn step_in_rule(known: u32, step: Step) -> bool
+    ensures { λ r. ⌜ r ≡ stepInRule known step ⌝ }
 {
     match step {
         Step::Helmert(h) => h.fields_in_rule(),
-        Step::Cart(r) => r.in_rule(),
-        Step::Molodensky(r) => r.in_rule(),
-        Step::Permtide(r) => r.in_rule(),
-        Step::Deformation(r) => r.in_rule(),
+        Step::Cart(r) => r.in_rule(known),
+        Step::Molodensky(r) => r.in_rule(known),
+        Step::Permtide(r) => r.in_rule(known),
+        Step::Deformation(r) => r.in_rule(known),
         Step::Badekas(r) => r.fields_in_rule(),
     }
 }
@@ -347,8 +347,8 @@ pub fn lacks_duration(step: Step) -> bool
 
 // The lowest of rules 5 to 8 that a body of each kind breaks, its record decoded once; 0 where it
 // keeps all four.
-fn broken_helmert(b: &[u8]) -> u32
-    ensures { λ r. ⌜ r ≡ lowestBroken 1 (now (b .entry)) ⌝ }
+fn broken_helmert(known: u32, b: &[u8]) -> u32
+    ensures { λ r. ⌜ r ≡ lowestBroken known 1 (now (b .entry)) ⌝ }
 {
     if b.len() != 248 {
         return 5;
@@ -367,53 +367,53 @@ fn broken_helmert(b: &[u8]) -> u32
     0
 }
 
-fn broken_cart(b: &[u8]) -> u32
-    ensures { λ r. ⌜ r ≡ lowestBroken 2 (now (b .entry)) ⌝ }
+fn broken_cart(known: u32, b: &[u8]) -> u32
+    ensures { λ r. ⌜ r ≡ lowestBroken known 2 (now (b .entry)) ⌝ }
 {
     if b.len() != 8 {
         return 5;
     }
-    let five = (words::read32(b, 4) == 0) & cart_fields(b).in_rule();
+    let five = (words::read32(b, 4) == 0) & cart_fields(b).in_rule(known);
     if !five {
         return 5;
     }
     0
 }
 
-fn broken_molodensky(b: &[u8]) -> u32
-    ensures { λ r. ⌜ r ≡ lowestBroken 3 (now (b .entry)) ⌝ }
+fn broken_molodensky(known: u32, b: &[u8]) -> u32
+    ensures { λ r. ⌜ r ≡ lowestBroken known 3 (now (b .entry)) ⌝ }
 {
     if b.len() != 56 {
         return 5;
     }
-    let five = (words::read32(b, 12) == 0) & molodensky_fields(b).in_rule();
+    let five = (words::read32(b, 12) == 0) & molodensky_fields(b).in_rule(known);
     if !five {
         return 5;
     }
     0
 }
 
-fn broken_permtide(b: &[u8]) -> u32
-    ensures { λ r. ⌜ r ≡ lowestBroken 4 (now (b .entry)) ⌝ }
+fn broken_permtide(known: u32, b: &[u8]) -> u32
+    ensures { λ r. ⌜ r ≡ lowestBroken known 4 (now (b .entry)) ⌝ }
 {
     if b.len() != 24 {
         return 5;
     }
-    let five = (words::read32(b, 12) == 0) & permtide_fields(b).in_rule();
+    let five = (words::read32(b, 12) == 0) & permtide_fields(b).in_rule(known);
     if !five {
         return 5;
     }
     0
 }
 
-fn broken_deformation(b: &[u8]) -> u32
-    ensures { λ r. ⌜ r ≡ lowestBroken 5 (now (b .entry)) ⌝ }
+fn broken_deformation(known: u32, b: &[u8]) -> u32
+    ensures { λ r. ⌜ r ≡ lowestBroken known 5 (now (b .entry)) ⌝ }
 {
     if b.len() != 24 {
         return 5;
     }
     let d = deformation_fields(b);
-    let five = words::one_nan(b, 8) & words::one_nan(b, 16) & d.in_rule();
+    let five = words::one_nan(b, 8) & words::one_nan(b, 16) & d.in_rule(known);
     if !five {
         return 5;
     }
@@ -423,8 +423,8 @@ fn broken_deformation(b: &[u8]) -> u32
     0
 }
 
-fn broken_badekas(b: &[u8]) -> u32
-    ensures { λ r. ⌜ r ≡ lowestBroken 6 (now (b .entry)) ⌝ }
+fn broken_badekas(known: u32, b: &[u8]) -> u32
+    ensures { λ r. ⌜ r ≡ lowestBroken known 6 (now (b .entry)) ⌝ }
 {
     if b.len() != 88 {
         return 5;
@@ -439,33 +439,33 @@ fn broken_badekas(b: &[u8]) -> u32
     0
 }
 
-pub fn lowest_broken(kind: u32, b: &[u8]) -> u32
-    ensures { λ r. ⌜ r ≡ lowestBroken kind (now (b .entry)) ⌝ }
+pub fn lowest_broken(known: u32, kind: u32, b: &[u8]) -> u32
+    ensures { λ r. ⌜ r ≡ lowestBroken known kind (now (b .entry)) ⌝ }
 {
     if kind == 1 {
-        return broken_helmert(b);
+        return broken_helmert(known, b);
     }
     if kind == 2 {
-        return broken_cart(b);
+        return broken_cart(known, b);
     }
     if kind == 3 {
-        return broken_molodensky(b);
+        return broken_molodensky(known, b);
     }
     if kind == 4 {
-        return broken_permtide(b);
+        return broken_permtide(known, b);
     }
     if kind == 5 {
-        return broken_deformation(b);
+        return broken_deformation(known, b);
     }
     if kind == 6 {
-        return broken_badekas(b);
+        return broken_badekas(known, b);
     }
     5
 }
 
 // Rule 5 on the bytes of a body.
-pub fn body_in_rule(kind: u32, b: &[u8]) -> bool
-    ensures { λ r. ⌜ r ≡ bodyInRule kind (now (b .entry)) ⌝ }
+pub fn body_in_rule(known: u32, kind: u32, b: &[u8]) -> bool
+    ensures { λ r. ⌜ r ≡ bodyInRule known kind (now (b .entry)) ⌝ }
 {
-    lowest_broken(kind, b) != 5
+    lowest_broken(known, kind, b) != 5
 }

@@ -154,9 +154,9 @@ written-in-rule (Deformation r) held =
 written-in-rule (Badekas r) held = refl
 
 -- a record in rule is written as a body in rule
-pub in-rule-after-write : (st : Step) → Held st → stepInRule st ≡ true → bodyInRule (kindOf st) (bytesOf st) ≡ true
+pub in-rule-after-write : (known : ℕ) (st : Step) → Held st → stepInRule known st ≡ true → bodyInRule known (kindOf st) (bytesOf st) ≡ true
 unfolding bodyInRule
-in-rule-after-write st held h =
+in-rule-after-write known st held h =
     rw (eq-eqb (length (bytesOf st)) (lengthOf (kindOf st)) (bytes-length st), written-in-rule st held, read-after-write st held, h)
 
 -- ---- write after read, a kind at a time: the bytes at a place are those of the field read there
@@ -431,64 +431,64 @@ second-of true true c h = refl
 second-of true false c h = h
 second-of false b c h = absurd (subst T (sym h) tt)
 
-module _ (b : List ℕ) (bytes : Bytes b) where
-  helmert-again : bodyInRule 1 b ≡ true → bytesOf (stepOf 1 b) ≡ b
+module _ (known : ℕ) (b : List ℕ) (bytes : Bytes b) where
+  helmert-again : bodyInRule known 1 b ≡ true → bytesOf (stepOf 1 b) ≡ b
   unfolding bytesOf stepInRule writtenInRule lengthOf
   helmert-again h =
-      let e : length b ≡ 248 = length-in-rule 1 b h in
+      let e : length b ≡ 248 = length-in-rule known 1 b h in
       let s = reads-helmert b e in
-      ap bytesOf s ∙ helmert-kept b bytes e (body-written-in-rule 1 b h) (ap stepInRule (sym s) ∙ step-of-body-in-rule 1 b h)
+      ap bytesOf s ∙ helmert-kept b bytes e (body-written-in-rule known 1 b h) (ap (stepInRule known) (sym s) ∙ step-of-body-in-rule known 1 b h)
 
-  cart-again : bodyInRule 2 b ≡ true → bytesOf (stepOf 2 b) ≡ b
+  cart-again : bodyInRule known 2 b ≡ true → bytesOf (stepOf 2 b) ≡ b
   unfolding bytesOf writtenInRule lengthOf
   cart-again h =
-      let e : length b ≡ 8 = length-in-rule 2 b h in
-      ap bytesOf (reads-cart b e) ∙ cart-kept b bytes e (body-written-in-rule 2 b h)
+      let e : length b ≡ 8 = length-in-rule known 2 b h in
+      ap bytesOf (reads-cart b e) ∙ cart-kept b bytes e (body-written-in-rule known 2 b h)
 
-  molodensky-again : bodyInRule 3 b ≡ true → bytesOf (stepOf 3 b) ≡ b
+  molodensky-again : bodyInRule known 3 b ≡ true → bytesOf (stepOf 3 b) ≡ b
   unfolding bytesOf stepInRule writtenInRule lengthOf
   molodensky-again h =
-      let e : length b ≡ 56 = length-in-rule 3 b h in
+      let e : length b ≡ 56 = length-in-rule known 3 b h in
       let s = reads-molodensky b e in
       let r = molodenskyOf b in
-      let f : inRuleOf (molodenskyOf b) ≡ true = ap stepInRule (sym s) ∙ step-of-body-in-rule 3 b h in
-      let g = all5 (ltb (r .flags) 4) (existsOf (r .first)) (secondInRuleOf r) (finiteOf r) (figureInRuleOf r) f in
-      ap bytesOf s ∙ molodensky-kept b bytes e (body-written-in-rule 3 b h) (g .3)
+      let f : inRuleOf known (molodenskyOf b) ≡ true = ap (stepInRule known) (sym s) ∙ step-of-body-in-rule known 3 b h in
+      let g = all5 (ltb (r .flags) 4) (existsOf known (r .first)) (secondInRuleOf known r) (finiteOf r) (figureInRuleOf r) f in
+      ap bytesOf s ∙ molodensky-kept b bytes e (body-written-in-rule known 3 b h) (g .3)
 
-  permtide-again : bodyInRule 4 b ≡ true → bytesOf (stepOf 4 b) ≡ b
+  permtide-again : bodyInRule known 4 b ≡ true → bytesOf (stepOf 4 b) ≡ b
   unfolding bytesOf stepInRule writtenInRule lengthOf permtideOf
   permtide-again h =
-      let e : length b ≡ 24 = length-in-rule 4 b h in
+      let e : length b ≡ 24 = length-in-rule known 4 b h in
       let s = reads-permtide b e in
-      let f : permtideInRuleOf (permtideOf b) ≡ true = ap stepInRule (sym s) ∙ step-of-body-in-rule 4 b h in
+      let f : permtideInRuleOf known (permtideOf b) ≡ true = ap (stepInRule known) (sym s) ∙ step-of-body-in-rule known 4 b h in
       let r = permtideOf b in
       ap bytesOf s
-      ∙ permtide-kept b bytes e (body-written-in-rule 4 b h)
-      (second-of (existsOf (r .ellipsoid)) (finite (r .k)) (systemOf (r .to) && systemOf (r .from)) f)
+      ∙ permtide-kept b bytes e (body-written-in-rule known 4 b h)
+      (second-of (existsOf known (r .ellipsoid)) (finite (r .k)) (systemOf (r .to) && systemOf (r .from)) f)
 
-  deformation-again : bodyInRule 5 b ≡ true → bytesOf (stepOf 5 b) ≡ b
+  deformation-again : bodyInRule known 5 b ≡ true → bytesOf (stepOf 5 b) ≡ b
   unfolding bytesOf writtenInRule lengthOf
   deformation-again h =
-      let e : length b ≡ 24 = length-in-rule 5 b h in
-      ap bytesOf (reads-deformation b e) ∙ deformation-kept b bytes e (body-written-in-rule 5 b h)
+      let e : length b ≡ 24 = length-in-rule known 5 b h in
+      ap bytesOf (reads-deformation b e) ∙ deformation-kept b bytes e (body-written-in-rule known 5 b h)
 
-  badekas-again : bodyInRule 6 b ≡ true → bytesOf (stepOf 6 b) ≡ b
+  badekas-again : bodyInRule known 6 b ≡ true → bytesOf (stepOf 6 b) ≡ b
   unfolding bytesOf stepInRule writtenInRule lengthOf
   badekas-again h =
-      let e : length b ≡ 88 = length-in-rule 6 b h in
+      let e : length b ≡ 88 = length-in-rule known 6 b h in
       let s = reads-badekas b e in
-      ap bytesOf s ∙ badekas-kept b bytes e (ap stepInRule (sym s) ∙ step-of-body-in-rule 6 b h)
+      ap bytesOf s ∙ badekas-kept b bytes e (ap (stepInRule known) (sym s) ∙ step-of-body-in-rule known 6 b h)
 
 -- a body in rule, read by its kind and written, is the same bytes
-pub write-after-read : (k : ℕ) (b : List ℕ) → Bytes b → bodyInRule k b ≡ true → bytesOf (stepOf k b) ≡ b
-write-after-read k b bytes =
+pub write-after-read : (known k : ℕ) (b : List ℕ) → Bytes b → bodyInRule known k b ≡ true → bytesOf (stepOf k b) ≡ b
+write-after-read known k b bytes =
     by-kind
-    (λ (n : ℕ). bodyInRule n b ≡ true → bytesOf (stepOf n b) ≡ b)
+    (λ (n : ℕ). bodyInRule known n b ≡ true → bytesOf (stepOf n b) ≡ b)
     k
-    (helmert-again b bytes)
-    (cart-again b bytes)
-    (molodensky-again b bytes)
-    (permtide-again b bytes)
-    (deformation-again b bytes)
-    (badekas-again b bytes)
-    (λ e1 e2 e3 e4 e5 e6 h. absurd (none k b h e1 e2 e3 e4 e5 e6))
+    (helmert-again known b bytes)
+    (cart-again known b bytes)
+    (molodensky-again known b bytes)
+    (permtide-again known b bytes)
+    (deformation-again known b bytes)
+    (badekas-again known b bytes)
+    (λ e1 e2 e3 e4 e5 e6 h. absurd (none known k b h e1 e2 e3 e4 e5 e6))

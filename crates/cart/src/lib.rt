@@ -27,11 +27,11 @@ impl Cart {
         Cart { ellipsoid: 1 }
     }
 
-    // Rule 5: the table has the ellipsoid.
-    pub fn in_rule(self) -> bool
-        ensures { λ r. ⌜ r ≡ inRuleOf self ⌝ }
+    // Rule 5: the ellipsoid is one of those known.
+    pub fn in_rule(self, known: u32) -> bool
+        ensures { λ r. ⌜ r ≡ inRuleOf known self ⌝ }
     {
-        Ellipsoid::exists(self.ellipsoid)
+        Ellipsoid::exists(known, self.ellipsoid)
     }
 }
 

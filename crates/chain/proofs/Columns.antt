@@ -13,14 +13,13 @@ use lib.Ieee.{Float}
 use Rattle.tuple.specs.declared.Tuple.{Tuple}
 use Rattle.columns.specs.Columns.{Columns, columns, Level, flatOf, columnOf, columnsOf}
 use Rattle.columns.proofs.Laws.{flat-length, back-x, back-y, back-z, back-t, back-and-there}
-use Rattle.sheet.specs.declared.Entry.{Entry}
 use Rattle.sheet.specs.declared.Refusal.{Refusal}
-use Rattle.sheet.specs.Layout.{stepCountOf, kindAt, entryAt}
+use Rattle.sheet.specs.Layout.{stepCountOf, kindAt}
 use Rattle.sheet.specs.Rules.{ofCall, firstBroken, hasDeformation, refusalOf}
 use Rattle.sheet.proofs.Order.{neither}
 use Rattle.plans.specs.Lent.{lentOf}
 use Rattle.chain.specs.declared.Answer.{Answer}
-use Rattle.chain.specs.Chain.{Run, chainOf, placesOf, entriesOf}
+use Rattle.chain.specs.Chain.{linkAt, Link, Run, chainOf, placesOf, entriesOf}
 use Rattle.chain.specs.Rules.{refusal9, refusal10, shiftRefusalOf, Outcome, outcome, refusedAnswer, ranOutcome, outcomeOf, shiftOf}
 use Rattle.chain.specs.Columns.{refusal9Columns, columnsRefusalOf, ColumnsOutcome, columnsOutcome, ranColumns, columnsOutcomeOf, shiftColumnsOf}
 use Rattle.chain.proofs.Counts.{chain-length}
@@ -37,7 +36,7 @@ nine-kept x y z t e =
 
 -- ---- which outcome each test leads to
 
-module _ (own : Refusal) (deforms inverse : Bool) (es : List Entry) (c : Columns) (velocities : List Float) (marks : List ℕ) where
+module _ (own : Refusal) (deforms inverse : Bool) (es : List Link) (c : Columns) (velocities : List Float) (marks : List ℕ) where
   abbrev nine : Bool
   nine = refusal9Columns (length (c .x)) (length (c .y)) (length (c .z)) (length (c .t))
 
@@ -93,7 +92,7 @@ module _ (inverse : Bool) (s : List ℕ) (x y z t velocities : List Float) (mark
   refusal = shiftRefusalOf own deforms (flatOf x y z t) velocities marks
 
   abbrev run : Run
-  run = chainOf inverse (lentOf velocities marks []) (entriesOf (entryAt s) (stepCountOf s) 0) (flatOf x y z t)
+  run = chainOf inverse (lentOf velocities marks []) (entriesOf (linkAt s) (stepCountOf s) 0) (flatOf x y z t)
 
   either-answer : (b : Bool) (r : Refusal) (run : Run) (c : Columns) (l : List Float)
       → cond b (ranColumns run) (columnsOutcome (refusedAnswer r) c) .answer ≡ cond b (ranOutcome run) (outcome (refusedAnswer r) l) .answer
@@ -118,7 +117,7 @@ module _ (inverse : Bool) (s : List ℕ) (x y z t velocities : List Float) (mark
   pub columns-stand-for-the-flat-list : flat (shiftColumnsOf inverse s (columns x y z t) velocities marks .columns) ≡ shiftOf inverse s (flatOf x y z t) velocities marks .list
   unfolding shiftColumnsOf shiftOf columnsOutcomeOf outcomeOf
   columns-stand-for-the-flat-list =
-      let whole : length (run .list) % 4 ≡ 0 = omega (arith, chain-length (lentOf velocities marks []) inverse (entriesOf (entryAt s) (stepCountOf s) 0) (flatOf x y z t), flat-length x y z t level) in
+      let whole : length (run .list) % 4 ≡ 0 = omega (arith, chain-length (lentOf velocities marks []) inverse (entriesOf (linkAt s) (stepCountOf s) 0) (flatOf x y z t), flat-length x y z t level) in
       rw (same-refusal own deforms) (either-list (eqb (refusal .number) 0) refusal run whole)
 
 -- ---- columns of unequal length are refused, whatever else is wrong with the call but the sheet

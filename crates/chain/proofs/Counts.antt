@@ -12,13 +12,12 @@ use lib.Ieee.{Float}
 use Rattle.tally.specs.declared.Tally.{Tally}
 use Rattle.tally.specs.Tallies.{noTally}
 use Rattle.plans.proofs.Windows.{tally-few}
-use Rattle.sheet.specs.declared.Entry.{Entry}
 use Rattle.sheet.specs.declared.Refusal.{Refusal}
-use Rattle.sheet.specs.Layout.{stepCountOf as steps, kindAt, entryAt}
+use Rattle.sheet.specs.Layout.{stepCountOf as steps, kindAt}
 use Rattle.sheet.specs.Rules.{ofCall, hasDeformation, refusalOf}
 use Rattle.sheet.proofs.Order.{neither}
 use Rattle.plans.specs.Lent.{Lent, lentOf}
-use Rattle.chain.specs.Chain.{passOf, stateOf, reversedOf, stepListOf, tuplesCountedOf, tuplesMetOf, stepTallyOf, chainForwardOf, chainInverseOf, chainOf, placesOf, entriesOf}
+use Rattle.chain.specs.Chain.{linkAt, Link, passOf, stateOf, reversedOf, stepListOf, tuplesCountedOf, tuplesMetOf, stepTallyOf, chainForwardOf, chainInverseOf, chainOf, placesOf, entriesOf}
 use Rattle.chain.specs.Rules.{refusal9, refusal10, Outcome, outcome, refusedAnswer, outcomeOf, shiftOf}
 use Rattle.chain.proofs.Laws.{step-length}
 use Rattle.chain.proofs.Outcome.{refused-own, refused-9, refused-10, run-through}
@@ -30,10 +29,10 @@ abbrev Fits : ℕ → Tally → Type 0
 Fits numbers tally = (4 * (tally .count) ≤ numbers) × (4 * (tally .met) ≤ numbers)
 
 -- a step counts no more tuples than the list has, and no more meet an angle out of reach
-pub step-tells-few : (inverse : Bool) (lent : Lent) (e : Entry) (l : List Float)
+pub step-tells-few : (inverse : Bool) (lent : Lent) (e : Link) (l : List Float)
     → Fits (length l) (stepTallyOf inverse lent e l)
 unfolding tuplesCountedOf tuplesMetOf
-step-tells-few inverse lent e l = tally-few (passOf (reversedOf inverse e) lent (e .step)) 0 (stateOf (e .step)) l
+step-tells-few inverse lent e l = tally-few (passOf (reversedOf inverse (e .entry)) lent (e .own) (e .entry .step)) 0 (stateOf (e .entry .step)) l
 
 fits-as : {m n : ℕ} (tally : Tally) → m ≡ n → Fits m tally → Fits n tally
 fits-as tally e h = (omega (arith, e, h .0), omega (arith, e, h .1))
@@ -41,36 +40,36 @@ fits-as tally e h = (omega (arith, e, h .0), omega (arith, e, h .1))
 -- ---- steps one after another
 
 module _ (lent : Lent) where
-  forward-few : (es : List Entry) (l : List Float) (i : ℕ) → Fits (length l) (getD (chainForwardOf lent es l .tallies) i noTally)
+  forward-few : (es : List Link) (l : List Float) (i : ℕ) → Fits (length l) (getD (chainForwardOf lent es l .tallies) i noTally)
   unfolding chainForwardOf
   forward-few [] l i = (omega arith, omega arith)
   forward-few (e ∷ es) l zero = step-tells-few false lent e l
   forward-few (e ∷ es) l (suc i) =
       fits-as _ (step-length false lent e l) (forward-few es (stepListOf false lent e l) i)
 
-  inverse-length : (es : List Entry) (l : List Float) → length (chainInverseOf lent es l .list) ≡ length l
+  inverse-length : (es : List Link) (l : List Float) → length (chainInverseOf lent es l .list) ≡ length l
   unfolding chainInverseOf
   inverse-length [] l = refl
   inverse-length (e ∷ es) l = step-length true lent e (chainInverseOf lent es l .list) ∙ inverse-length es l
 
-  inverse-few : (es : List Entry) (l : List Float) (i : ℕ) → Fits (length l) (getD (chainInverseOf lent es l .tallies) i noTally)
+  inverse-few : (es : List Link) (l : List Float) (i : ℕ) → Fits (length l) (getD (chainInverseOf lent es l .tallies) i noTally)
   unfolding chainInverseOf
   inverse-few [] l i = (omega arith, omega arith)
   inverse-few (e ∷ es) l zero =
       fits-as _ (inverse-length es l) (step-tells-few true lent e (chainInverseOf lent es l .list))
   inverse-few (e ∷ es) l (suc i) = inverse-few es l i
 
-  forward-length : (es : List Entry) (l : List Float) → length (chainForwardOf lent es l .list) ≡ length l
+  forward-length : (es : List Link) (l : List Float) → length (chainForwardOf lent es l .list) ≡ length l
   unfolding chainForwardOf
   forward-length [] l = refl
   forward-length (e ∷ es) l = forward-length es (stepListOf false lent e l) ∙ step-length false lent e l
 
   -- a chain leaves the list's length
-  pub chain-length : (inverse : Bool) (es : List Entry) (l : List Float) → length (chainOf inverse lent es l .list) ≡ length l
+  pub chain-length : (inverse : Bool) (es : List Link) (l : List Float) → length (chainOf inverse lent es l .list) ≡ length l
   chain-length true es l = inverse-length es l
   chain-length false es l = forward-length es l
 
-  chain-few : (inverse : Bool) (es : List Entry) (l : List Float) (i : ℕ) → Fits (length l) (getD (chainOf inverse lent es l .tallies) i noTally)
+  chain-few : (inverse : Bool) (es : List Link) (l : List Float) (i : ℕ) → Fits (length l) (getD (chainOf inverse lent es l .tallies) i noTally)
   chain-few true es l i = inverse-few es l i
   chain-few false es l i = forward-few es l i
 
@@ -100,7 +99,7 @@ unfolding refusal9
 short l h = ltb-false 8192 (length l) (neither (not (eqb (length l % 4) 0)) (ltb 8192 (length l)) h .1)
 
 -- of a run over a list in rule 9, and of a refused call
-pub run-few : (lent : Lent) (inverse : Bool) (es : List Entry) (l : List Float) → refusal9 (length l) ≡ false → (i : ℕ)
+pub run-few : (lent : Lent) (inverse : Bool) (es : List Link) (l : List Float) → refusal9 (length l) ≡ false → (i : ℕ)
     → Small (getD (placesOf (chainOf inverse lent es l .tallies)) i noTally)
 run-few lent inverse es l nine i =
     let tallies = chainOf inverse lent es l .tallies in
@@ -110,7 +109,7 @@ run-few lent inverse es l nine i =
 pub none-few : (i : ℕ) → Small (getD (replicate 16 noTally) i noTally)
 none-few i = none-small _ (zeros 16 i)
 
-module _ (own : Refusal) (deforms inverse : Bool) (es : List Entry) (l velocities : List Float) (marks : List ℕ) where
+module _ (own : Refusal) (deforms inverse : Bool) (es : List Link) (l velocities : List Float) (marks : List ℕ) where
   abbrev told : List Tally
   told = outcomeOf own deforms inverse es l velocities marks .answer .tallies
 
@@ -136,4 +135,4 @@ pub shift-tells-few : (inverse : Bool) (s : List ℕ) (l velocities : List Float
     → Small (getD (shiftOf inverse s l velocities marks .answer .tallies) i noTally)
 unfolding shiftOf
 shift-tells-few inverse s l velocities marks i =
-    tallies-few (refusalOf s) (hasDeformation (kindAt s) (steps s)) inverse (entriesOf (entryAt s) (steps s) 0) l velocities marks i
+    tallies-few (refusalOf s) (hasDeformation (kindAt s) (steps s)) inverse (entriesOf (linkAt s) (steps s) 0) l velocities marks i

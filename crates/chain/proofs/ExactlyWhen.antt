@@ -12,12 +12,12 @@ use lib.ListN.{length}
 use lib.Ieee.{Float}
 use borrow.Author.Tests.{eqb-true, leb-true, leb-false}
 use Rattle.sheet.specs.declared.Refusal.{Refusal}
-use Rattle.sheet.specs.Layout.{stepCountOf, kindAt, entryAt}
+use Rattle.sheet.specs.Layout.{stepCountOf, kindAt}
 use Rattle.sheet.specs.Rules.{Rule, rule, ofCall, firstBroken, hasDeformation, refusalOf}
 use Rattle.sheet.specs.Given.{Unbroken}
 use Rattle.sheet.proofs.Order.{Without, without-rule, kept-first, kept-rest, number-given-exactly-when, none-given-exactly-when, own-given-exactly-when, reader-never-gives, ownRule, own-kept, keep-own, own-without}
 use Rattle.plans.specs.Lent.{lentOf}
-use Rattle.chain.specs.Chain.{Run, chainOf, entriesOf}
+use Rattle.chain.specs.Chain.{linkAt, Run, chainOf, entriesOf}
 use Rattle.chain.specs.Rules.{refusal9, refusal10, shiftRefusalOf, outcome, refusedAnswer, ranOutcome, outcomeOf, shiftOf}
 
 -- run or refused, the answer's number is that of the call's refusal
@@ -42,7 +42,7 @@ module _ (inverse : Bool) (s : List ℕ) (l velocities : List Float) (marks : Li
   in-order : given ≡ firstBroken (ownRule s ∷ nine ∷ ten ∷ []) .number
   unfolding shiftOf outcomeOf shiftRefusalOf
   in-order =
-      number-of (firstBroken (ownRule s ∷ nine ∷ ten ∷ [])) (chainOf inverse (lentOf velocities marks []) (entriesOf (entryAt s) (stepCountOf s) 0) l) l _ refl
+      number-of (firstBroken (ownRule s ∷ nine ∷ ten ∷ [])) (chainOf inverse (lentOf velocities marks []) (entriesOf (linkAt s) (stepCountOf s) 0) l) l _ refl
 
   -- the numbers of the sheet, 1 to 8 and 11: the reader gives them
   pub own-exactly-when : (n : ℕ) → (n ≡ 0 → ⊥) → (n ≡ 9 → ⊥) → (n ≡ 10 → ⊥) → (given ≡ n) ↔ (refusalOf s .number ≡ n)
@@ -59,7 +59,7 @@ module _ (inverse : Bool) (s : List ℕ) (l velocities : List Float) (marks : Li
   nine-exactly-when =
       let law =
       number-given-exactly-when (ownRule s ∷ []) nine (ten ∷ []) (λ e. omega arith)
-      (Without.next (own-without 9 (λ a b. omega arith) (λ e. omega arith) s) Without.none)
+      (Without.next (own-without 9 (λ a b. omega arith) (λ e. omega arith) (λ e. omega arith) s) Without.none)
       (without-rule 10 (λ e. omega arith) Without.none) in (
         λ e. let k = law .0 (sym in-order ∙ e) in (own-kept s (kept-first (k .0)), k .1),
         λ h. in-order ∙ law .1 (Unbroken.next (keep-own s (h .0)) Unbroken.none, h .1),
@@ -71,7 +71,7 @@ module _ (inverse : Bool) (s : List ℕ) (l velocities : List Float) (marks : Li
   ten-exactly-when =
       let law =
       number-given-exactly-when (ownRule s ∷ nine ∷ []) ten [] (λ e. omega arith)
-      (Without.next (own-without 10 (λ a b. omega arith) (λ e. omega arith) s) (without-rule 9 (λ e. omega arith) Without.none))
+      (Without.next (own-without 10 (λ a b. omega arith) (λ e. omega arith) (λ e. omega arith) s) (without-rule 9 (λ e. omega arith) Without.none))
       Without.none in (
         λ e. let k = law .0 (sym in-order ∙ e) in (own-kept s (kept-first (k .0)), kept-first (kept-rest (k .0)), k .1),
         λ h. in-order ∙ law .1 (Unbroken.next (keep-own s (h .0)) (Unbroken.next (h .1) Unbroken.none), h .2),
@@ -82,7 +82,7 @@ module _ (inverse : Bool) (s : List ℕ) (l velocities : List Float) (marks : Li
   shifted-exactly-when =
       let law =
       none-given-exactly-when (ownRule s ∷ nine ∷ ten ∷ [])
-      (Without.next (own-without 0 (λ a b. omega arith) (λ e. omega arith) s)
+      (Without.next (own-without 0 (λ a b. omega arith) (λ e. omega arith) (λ e. omega arith) s)
       (without-rule 9 (λ e. omega arith) (without-rule 10 (λ e. omega arith) Without.none))) in (
         λ e.
             let k = law .0 (sym in-order ∙ e) in
@@ -90,13 +90,8 @@ module _ (inverse : Bool) (s : List ℕ) (l velocities : List Float) (marks : Li
         λ h. in-order ∙ law .1 (Unbroken.next (keep-own s (h .0)) (Unbroken.next (h .1) (Unbroken.next (h .2) Unbroken.none))),
       )
 
-  -- no number past 11 is given
-  pub no-number-past-eleven : given ≤ 11
-  no-number-past-eleven = by-case (leb given 11) refl
-    where
-      by-case : (b : Bool) → leb given 11 ≡ b → given ≤ 11
-      by-case true e = leb-true _ _ e
-      by-case false e =
-          let past : 11 < given = leb-false _ _ e in
-          let own = own-exactly-when given (λ z. omega arith) (λ z. omega arith) (λ z. omega arith) .0 refl in
-          absurd (reader-never-gives given (λ z. omega arith) (λ a b. omega arith) (λ z. omega arith) s own)
+  -- past 11 no number but 20 is given
+  pub none-past-eleven-but-twenty : (n : ℕ) → 11 < n → (n ≡ 20 → ⊥) → given ≡ n → ⊥
+  none-past-eleven-but-twenty n past other e =
+      let own = own-exactly-when n (λ z. omega (arith, past, z)) (λ z. omega (arith, past, z)) (λ z. omega (arith, past, z)) .0 e in
+      reader-never-gives n (λ z. omega (arith, past, z)) (λ a b. omega (arith, past, b)) (λ z. omega (arith, past, z)) other s own

@@ -8,12 +8,11 @@ use borrow.Author.Tests.{eq-eqb, ne-eqb}
 use lib.ListN.{length}
 use lib.Ieee.{Float}
 use Rattle.columns.specs.Columns.{Columns, flatOf}
-use Rattle.sheet.specs.declared.Entry.{Entry}
 use Rattle.sheet.specs.declared.Refusal.{Refusal}
 use Rattle.sheet.specs.Rules.{accepted, ofCall, firstBroken}
 use Rattle.grid_rules.specs.Rules.{refusal17, refusal18, checkGridOf, firstBroken as firstOfGrid}
 use Rattle.plans.specs.Lent.{lentOf}
-use Rattle.chain.specs.Chain.{chainOf}
+use Rattle.chain.specs.Chain.{Link, chainOf}
 use Rattle.chain.specs.Rules.{refusal9, outcome, refusedAnswer, ranOutcome}
 use Rattle.chain.specs.Columns.{refusal9Columns, columnsOutcome, ranColumns}
 use Rattle.chain.specs.Grid.{refusal10WithGrid, gridRefusalOf, gridOutcomeOf, columnsGridOutcomeOf}
@@ -57,7 +56,7 @@ module _ (own : Refusal) (nine : Bool) (velocities : List Float) (marks grid : L
 
 -- ---- a flat list
 
-module _ (own : Refusal) (inverse : Bool) (es : List Entry) (l velocities : List Float) (marks grid : List ℕ) where
+module _ (own : Refusal) (inverse : Bool) (es : List Link) (l velocities : List Float) (marks grid : List ℕ) where
   abbrev Told : Refusal → Type 0
   Told r = gridRefusalOf own (refusal9 (length l)) velocities marks grid ≡ r
 
@@ -90,7 +89,7 @@ module _ (own : Refusal) (inverse : Bool) (es : List Entry) (l velocities : List
 
 -- ---- columns
 
-module _ (own : Refusal) (inverse : Bool) (es : List Entry) (c : Columns) (velocities : List Float) (marks grid : List ℕ) where
+module _ (own : Refusal) (inverse : Bool) (es : List Link) (c : Columns) (velocities : List Float) (marks grid : List ℕ) where
   abbrev nine : Bool
   nine = refusal9Columns (length (c .x)) (length (c .y)) (length (c .z)) (length (c .t))
 

@@ -8,19 +8,18 @@ use lib.Dec.{eqb}
 use lib.ListN.{length, getD}
 use lib.Ieee.{Float}
 use Rattle.tally.specs.Tallies.{noTally}
-use Rattle.sheet.specs.declared.Entry.{Entry}
 use Rattle.sheet.specs.declared.Refusal.{Refusal}
-use Rattle.sheet.specs.Layout.{stepCountOf, entryAt}
+use Rattle.sheet.specs.Layout.{stepCountOf}
 use Rattle.sheet.specs.Rules.{ofCall, refusalOf}
 use Rattle.grid_rules.specs.Rules.{checkGridOf}
 use Rattle.plans.specs.Lent.{lentOf}
-use Rattle.chain.specs.Chain.{entriesOf}
+use Rattle.chain.specs.Chain.{linkAt, Link, entriesOf}
 use Rattle.chain.specs.Rules.{refusal9, Outcome, outcome, refusedAnswer}
 use Rattle.chain.specs.Grid.{refusal10WithGrid, gridOutcomeOf, shiftGridOf}
 use Rattle.chain.proofs.Counts.{Small, run-few, none-few}
 use Rattle.chain.proofs.Grid.{grid-refused-own, grid-refused-9, grid-refused-10, grid-refused, grid-run-through}
 
-module _ (own : Refusal) (inverse : Bool) (es : List Entry) (l velocities : List Float) (marks grid : List ℕ) where
+module _ (own : Refusal) (inverse : Bool) (es : List Link) (l velocities : List Float) (marks grid : List ℕ) where
   abbrev told : Outcome
   told = gridOutcomeOf own inverse es l velocities marks grid
 
@@ -42,4 +41,4 @@ pub shift-grid-tells-few : (inverse : Bool) (s : List ℕ) (l velocities : List 
     → Small (getD (shiftGridOf inverse s l velocities marks grid .answer .tallies) i noTally)
 unfolding shiftGridOf
 shift-grid-tells-few inverse s l velocities marks grid i =
-    by-test (refusalOf s) inverse (entriesOf (entryAt s) (stepCountOf s) 0) l velocities marks grid _ _ _ _ refl refl refl refl i
+    by-test (refusalOf s) inverse (entriesOf (linkAt s) (stepCountOf s) 0) l velocities marks grid _ _ _ _ refl refl refl refl i

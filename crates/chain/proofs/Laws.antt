@@ -9,23 +9,22 @@ use mathlib.Core.List.{List, [], _∷_, _++_, append-assoc, append-nil}
 use lib.ListN.{length, take, drop, set, replicate, length-take, length-set, take-append-drop}
 use lib.Seq.{take-suc-set, drop-set-lt, drop-cons, drop-drop, getD-set-same}
 use lib.Ieee.{Float}
-use Rattle.sheet.specs.declared.Entry.{Entry}
 use Rattle.lists.proofs.Laws.{ran-length}
 use Rattle.tally.specs.declared.Tally.{Tally}
 use Rattle.tally.specs.Tallies.{noTally}
 use Rattle.plans.specs.Lent.{Lent}
-use Rattle.chain.specs.Chain.{turnsOf, stateOf, reversedOf, stepListOf, stepTallyOf, Run, chainForwardOf, chainInverseOf, placesOf, entriesOf}
+use Rattle.chain.specs.Chain.{Link, turnsOf, stateOf, reversedOf, stepListOf, stepTallyOf, Run, chainForwardOf, chainInverseOf, placesOf, entriesOf}
 
 module _ (lent : Lent) where
   -- ---- a chain of one step is that step over the list
 
-  pub one-step-forward : (e : Entry) (l : List Float)
+  pub one-step-forward : (e : Link) (l : List Float)
       → chainForwardOf lent (e ∷ []) l
       ≡ record { list = stepListOf false lent e l; tallies = stepTallyOf false lent e l ∷ [] }
   unfolding chainForwardOf
   one-step-forward e l = refl
 
-  pub one-step-inverse : (e : Entry) (l : List Float)
+  pub one-step-inverse : (e : Link) (l : List Float)
       → chainInverseOf lent (e ∷ []) l
       ≡ record { list = stepListOf true lent e l; tallies = stepTallyOf true lent e l ∷ [] }
   unfolding chainInverseOf
@@ -33,7 +32,7 @@ module _ (lent : Lent) where
 
   -- ---- running steps A then B is running A's and then B's; inverse, B's and then A's
 
-  pub then-forward : (a b : List Entry) (l : List Float)
+  pub then-forward : (a b : List Link) (l : List Float)
       → chainForwardOf lent (a ++ b) l
       ≡ record {
         list = chainForwardOf lent b (chainForwardOf lent a l .list) .list;
@@ -43,7 +42,7 @@ module _ (lent : Lent) where
   then-forward [] b l = refl
   then-forward (e ∷ a) b l = rw (then-forward a b (stepListOf false lent e l))
 
-  pub then-inverse : (a b : List Entry) (l : List Float)
+  pub then-inverse : (a b : List Link) (l : List Float)
       → chainInverseOf lent (a ++ b) l
       ≡ record {
         list = chainInverseOf lent a (chainInverseOf lent b l .list) .list;
@@ -54,11 +53,11 @@ module _ (lent : Lent) where
   then-inverse (e ∷ a) b l = rw (then-inverse a b l)
 
 -- a step leaves the list's length
-pub step-length : (inverse : Bool) (lent : Lent) (e : Entry) (l : List Float)
+pub step-length : (inverse : Bool) (lent : Lent) (e : Link) (l : List Float)
     → length (stepListOf inverse lent e l) ≡ length l
 unfolding stepListOf
 step-length inverse lent e l =
-    ran-length (turnsOf (reversedOf inverse e) lent (e .step)) 0 (stateOf (e .step)) l
+    ran-length (turnsOf (reversedOf inverse (e .entry)) lent (e .own) (e .entry .step)) 0 (stateOf (e .entry .step)) l
 
 -- ---- places for the tallies
 
@@ -87,17 +86,17 @@ zeros zero (suc n) = let s : 0 - suc n ≡ 0 = omega arith in rw s
 zeros (suc m) (suc n) = let s : suc m - suc n ≡ m - n = omega arith in rw s (zeros m n)
 
 -- a tally for each step
-pub tallies-length : (lent : Lent) (es : List Entry) (l : List Float) → length (chainInverseOf lent es l .tallies) ≡ length es
+pub tallies-length : (lent : Lent) (es : List Link) (l : List Float) → length (chainInverseOf lent es l .tallies) ≡ length es
 unfolding chainInverseOf
 tallies-length lent [] l = refl
 tallies-length lent (e ∷ es) l = ap suc (tallies-length lent es l)
 
-pub forward-tallies-length : (lent : Lent) (es : List Entry) (l : List Float) → length (chainForwardOf lent es l .tallies) ≡ length es
+pub forward-tallies-length : (lent : Lent) (es : List Link) (l : List Float) → length (chainForwardOf lent es l .tallies) ≡ length es
 unfolding chainForwardOf
 forward-tallies-length lent [] l = refl
 forward-tallies-length lent (e ∷ es) l = ap suc (forward-tallies-length lent es (stepListOf false lent e l))
 
-pub entries-length : (entry : ℕ → Entry) (n i : ℕ) → length (entriesOf entry n i) ≡ n
+pub entries-length : (entry : ℕ → Link) (n i : ℕ) → length (entriesOf entry n i) ≡ n
 unfolding entriesOf
 entries-length entry zero i = refl
 entries-length entry (suc n) i = ap suc (entries-length entry n (suc i))
@@ -105,23 +104,23 @@ entries-length entry (suc n) i = ap suc (entries-length entry n (suc i))
 -- ---- the loops: over any way to an entry
 
 -- the entries from index i on, of which n - i are left
-abbrev pub leftFrom : (ℕ → Entry) → ℕ → ℕ → List Entry
+abbrev pub leftFrom : (ℕ → Link) → ℕ → ℕ → List Link
 leftFrom entry n i = entriesOf entry (n - i) i
 
-left-open : (entry : ℕ → Entry) (n i : ℕ) → i < n → leftFrom entry n i ≡ entry i ∷ leftFrom entry n (i + 1)
+left-open : (entry : ℕ → Link) (n i : ℕ) → i < n → leftFrom entry n i ≡ entry i ∷ leftFrom entry n (i + 1)
 unfolding entriesOf
 left-open entry n i h =
     let s : n - i ≡ suc (n - (i + 1)) = omega arith in
     let e : i + 1 ≡ suc i = omega arith in
     rw (s, e)
 
-left-none : (entry : ℕ → Entry) (n : ℕ) → leftFrom entry n n ≡ []
+left-none : (entry : ℕ → Link) (n : ℕ) → leftFrom entry n n ≡ []
 unfolding entriesOf
 left-none entry n = let s : n - n ≡ 0 = omega arith in rw s
 
 -- forward: what the steps left make of the list, and of the tallies after those that stand, is what
 -- all make of the list at the start
-pub record Forward (lent : Lent) (entry : ℕ → Entry) (n : ℕ) (l₀ : List Float) (i : ℕ) (l : List Float) (tallies : List Tally) : Type 0 where
+pub record Forward (lent : Lent) (entry : ℕ → Link) (n : ℕ) (l₀ : List Float) (i : ℕ) (l : List Float) (tallies : List Tally) : Type 0 where
   pub within : i ≤ n
   pub places : length tallies ≡ 16
   pub long : length l ≡ length l₀
@@ -131,14 +130,14 @@ pub record Forward (lent : Lent) (entry : ℕ → Entry) (n : ℕ) (l₀ : List 
 
 -- inverse: the list is what the steps from index i on have made of it, last first, and the tallies
 -- from there on are theirs
-pub record Backward (lent : Lent) (entry : ℕ → Entry) (n : ℕ) (l₀ : List Float) (i : ℕ) (l : List Float) (tallies : List Tally) : Type 0 where
+pub record Backward (lent : Lent) (entry : ℕ → Link) (n : ℕ) (l₀ : List Float) (i : ℕ) (l : List Float) (tallies : List Tally) : Type 0 where
   pub within : i ≤ n
   pub places : length tallies ≡ 16
   pub long : length l ≡ length l₀
   pub list : l ≡ chainInverseOf lent (leftFrom entry n i) l₀ .list
   pub told : drop i tallies ≡ chainInverseOf lent (leftFrom entry n i) l₀ .tallies ++ replicate (16 - n) noTally
 
-module _ (lent : Lent) (entry : ℕ → Entry) (n : ℕ) (l₀ : List Float) (most : n ≤ 16) where
+module _ (lent : Lent) (entry : ℕ → Link) (n : ℕ) (l₀ : List Float) (most : n ≤ 16) where
   pub forward-start : Forward lent entry n l₀ 0 l₀ (replicate 16 noTally)
   forward-start =
       let s : n - 0 ≡ n = omega arith in
@@ -155,14 +154,14 @@ module _ (lent : Lent) (entry : ℕ → Entry) (n : ℕ) (l₀ : List Float) (mo
         told = rw (left-none entry n) (zeros 16 n);
       }
 
-module _ {lent : Lent} {entry : ℕ → Entry} {n : ℕ} {l₀ : List Float} {i : ℕ} {l : List Float} {tallies : List Tally} (most : n ≤ 16) where
-  pub forward-again : {e : Entry} {l′ : List Float} {tally : Tally} → i < n → e ≡ entry i → l′ ≡ stepListOf false lent e l → tally ≡ stepTallyOf false lent e l
+module _ {lent : Lent} {entry : ℕ → Link} {n : ℕ} {l₀ : List Float} {i : ℕ} {l : List Float} {tallies : List Tally} (most : n ≤ 16) where
+  pub forward-again : {e : Link} {l′ : List Float} {tally : Tally} → i < n → e ≡ entry i → l′ ≡ stepListOf false lent e l → tally ≡ stepTallyOf false lent e l
       → Forward lent entry n l₀ i l tallies → Forward lent entry n l₀ (i + 1) l′ (set tallies i tally)
   unfolding chainForwardOf
   forward-again {e} {l′} {tally} h ee el ec now =
       let g : i < length tallies = omega (arith, now .places) in
-      let a : l′ ≡ stepListOf false lent (entry i) l = el ∙ ap (λ (x : Entry). stepListOf false lent x l) ee in
-      let b : tally ≡ stepTallyOf false lent (entry i) l = ec ∙ ap (λ (x : Entry). stepTallyOf false lent x l) ee in
+      let a : l′ ≡ stepListOf false lent (entry i) l = el ∙ ap (λ (x : Link). stepListOf false lent x l) ee in
+      let b : tally ≡ stepTallyOf false lent (entry i) l = ec ∙ ap (λ (x : Link). stepTallyOf false lent x l) ee in
       record {
         within = omega arith;
         places = length-set tallies i tally ∙ now .places;
@@ -183,14 +182,14 @@ module _ {lent : Lent} {entry : ℕ → Entry} {n : ℕ} {l₀ : List Float} {i 
       let k : length (chainForwardOf lent (entriesOf entry n 0) l₀ .tallies) ≡ i = ap length (sym c) ∙ t in
       (rw none at (now .list), sym (take-append-drop i tallies) ∙ rw (now .rest, c, k))
 
-  pub backward-again : {e : Entry} {l′ : List Float} {tally : Tally} (j : ℕ) → j + 1 ≡ i → e ≡ entry j → l′ ≡ stepListOf true lent e l → tally ≡ stepTallyOf true lent e l
+  pub backward-again : {e : Link} {l′ : List Float} {tally : Tally} (j : ℕ) → j + 1 ≡ i → e ≡ entry j → l′ ≡ stepListOf true lent e l → tally ≡ stepTallyOf true lent e l
       → Backward lent entry n l₀ i l tallies → Backward lent entry n l₀ j l′ (set tallies j tally)
   unfolding chainInverseOf
   backward-again {e} {l′} {tally} j s ee el ec now =
       let g : j < length tallies = omega (arith, now .places, now .within) in
       let h : j < n = omega (arith, now .within) in
-      let a : l′ ≡ stepListOf true lent (entry j) l = el ∙ ap (λ (x : Entry). stepListOf true lent x l) ee in
-      let b : tally ≡ stepTallyOf true lent (entry j) l = ec ∙ ap (λ (x : Entry). stepTallyOf true lent x l) ee in
+      let a : l′ ≡ stepListOf true lent (entry j) l = el ∙ ap (λ (x : Link). stepListOf true lent x l) ee in
+      let b : tally ≡ stepTallyOf true lent (entry j) l = ec ∙ ap (λ (x : Link). stepTallyOf true lent x l) ee in
       record {
         within = omega (arith, now .within);
         places = length-set tallies j tally ∙ now .places;

@@ -7,12 +7,11 @@ use borrow.Author.Tests.{eq-eqb, ne-eqb, eqb-true, ltb-false, not-false}
 use lib.Dec.{eqb, ltb}
 use lib.ListN.{length}
 use lib.Ieee.{Float}
-use Rattle.sheet.specs.declared.Entry.{Entry}
 use Rattle.sheet.specs.declared.Refusal.{Refusal}
 use Rattle.sheet.specs.Rules.{ofCall, firstBroken}
 use Rattle.sheet.proofs.Order.{neither}
 use Rattle.plans.specs.Lent.{lentOf}
-use Rattle.chain.specs.Chain.{chainOf}
+use Rattle.chain.specs.Chain.{Link, chainOf}
 use Rattle.chain.specs.Rules.{refusal9, refusal10, shiftRefusalOf, outcome, refusedAnswer, ranOutcome, outcomeOf}
 
 -- rule 9 kept: whole tuples, at most 2,048
@@ -22,7 +21,7 @@ flat-nine-kept numbers e =
     let k = neither (not (eqb (numbers % 4) 0)) (ltb 8192 numbers) e in
     (eqb-true (numbers % 4) 0 (not-false _ (k .0)), ltb-false 8192 numbers (k .1))
 
-module _ (own : Refusal) (deforms inverse : Bool) (es : List Entry) (l velocities : List Float) (marks : List ℕ) where
+module _ (own : Refusal) (deforms inverse : Bool) (es : List Link) (l velocities : List Float) (marks : List ℕ) where
   pub refused-own : (own .number ≡ 0 → ⊥) → outcomeOf own deforms inverse es l velocities marks ≡ outcome (refusedAnswer own) l
   unfolding outcomeOf shiftRefusalOf firstBroken
   refused-own h = rw (ne-eqb (own .number) 0 h, ne-eqb (own .number) 0 h)
@@ -43,7 +42,7 @@ module _ (own : Refusal) (deforms inverse : Bool) (es : List Entry) (l velocitie
 
 -- ---- refused: counts zero, and the list holds what it held
 
-pub refused-leaves-the-list : (own : Refusal) (deforms inverse : Bool) (es : List Entry) (l velocities : List Float) (marks : List ℕ)
+pub refused-leaves-the-list : (own : Refusal) (deforms inverse : Bool) (es : List Link) (l velocities : List Float) (marks : List ℕ)
     → (shiftRefusalOf own deforms l velocities marks .number ≡ 0 → ⊥)
     → outcomeOf own deforms inverse es l velocities marks ≡ outcome (refusedAnswer (shiftRefusalOf own deforms l velocities marks)) l
 unfolding outcomeOf

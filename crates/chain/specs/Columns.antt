@@ -7,13 +7,12 @@ use lib.Dec.{eqb, ltb}
 use lib.ListN.{length}
 use lib.Ieee.{Float}
 use Rattle.columns.specs.Columns.{Columns, flatOf, columnsOf}
-use Rattle.sheet.specs.declared.Entry.{Entry}
 use Rattle.sheet.specs.declared.Refusal.{Refusal}
-use Rattle.sheet.specs.Layout.{stepCountOf, kindAt, entryAt}
+use Rattle.sheet.specs.Layout.{stepCountOf, kindAt}
 use Rattle.sheet.specs.Rules.{ofCall, rule, firstBroken, hasDeformation, refusalOf}
 use Rattle.plans.specs.Lent.{lentOf}
 use Rattle.chain.specs.declared.Answer.{Answer}
-use Rattle.chain.specs.Chain.{Run, chainOf, placesOf, entriesOf}
+use Rattle.chain.specs.Chain.{linkAt, Link, Run, chainOf, placesOf, entriesOf}
 use Rattle.chain.specs.Rules.{refusal10, refusedAnswer, ranAnswer}
 
 -- columns of unequal length, or of over 2,048 rows
@@ -42,7 +41,7 @@ abbrev pub ranColumns : Run → ColumnsOutcome
 ranColumns run = columnsOutcome (ranAnswer (placesOf (run .tallies))) (columnsOf (run .list))
 
 -- refused: every column as it was
-unfoldable pub columnsOutcomeOf : Refusal → Bool → Bool → List Entry → Columns → List Float → List ℕ → ColumnsOutcome
+unfoldable pub columnsOutcomeOf : Refusal → Bool → Bool → List Link → Columns → List Float → List ℕ → ColumnsOutcome
 columnsOutcomeOf own deforms inverse es c velocities marks =
     let refusal = columnsRefusalOf own deforms c velocities marks in
     cond (eqb (refusal .number) 0)
@@ -52,4 +51,4 @@ columnsOutcomeOf own deforms inverse es c velocities marks =
 -- over a sheet's bytes
 unfoldable pub shiftColumnsOf : Bool → List ℕ → Columns → List Float → List ℕ → ColumnsOutcome
 shiftColumnsOf inverse s c velocities marks =
-    columnsOutcomeOf (refusalOf s) (hasDeformation (kindAt s) (stepCountOf s)) inverse (entriesOf (entryAt s) (stepCountOf s) 0) c velocities marks
+    columnsOutcomeOf (refusalOf s) (hasDeformation (kindAt s) (stepCountOf s)) inverse (entriesOf (linkAt s) (stepCountOf s) 0) c velocities marks

@@ -7,13 +7,12 @@ use lib.Dec.{eqb}
 use lib.ListN.{length}
 use lib.Ieee.{Float}
 use Rattle.columns.specs.Columns.{Columns, flatOf}
-use Rattle.sheet.specs.declared.Entry.{Entry}
 use Rattle.sheet.specs.declared.Refusal.{Refusal}
-use Rattle.sheet.specs.Layout.{stepCountOf, entryAt}
+use Rattle.sheet.specs.Layout.{stepCountOf}
 use Rattle.sheet.specs.Rules.{ofCall, rule, firstBroken, refusalOf}
 use Rattle.grid_rules.specs.Rules.{refusal17, refusal18}
 use Rattle.plans.specs.Lent.{lentOf}
-use Rattle.chain.specs.Chain.{chainOf, entriesOf}
+use Rattle.chain.specs.Chain.{linkAt, Link, chainOf, entriesOf}
 use Rattle.chain.specs.Rules.{refusal9, refusal10, Outcome, outcome, refusedAnswer, ranOutcome}
 use Rattle.chain.specs.Columns.{refusal9Columns, ColumnsOutcome, columnsOutcome, ranColumns}
 
@@ -34,7 +33,7 @@ gridRefusalOf own nine velocities marks grid =
 
 -- ---- a flat list
 
-unfoldable pub gridOutcomeOf : Refusal → Bool → List Entry → List Float → List Float → List ℕ → List ℕ → Outcome
+unfoldable pub gridOutcomeOf : Refusal → Bool → List Link → List Float → List Float → List ℕ → List ℕ → Outcome
 gridOutcomeOf own inverse es l velocities marks grid =
     let refusal = gridRefusalOf own (refusal9 (length l)) velocities marks grid in
     cond (eqb (refusal .number) 0) (ranOutcome (chainOf inverse (lentOf velocities marks grid) es l)) (outcome (refusedAnswer refusal) l)
@@ -42,12 +41,12 @@ gridOutcomeOf own inverse es l velocities marks grid =
 -- over a sheet's bytes
 unfoldable pub shiftGridOf : Bool → List ℕ → List Float → List Float → List ℕ → List ℕ → Outcome
 shiftGridOf inverse s l velocities marks grid =
-    gridOutcomeOf (refusalOf s) inverse (entriesOf (entryAt s) (stepCountOf s) 0) l velocities marks grid
+    gridOutcomeOf (refusalOf s) inverse (entriesOf (linkAt s) (stepCountOf s) 0) l velocities marks grid
 
 -- ---- columns
 
 -- refused: every column as it was
-unfoldable pub columnsGridOutcomeOf : Refusal → Bool → List Entry → Columns → List Float → List ℕ → List ℕ → ColumnsOutcome
+unfoldable pub columnsGridOutcomeOf : Refusal → Bool → List Link → Columns → List Float → List ℕ → List ℕ → ColumnsOutcome
 columnsGridOutcomeOf own inverse es c velocities marks grid =
     let refusal = gridRefusalOf own (refusal9Columns (length (c .x)) (length (c .y)) (length (c .z)) (length (c .t))) velocities marks grid in
     cond (eqb (refusal .number) 0)
@@ -57,4 +56,4 @@ columnsGridOutcomeOf own inverse es c velocities marks grid =
 -- over a sheet's bytes
 unfoldable pub shiftColumnsGridOf : Bool → List ℕ → Columns → List Float → List ℕ → List ℕ → ColumnsOutcome
 shiftColumnsGridOf inverse s c velocities marks grid =
-    columnsGridOutcomeOf (refusalOf s) inverse (entriesOf (entryAt s) (stepCountOf s) 0) c velocities marks grid
+    columnsGridOutcomeOf (refusalOf s) inverse (entriesOf (linkAt s) (stepCountOf s) 0) c velocities marks grid

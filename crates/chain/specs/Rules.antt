@@ -6,15 +6,14 @@ use mathlib.Core.List.{List, [], _∷_}
 use lib.Dec.{eqb, ltb}
 use lib.ListN.{length, replicate}
 use lib.Ieee.{Float}
-use Rattle.sheet.specs.declared.Entry.{Entry}
 use Rattle.sheet.specs.declared.Refusal.{Refusal}
-use Rattle.sheet.specs.Layout.{stepCountOf, kindAt, entryAt}
+use Rattle.sheet.specs.Layout.{stepCountOf, kindAt}
 use Rattle.sheet.specs.Rules.{accepted, ofCall, rule, firstBroken, hasDeformation, refusalOf}
 use Rattle.tally.specs.declared.Tally.{Tally}
 use Rattle.tally.specs.Tallies.{noTally}
 use Rattle.plans.specs.Lent.{lentOf}
 use Rattle.chain.specs.declared.Answer.{Answer}
-use Rattle.chain.specs.Chain.{Run, chainOf, placesOf, entriesOf}
+use Rattle.chain.specs.Chain.{linkAt, Link, Run, chainOf, placesOf, entriesOf}
 
 -- ---- the rules of the lent lists
 
@@ -67,7 +66,7 @@ ranAnswer tallies = record { refusal = accepted; tallies = tallies }
 abbrev pub ranOutcome : Run → Outcome
 ranOutcome run = outcome (ranAnswer (placesOf (run .tallies))) (run .list)
 
-unfoldable pub outcomeOf : Refusal → Bool → Bool → List Entry → List Float → List Float → List ℕ → Outcome
+unfoldable pub outcomeOf : Refusal → Bool → Bool → List Link → List Float → List Float → List ℕ → Outcome
 outcomeOf own deforms inverse es l velocities marks =
     let refusal = shiftRefusalOf own deforms l velocities marks in
     cond (eqb (refusal .number) 0) (ranOutcome (chainOf inverse (lentOf velocities marks []) es l)) (outcome (refusedAnswer refusal) l)
@@ -75,4 +74,4 @@ outcomeOf own deforms inverse es l velocities marks =
 -- over a sheet's bytes
 unfoldable pub shiftOf : Bool → List ℕ → List Float → List Float → List ℕ → Outcome
 shiftOf inverse s l velocities marks =
-    outcomeOf (refusalOf s) (hasDeformation (kindAt s) (stepCountOf s)) inverse (entriesOf (entryAt s) (stepCountOf s) 0) l velocities marks
+    outcomeOf (refusalOf s) (hasDeformation (kindAt s) (stepCountOf s)) inverse (entriesOf (linkAt s) (stepCountOf s) 0) l velocities marks

@@ -15,10 +15,10 @@ ghost use mathlib.Core.List.{[]};
 ghost use Prim.Native.Nat.{_*_, _%_, _≤_, _<_};
 ghost use lib.ListN.{length};
 ghost use Rattle.columns.specs.Columns.{columns, Level, flatOf};
-ghost use Rattle.sheet.specs.Layout.{stepCountOf, kindAt, entryAt};
+ghost use Rattle.sheet.specs.Layout.{stepCountOf, kindAt};
 ghost use Rattle.sheet.specs.Rules.{hasDeformation};
 ghost use Rattle.plans.specs.Lent.{lentOf};
-ghost use Rattle.chain.specs.Chain.{reversedOf, stepListOf, stepTallyOf, chainForwardOf, chainInverseOf, chainOf, placesOf, entriesOf};
+ghost use Rattle.chain.specs.Chain.{reversedOf, linkAt, stepListOf, stepTallyOf, chainForwardOf, chainInverseOf, chainOf, placesOf, entriesOf};
 ghost use Rattle.chain.specs.Rules.{refusal9, overOne, lentFor, refusal10, refusedAnswer, ranAnswer, outcome, shiftOf};
 ghost use Rattle.chain.specs.Columns.{refusal9Columns, columnsOutcome, shiftColumnsOf};
 ghost use Rattle.chain.specs.Grid.{shiftGridOf, shiftColumnsGridOf};
@@ -57,8 +57,8 @@ fn step_at(
 ) -> Tally
     requires { ⌜ (i < stepCountOf (now s)) × Level (now x) (now y) (now z) (now t) × (length (now x) ≤ 2048) ⌝ }
     ensures { λ r. ⌜ (flatOf (now (x .exit)) (now (y .exit)) (now (z .exit)) (now (t .exit))
-        ≡ stepListOf inverse (lentOf (now (velocities .entry)) (now (marks .entry)) (now (grid .entry))) (entryAt (now (s .entry)) i) (flatOf (now (x .entry)) (now (y .entry)) (now (z .entry)) (now (t .entry))))
-        × (r ≡ stepTallyOf inverse (lentOf (now (velocities .entry)) (now (marks .entry)) (now (grid .entry))) (entryAt (now (s .entry)) i) (flatOf (now (x .entry)) (now (y .entry)) (now (z .entry)) (now (t .entry)))) ⌝ }
+        ≡ stepListOf inverse (lentOf (now (velocities .entry)) (now (marks .entry)) (now (grid .entry))) (linkAt (now (s .entry)) i) (flatOf (now (x .entry)) (now (y .entry)) (now (z .entry)) (now (t .entry))))
+        × (r ≡ stepTallyOf inverse (lentOf (now (velocities .entry)) (now (marks .entry)) (now (grid .entry))) (linkAt (now (s .entry)) i) (flatOf (now (x .entry)) (now (y .entry)) (now (z .entry)) (now (t .entry)))) ⌝ }
 {
     let plan = sheet_plans::plan_at(inverse, s, i);
     let from = plans::start(plan);
@@ -84,8 +84,8 @@ fn forward(
 ) -> [Tally; 16]
     requires { ⌜ (n ≤ 16) × (n ≡ stepCountOf (now s)) × Level (now x) (now y) (now z) (now t) × (length (now x) ≤ 2048) ⌝ }
     ensures { λ r. ⌜ (flatOf (now (x .exit)) (now (y .exit)) (now (z .exit)) (now (t .exit))
-        ≡ chainForwardOf (lentOf (now (velocities .entry)) (now (marks .entry)) (now (grid .entry))) (entriesOf (entryAt (now (s .entry))) n 0) (flatOf (now (x .entry)) (now (y .entry)) (now (z .entry)) (now (t .entry))) .list)
-        × (r ≡ placesOf (chainForwardOf (lentOf (now (velocities .entry)) (now (marks .entry)) (now (grid .entry))) (entriesOf (entryAt (now (s .entry))) n 0) (flatOf (now (x .entry)) (now (y .entry)) (now (z .entry)) (now (t .entry))) .tallies)) ⌝ }
+        ≡ chainForwardOf (lentOf (now (velocities .entry)) (now (marks .entry)) (now (grid .entry))) (entriesOf (linkAt (now (s .entry))) n 0) (flatOf (now (x .entry)) (now (y .entry)) (now (z .entry)) (now (t .entry))) .list)
+        × (r ≡ placesOf (chainForwardOf (lentOf (now (velocities .entry)) (now (marks .entry)) (now (grid .entry))) (entriesOf (linkAt (now (s .entry))) n 0) (flatOf (now (x .entry)) (now (y .entry)) (now (z .entry)) (now (t .entry))) .tallies)) ⌝ }
 {
     let mut tallies = [tally::none(); 16];
     let mut i = 0;
@@ -110,8 +110,8 @@ fn backward(
 ) -> [Tally; 16]
     requires { ⌜ (n ≤ 16) × (n ≡ stepCountOf (now s)) × Level (now x) (now y) (now z) (now t) × (length (now x) ≤ 2048) ⌝ }
     ensures { λ r. ⌜ (flatOf (now (x .exit)) (now (y .exit)) (now (z .exit)) (now (t .exit))
-        ≡ chainInverseOf (lentOf (now (velocities .entry)) (now (marks .entry)) (now (grid .entry))) (entriesOf (entryAt (now (s .entry))) n 0) (flatOf (now (x .entry)) (now (y .entry)) (now (z .entry)) (now (t .entry))) .list)
-        × (r ≡ placesOf (chainInverseOf (lentOf (now (velocities .entry)) (now (marks .entry)) (now (grid .entry))) (entriesOf (entryAt (now (s .entry))) n 0) (flatOf (now (x .entry)) (now (y .entry)) (now (z .entry)) (now (t .entry))) .tallies)) ⌝ }
+        ≡ chainInverseOf (lentOf (now (velocities .entry)) (now (marks .entry)) (now (grid .entry))) (entriesOf (linkAt (now (s .entry))) n 0) (flatOf (now (x .entry)) (now (y .entry)) (now (z .entry)) (now (t .entry))) .list)
+        × (r ≡ placesOf (chainInverseOf (lentOf (now (velocities .entry)) (now (marks .entry)) (now (grid .entry))) (entriesOf (linkAt (now (s .entry))) n 0) (flatOf (now (x .entry)) (now (y .entry)) (now (z .entry)) (now (t .entry))) .tallies)) ⌝ }
 {
     let mut tallies = [tally::none(); 16];
     let mut i = n;
@@ -138,8 +138,8 @@ fn over_columns(
 ) -> [Tally; 16]
     requires { ⌜ (n ≤ 16) × (n ≡ stepCountOf (now s)) × Level (now x) (now y) (now z) (now t) × (length (now x) ≤ 2048) ⌝ }
     ensures { λ r. ⌜ (flatOf (now (x .exit)) (now (y .exit)) (now (z .exit)) (now (t .exit))
-        ≡ chainOf inverse (lentOf (now (velocities .entry)) (now (marks .entry)) (now (grid .entry))) (entriesOf (entryAt (now (s .entry))) n 0) (flatOf (now (x .entry)) (now (y .entry)) (now (z .entry)) (now (t .entry))) .list)
-        × (r ≡ placesOf (chainOf inverse (lentOf (now (velocities .entry)) (now (marks .entry)) (now (grid .entry))) (entriesOf (entryAt (now (s .entry))) n 0) (flatOf (now (x .entry)) (now (y .entry)) (now (z .entry)) (now (t .entry))) .tallies)) ⌝ }
+        ≡ chainOf inverse (lentOf (now (velocities .entry)) (now (marks .entry)) (now (grid .entry))) (entriesOf (linkAt (now (s .entry))) n 0) (flatOf (now (x .entry)) (now (y .entry)) (now (z .entry)) (now (t .entry))) .list)
+        × (r ≡ placesOf (chainOf inverse (lentOf (now (velocities .entry)) (now (marks .entry)) (now (grid .entry))) (entriesOf (linkAt (now (s .entry))) n 0) (flatOf (now (x .entry)) (now (y .entry)) (now (z .entry)) (now (t .entry))) .tallies)) ⌝ }
 {
     if inverse {
         return backward(s, n, x, y, z, t, velocities, marks, grid);
@@ -164,8 +164,8 @@ fn through(
     grid: &[u8],
 ) -> [Tally; 16]
     requires { ⌜ (n ≤ 16) × (n ≡ stepCountOf (now s)) × Level (now x) (now y) (now z) (now t) × (length (now list) ≡ 4 * length (now x)) × (length (now x) ≤ 16) ⌝ }
-    ensures { λ r. ⌜ (now (list .exit) ≡ chainOf inverse (lentOf (now (velocities .entry)) (now (marks .entry)) (now (grid .entry))) (entriesOf (entryAt (now (s .entry))) n 0) (now (list .entry)) .list)
-        × (r ≡ placesOf (chainOf inverse (lentOf (now (velocities .entry)) (now (marks .entry)) (now (grid .entry))) (entriesOf (entryAt (now (s .entry))) n 0) (now (list .entry)) .tallies)) ⌝ }
+    ensures { λ r. ⌜ (now (list .exit) ≡ chainOf inverse (lentOf (now (velocities .entry)) (now (marks .entry)) (now (grid .entry))) (entriesOf (linkAt (now (s .entry))) n 0) (now (list .entry)) .list)
+        × (r ≡ placesOf (chainOf inverse (lentOf (now (velocities .entry)) (now (marks .entry)) (now (grid .entry))) (entriesOf (linkAt (now (s .entry))) n 0) (now (list .entry)) .tallies)) ⌝ }
 {
     columns::to_columns(list, x, y, z, t);
     let tallies = over_columns(inverse, s, n, x, y, z, t, velocities, marks, grid);
@@ -191,8 +191,8 @@ fn short(
     grid: &[u8],
 ) -> [Tally; 16]
     requires { ⌜ (n ≤ 16) × (n ≡ stepCountOf (now s)) × (length (now list) % 4 ≡ 0) × (length (now list) ≤ 64) ⌝ }
-    ensures { λ r. ⌜ (now (list .exit) ≡ chainOf inverse (lentOf (now (velocities .entry)) (now (marks .entry)) (now (grid .entry))) (entriesOf (entryAt (now (s .entry))) n 0) (now (list .entry)) .list)
-        × (r ≡ placesOf (chainOf inverse (lentOf (now (velocities .entry)) (now (marks .entry)) (now (grid .entry))) (entriesOf (entryAt (now (s .entry))) n 0) (now (list .entry)) .tallies)) ⌝ }
+    ensures { λ r. ⌜ (now (list .exit) ≡ chainOf inverse (lentOf (now (velocities .entry)) (now (marks .entry)) (now (grid .entry))) (entriesOf (linkAt (now (s .entry))) n 0) (now (list .entry)) .list)
+        × (r ≡ placesOf (chainOf inverse (lentOf (now (velocities .entry)) (now (marks .entry)) (now (grid .entry))) (entriesOf (linkAt (now (s .entry))) n 0) (now (list .entry)) .tallies)) ⌝ }
 {
     let mut x = zeros();
     let mut y = zeros();
@@ -224,8 +224,8 @@ fn alone(
     grid: &[u8],
 ) -> [Tally; 16]
     requires { ⌜ 0 < stepCountOf (now s) ⌝ }
-    ensures { λ r. ⌜ (now (list .exit) ≡ chainOf inverse (lentOf (now (velocities .entry)) (now (marks .entry)) (now (grid .entry))) (entriesOf (entryAt (now (s .entry))) 1 0) (now (list .entry)) .list)
-        × (r ≡ placesOf (chainOf inverse (lentOf (now (velocities .entry)) (now (marks .entry)) (now (grid .entry))) (entriesOf (entryAt (now (s .entry))) 1 0) (now (list .entry)) .tallies)) ⌝ }
+    ensures { λ r. ⌜ (now (list .exit) ≡ chainOf inverse (lentOf (now (velocities .entry)) (now (marks .entry)) (now (grid .entry))) (entriesOf (linkAt (now (s .entry))) 1 0) (now (list .entry)) .list)
+        × (r ≡ placesOf (chainOf inverse (lentOf (now (velocities .entry)) (now (marks .entry)) (now (grid .entry))) (entriesOf (linkAt (now (s .entry))) 1 0) (now (list .entry)) .tallies)) ⌝ }
 {
     let plan = sheet_plans::plan_at(inverse, s, 0);
     let tally = step_windows::over(plan, list, velocities, marks, grid);
@@ -245,8 +245,8 @@ fn over_list(
     grid: &[u8],
 ) -> [Tally; 16]
     requires { ⌜ (n ≤ 16) × (n ≡ stepCountOf (now s)) × (length (now list) % 4 ≡ 0) × (length (now list) ≤ 8192) ⌝ }
-    ensures { λ r. ⌜ (now (list .exit) ≡ chainOf inverse (lentOf (now (velocities .entry)) (now (marks .entry)) (now (grid .entry))) (entriesOf (entryAt (now (s .entry))) n 0) (now (list .entry)) .list)
-        × (r ≡ placesOf (chainOf inverse (lentOf (now (velocities .entry)) (now (marks .entry)) (now (grid .entry))) (entriesOf (entryAt (now (s .entry))) n 0) (now (list .entry)) .tallies)) ⌝ }
+    ensures { λ r. ⌜ (now (list .exit) ≡ chainOf inverse (lentOf (now (velocities .entry)) (now (marks .entry)) (now (grid .entry))) (entriesOf (linkAt (now (s .entry))) n 0) (now (list .entry)) .list)
+        × (r ≡ placesOf (chainOf inverse (lentOf (now (velocities .entry)) (now (marks .entry)) (now (grid .entry))) (entriesOf (linkAt (now (s .entry))) n 0) (now (list .entry)) .tallies)) ⌝ }
 {
     if list.len() <= 64 {
         return short(inverse, s, n, list, velocities, marks, grid);
@@ -276,8 +276,8 @@ fn list_without_grid(
     marks: &[u8],
 ) -> [Tally; 16]
     requires { ⌜ (n ≤ 16) × (n ≡ stepCountOf (now s)) × (length (now list) % 4 ≡ 0) × (length (now list) ≤ 8192) ⌝ }
-    ensures { λ r. ⌜ (now (list .exit) ≡ chainOf inverse (lentOf (now (velocities .entry)) (now (marks .entry)) []) (entriesOf (entryAt (now (s .entry))) n 0) (now (list .entry)) .list)
-        × (r ≡ placesOf (chainOf inverse (lentOf (now (velocities .entry)) (now (marks .entry)) []) (entriesOf (entryAt (now (s .entry))) n 0) (now (list .entry)) .tallies)) ⌝ }
+    ensures { λ r. ⌜ (now (list .exit) ≡ chainOf inverse (lentOf (now (velocities .entry)) (now (marks .entry)) []) (entriesOf (linkAt (now (s .entry))) n 0) (now (list .entry)) .list)
+        × (r ≡ placesOf (chainOf inverse (lentOf (now (velocities .entry)) (now (marks .entry)) []) (entriesOf (linkAt (now (s .entry))) n 0) (now (list .entry)) .tallies)) ⌝ }
 {
     let none = no_grid(s);
     over_list(inverse, s, n, list, velocities, marks, none)
@@ -296,8 +296,8 @@ fn columns_without_grid(
 ) -> [Tally; 16]
     requires { ⌜ (n ≤ 16) × (n ≡ stepCountOf (now s)) × Level (now x) (now y) (now z) (now t) × (length (now x) ≤ 2048) ⌝ }
     ensures { λ r. ⌜ (flatOf (now (x .exit)) (now (y .exit)) (now (z .exit)) (now (t .exit))
-        ≡ chainOf inverse (lentOf (now (velocities .entry)) (now (marks .entry)) []) (entriesOf (entryAt (now (s .entry))) n 0) (flatOf (now (x .entry)) (now (y .entry)) (now (z .entry)) (now (t .entry))) .list)
-        × (r ≡ placesOf (chainOf inverse (lentOf (now (velocities .entry)) (now (marks .entry)) []) (entriesOf (entryAt (now (s .entry))) n 0) (flatOf (now (x .entry)) (now (y .entry)) (now (z .entry)) (now (t .entry))) .tallies)) ⌝ }
+        ≡ chainOf inverse (lentOf (now (velocities .entry)) (now (marks .entry)) []) (entriesOf (linkAt (now (s .entry))) n 0) (flatOf (now (x .entry)) (now (y .entry)) (now (z .entry)) (now (t .entry))) .list)
+        × (r ≡ placesOf (chainOf inverse (lentOf (now (velocities .entry)) (now (marks .entry)) []) (entriesOf (linkAt (now (s .entry))) n 0) (flatOf (now (x .entry)) (now (y .entry)) (now (z .entry)) (now (t .entry))) .tallies)) ⌝ }
 {
     let none = no_grid(s);
     over_columns(inverse, s, n, x, y, z, t, velocities, marks, none)

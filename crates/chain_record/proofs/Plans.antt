@@ -7,30 +7,30 @@ use mathlib.Core.List.{List}
 use lib.Ieee.{Float}
 use Rattle.lists.specs.Run.{ranOf}
 use Rattle.bodies.specs.declared.Step.{Step}
-use Rattle.sheet.specs.declared.Entry.{Entry}
+use Rattle.ellipsoid.specs.declared.Axes.{Axes}
 use Rattle.plans.specs.declared.Plan.{Plan}
 use Rattle.plans.specs.Lent.{Lent}
 use Rattle.plans.specs.Passes.{Pass, tallyOf}
 use Rattle.plans.specs.Plans.{planOf, planTurnsOf, planPassOf, planStartOf}
-use Rattle.chain.specs.Chain.{passOf, stateOf, reversedOf, stepListOf, tuplesCountedOf, tuplesMetOf, stepTallyOf}
+use Rattle.chain.specs.Chain.{Link, passOf, stateOf, reversedOf, stepListOf, tuplesCountedOf, tuplesMetOf, stepTallyOf}
 use Rattle.chain.proofs.Windows.{plan-turns, plan-met, plan-start}
 
-pass-of : (lent : Lent) (reversed : Bool) (step : Step) → planPassOf lent (planOf reversed step) ≡ passOf reversed lent step
-pass-of lent reversed step =
-    let et = plan-turns lent reversed step in
-    let em = plan-met reversed lent step in
+pass-of : (lent : Lent) (reversed : Bool) (own : List Axes) (step : Step) → planPassOf lent (planOf reversed own step) ≡ passOf reversed lent own step
+pass-of lent reversed own step =
+    let et = plan-turns lent reversed own step in
+    let em = plan-met reversed lent own step in
     λ j. record { turns = et j; met = em j }
 
-module _ (inverse : Bool) (lent : Lent) (e : Entry) (l : List Float) {reversed : Bool} {plan : Plan}
-    (turned : reversed ≡ reversedOf inverse e) (there : plan ≡ planOf reversed (e .step)) where
-  this : plan ≡ planOf (reversedOf inverse e) (e .step)
-  this = there ∙ ap (λ (b : Bool). planOf b (e .step)) turned
+module _ (inverse : Bool) (lent : Lent) (e : Link) (l : List Float) {reversed : Bool} {plan : Plan}
+    (turned : reversed ≡ reversedOf inverse (e .entry)) (there : plan ≡ planOf reversed (e .own) (e .entry .step)) where
+  this : plan ≡ planOf (reversedOf inverse (e .entry)) (e .own) (e .entry .step)
+  this = there ∙ ap (λ (b : Bool). planOf b (e .own) (e .entry .step)) turned
 
-  pass : planPassOf lent plan ≡ passOf (reversedOf inverse e) lent (e .step)
-  pass = ap (planPassOf lent) this ∙ pass-of lent (reversedOf inverse e) (e .step)
+  pass : planPassOf lent plan ≡ passOf (reversedOf inverse (e .entry)) lent (e .own) (e .entry .step)
+  pass = ap (planPassOf lent) this ∙ pass-of lent (reversedOf inverse (e .entry)) (e .own) (e .entry .step)
 
-  start : planStartOf plan ≡ stateOf (e .step)
-  start = ap planStartOf this ∙ plan-start (reversedOf inverse e) (e .step)
+  start : planStartOf plan ≡ stateOf (e .entry .step)
+  start = ap planStartOf this ∙ plan-start (reversedOf inverse (e .entry)) (e .own) (e .entry .step)
 
   pub plan-list : ranOf (planTurnsOf lent plan) 0 (planStartOf plan) l ≡ stepListOf inverse lent e l
   unfolding stepListOf

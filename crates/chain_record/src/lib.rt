@@ -8,33 +8,37 @@
 ghost use mathlib.Core.Path.{_≡_};
 ghost use mathlib.Core.List.{[]};
 ghost use Prim.Native.Nat.{_≤_};
-ghost use Rattle.sheet.specs.Layout.{entryOf, kindIn};
+ghost use lib.ListN.{take};
+ghost use Rattle.sheet.specs.Layout.{kindIn};
 ghost use Rattle.sheet.specs.Rules.{hasDeformation};
 ghost use Rattle.plans.specs.Lent.{lentOf};
-ghost use Rattle.chain.specs.Chain.{stepListOf, stepTallyOf, chainForwardOf, chainInverseOf, chainOf, placesOf, entriesOf};
+ghost use Rattle.chain.specs.Chain.{linkOf, stepListOf, stepTallyOf, chainForwardOf, chainInverseOf, chainOf, placesOf, entriesOf};
 ghost use Rattle.chain.specs.Rules.{outcome};
 ghost use Rattle.chain_record.specs.Record.{shiftRecordOf, shiftRecordGridOf};
 use chain::Answer;
+use ellipsoid::Axes;
 use sheet::Entry;
 use sheet::Refusal;
 use sheet::Sheet;
 use tally::Tally;
 
-// One step over the list, a window of it at a time.
+// One step over the list, a window of it at a time, on its sheet's own rows.
 fn run_step(
     inverse: bool,
     entry: Entry,
+    own: u32,
+    rows: [Axes; 8],
     list: &mut [f64],
     velocities: &[f64],
     marks: &[u8],
     grid: &[u8],
 ) -> Tally
-    ensures { λ r. ⌜ (now (list .exit) ≡ stepListOf inverse (lentOf (now (velocities .entry)) (now (marks .entry)) (now (grid .entry))) entry (now (list .entry)))
-        × (r ≡ stepTallyOf inverse (lentOf (now (velocities .entry)) (now (marks .entry)) (now (grid .entry))) entry (now (list .entry))) ⌝ }
+    ensures { λ r. ⌜ (now (list .exit) ≡ stepListOf inverse (lentOf (now (velocities .entry)) (now (marks .entry)) (now (grid .entry))) (record { entry = entry; own = take own rows }) (now (list .entry)))
+        × (r ≡ stepTallyOf inverse (lentOf (now (velocities .entry)) (now (marks .entry)) (now (grid .entry))) (record { entry = entry; own = take own rows }) (now (list .entry))) ⌝ }
 {
     let inv = chain::reversed(inverse, entry);
     let step = entry.step;
-    let plan = plans::plan_of_step(inv, step);
+    let plan = plans::plan_of_step(inv, own, rows, step);
     step_windows::over(plan, list, velocities, marks, grid)
 }
 
@@ -47,14 +51,14 @@ fn forward_record(
     grid: &[u8],
 ) -> [Tally; 16]
     requires { ⌜ n ≤ 16 ⌝ }
-    ensures { λ r. ⌜ (now (list .exit) ≡ chainForwardOf (lentOf (now (velocities .entry)) (now (marks .entry)) (now (grid .entry))) (entriesOf (entryOf kept) n 0) (now (list .entry)) .list)
-        × (r ≡ placesOf (chainForwardOf (lentOf (now (velocities .entry)) (now (marks .entry)) (now (grid .entry))) (entriesOf (entryOf kept) n 0) (now (list .entry)) .tallies)) ⌝ }
+    ensures { λ r. ⌜ (now (list .exit) ≡ chainForwardOf (lentOf (now (velocities .entry)) (now (marks .entry)) (now (grid .entry))) (entriesOf (linkOf kept) n 0) (now (list .entry)) .list)
+        × (r ≡ placesOf (chainForwardOf (lentOf (now (velocities .entry)) (now (marks .entry)) (now (grid .entry))) (entriesOf (linkOf kept) n 0) (now (list .entry)) .tallies)) ⌝ }
 {
     let mut tallies = [tally::none(); 16];
     let mut i = 0;
     while i < n {
         let entry = kept.entries[i];
-        let tally = run_step(false, entry, list, velocities, marks, grid);
+        let tally = run_step(false, entry, kept.own, kept.rows, list, velocities, marks, grid);
         tallies[i] = tally;
         i += 1;
     }
@@ -70,15 +74,15 @@ fn backward_record(
     grid: &[u8],
 ) -> [Tally; 16]
     requires { ⌜ n ≤ 16 ⌝ }
-    ensures { λ r. ⌜ (now (list .exit) ≡ chainInverseOf (lentOf (now (velocities .entry)) (now (marks .entry)) (now (grid .entry))) (entriesOf (entryOf kept) n 0) (now (list .entry)) .list)
-        × (r ≡ placesOf (chainInverseOf (lentOf (now (velocities .entry)) (now (marks .entry)) (now (grid .entry))) (entriesOf (entryOf kept) n 0) (now (list .entry)) .tallies)) ⌝ }
+    ensures { λ r. ⌜ (now (list .exit) ≡ chainInverseOf (lentOf (now (velocities .entry)) (now (marks .entry)) (now (grid .entry))) (entriesOf (linkOf kept) n 0) (now (list .entry)) .list)
+        × (r ≡ placesOf (chainInverseOf (lentOf (now (velocities .entry)) (now (marks .entry)) (now (grid .entry))) (entriesOf (linkOf kept) n 0) (now (list .entry)) .tallies)) ⌝ }
 {
     let mut tallies = [tally::none(); 16];
     let mut i = n;
     while 0 < i {
         i -= 1;
         let entry = kept.entries[i];
-        let tally = run_step(true, entry, list, velocities, marks, grid);
+        let tally = run_step(true, entry, kept.own, kept.rows, list, velocities, marks, grid);
         tallies[i] = tally;
     }
     tallies
@@ -95,8 +99,8 @@ fn over_record(
     grid: &[u8],
 ) -> [Tally; 16]
     requires { ⌜ n ≤ 16 ⌝ }
-    ensures { λ r. ⌜ (now (list .exit) ≡ chainOf inverse (lentOf (now (velocities .entry)) (now (marks .entry)) (now (grid .entry))) (entriesOf (entryOf kept) n 0) (now (list .entry)) .list)
-        × (r ≡ placesOf (chainOf inverse (lentOf (now (velocities .entry)) (now (marks .entry)) (now (grid .entry))) (entriesOf (entryOf kept) n 0) (now (list .entry)) .tallies)) ⌝ }
+    ensures { λ r. ⌜ (now (list .exit) ≡ chainOf inverse (lentOf (now (velocities .entry)) (now (marks .entry)) (now (grid .entry))) (entriesOf (linkOf kept) n 0) (now (list .entry)) .list)
+        × (r ≡ placesOf (chainOf inverse (lentOf (now (velocities .entry)) (now (marks .entry)) (now (grid .entry))) (entriesOf (linkOf kept) n 0) (now (list .entry)) .tallies)) ⌝ }
 {
     if inverse {
         return backward_record(kept, n, list, velocities, marks, grid);
@@ -114,8 +118,8 @@ fn record_without_grid(
     marks: &[u8],
 ) -> [Tally; 16]
     requires { ⌜ n ≤ 16 ⌝ }
-    ensures { λ r. ⌜ (now (list .exit) ≡ chainOf inverse (lentOf (now (velocities .entry)) (now (marks .entry)) []) (entriesOf (entryOf kept) n 0) (now (list .entry)) .list)
-        × (r ≡ placesOf (chainOf inverse (lentOf (now (velocities .entry)) (now (marks .entry)) []) (entriesOf (entryOf kept) n 0) (now (list .entry)) .tallies)) ⌝ }
+    ensures { λ r. ⌜ (now (list .exit) ≡ chainOf inverse (lentOf (now (velocities .entry)) (now (marks .entry)) []) (entriesOf (linkOf kept) n 0) (now (list .entry)) .list)
+        × (r ≡ placesOf (chainOf inverse (lentOf (now (velocities .entry)) (now (marks .entry)) []) (entriesOf (linkOf kept) n 0) (now (list .entry)) .tallies)) ⌝ }
 {
     let none = chain::no_grid(marks);
     over_record(inverse, kept, n, list, velocities, marks, none)
@@ -147,7 +151,7 @@ pub fn shift_record(
 ) -> Answer
     ensures { λ r. ⌜ outcome r (now (list .exit)) ≡ shiftRecordOf inverse kept (now (list .entry)) (now (velocities .entry)) (now (marks .entry)) ⌝ }
 {
-    let own = sheet_writer::check_record(kept, 4240); // any sheet fits
+    let own = sheet_writer::check_record(kept, 4376); // any sheet fits
     if own.number != 0 {
         return chain::refused(own);
     }
@@ -173,7 +177,7 @@ pub fn shift_record_grid(
 ) -> Answer
     ensures { λ r. ⌜ outcome r (now (list .exit)) ≡ shiftRecordGridOf inverse kept (now (list .entry)) (now (velocities .entry)) (now (marks .entry)) (now (grid .entry)) ⌝ }
 {
-    let own = sheet_writer::check_record(kept, 4240); // with a grid too
+    let own = sheet_writer::check_record(kept, 4376); // with a grid too
     if own.number != 0 {
         return chain::refused(own);
     }

@@ -7,13 +7,12 @@ use mathlib.Core.List.{List, [], _∷_, _++_}
 use lib.Dec.{eqb, ltb}
 use lib.ListN.{length, drop}
 use lib.Ieee.{Float}
-use Rattle.sheet.specs.declared.Entry.{Entry}
 use Rattle.sheet.specs.declared.Refusal.{Refusal}
-use Rattle.sheet.specs.Layout.{stepCountOf, kindAt, entryAt}
+use Rattle.sheet.specs.Layout.{stepCountOf, kindAt}
 use Rattle.sheet.specs.Rules.{Rule, rule, ofCall, firstBroken, hasDeformation}
 use Rattle.profile.specs.Profile.{profileOrder}
 use Rattle.plans.specs.Lent.{lentOf}
-use Rattle.chain.specs.Chain.{chainOf, entriesOf}
+use Rattle.chain.specs.Chain.{linkAt, Link, chainOf, entriesOf}
 use Rattle.chain.specs.Rules.{refusal9, refusal10}
 use Rattle.closure_report.specs.declared.Report.{Report}
 use Rattle.closure_report.specs.Report.{Pair, addedOf}
@@ -22,8 +21,8 @@ use Rattle.closure_run.specs.declared.Closed.{Closed}
 -- ---- there and back
 
 -- a sheet's steps
-abbrev pub stepsOf : List ℕ → List Entry
-stepsOf s = entriesOf (entryAt s) (stepCountOf s) 0
+abbrev pub stepsOf : List ℕ → List Link
+stepsOf s = entriesOf (linkAt s) (stepCountOf s) 0
 
 -- The list after the chain forward, and that list after the chain inverse. Velocities and marks
 -- serve both ways, and no state goes over from the way there to the way back.

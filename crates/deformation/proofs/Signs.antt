@@ -9,6 +9,7 @@ use mathlib.Core.Bool.{Bool, true, false, not, cond}
 use lib.Dec.{eqb}
 use Rattle.tuple.specs.declared.Tuple.{Tuple}
 use Rattle.tuple.specs.declared.Shifted.{Shifted}
+use Rattle.ellipsoid.specs.declared.Ellipsoid.{Ellipsoid}
 use Rattle.deformation.specs.declared.Deformation.{Deformation}
 use Rattle.deformation.specs.declared.Motion.{Motion}
 use Rattle.deformation.specs.declared.Velocity.{Velocity}
@@ -21,10 +22,10 @@ either : (flag : Bool) (op : Motion) (inverse : Bool) (v : Velocity) (mark : ℕ
 either true op inverse v mark cart = refl
 either false op inverse v mark cart = refl
 
-pub directed-step : (r : Deformation) (inverse : Bool) (v : Velocity) (mark : ℕ) (cart : Tuple)
-    → recordStepOf r inverse v mark cart ≡ commonOf (motionOf r) (directedOf r inverse) v mark cart
+pub directed-step : (e : Ellipsoid) (r : Deformation) (inverse : Bool) (v : Velocity) (mark : ℕ) (cart : Tuple)
+    → recordStepOf e r inverse v mark cart ≡ commonOf (motionOf e r) (directedOf r inverse) v mark cart
 unfolding recordStepOf directedOf
-directed-step r inverse v mark cart = either (byCommentOf r) (motionOf r) inverse v mark cart
+directed-step e r inverse v mark cart = either (byCommentOf r) (motionOf e r) inverse v mark cart
 
 -- ---- the flag set
 
@@ -41,9 +42,9 @@ off n h = omega arith
 on : (n : ℕ) → n < 2 → (n + 2) / 2 % 2 ≡ 1
 on n h = omega arith
 
-pub motion-stays : (r : Deformation) → motionOf (flagged r) ≡ motionOf r
+pub motion-stays : (e : Ellipsoid) (r : Deformation) → motionOf e (flagged r) ≡ motionOf e r
 unfolding motionOf flagged
-motion-stays r = rw (raw-stays (r .flags))
+motion-stays e r = rw (raw-stays (r .flags))
 
 pub plain-direction : (r : Deformation) (inverse : Bool) → r .flags < 2 → directedOf r inverse ≡ inverse
 unfolding directedOf
@@ -53,13 +54,13 @@ pub flagged-direction : (r : Deformation) (inverse : Bool) → r .flags < 2 → 
 unfolding directedOf flagged
 flagged-direction r inverse h = rw (on (r .flags) h)
 
-pub comment-sign-is-the-other-direction : (r : Deformation) → r .flags < 2 → (inverse : Bool) (v : Velocity) (mark : ℕ) (cart : Tuple)
-    → recordStepOf (flagged r) inverse v mark cart ≡ recordStepOf r (not inverse) v mark cart
-comment-sign-is-the-other-direction r h inverse v mark cart =
+pub comment-sign-is-the-other-direction : (e : Ellipsoid) (r : Deformation) → r .flags < 2 → (inverse : Bool) (v : Velocity) (mark : ℕ) (cart : Tuple)
+    → recordStepOf e (flagged r) inverse v mark cart ≡ recordStepOf e r (not inverse) v mark cart
+comment-sign-is-the-other-direction e r h inverse v mark cart =
     rw (
-      directed-step (flagged r) inverse v mark cart,
-      directed-step r (not inverse) v mark cart,
-      motion-stays r,
+      directed-step e (flagged r) inverse v mark cart,
+      directed-step e r (not inverse) v mark cart,
+      motion-stays e r,
       flagged-direction r inverse h,
       plain-direction r (not inverse) h,
     )

@@ -30,8 +30,8 @@ abbrev pub finiteOrNot : Float → Bool
 finiteOrNot x = finite x || isNan x
 
 -- rule 5
-abbrev pub inRuleOf : Deformation → Bool
-inRuleOf r = ltb (r .flags) 4 && existsOf (r .ellipsoid) && finiteOrNot (r .dt) && finiteOrNot (r .epoch)
+abbrev pub inRuleOf : ℕ → Deformation → Bool
+inRuleOf known r = ltb (r .flags) 4 && existsOf known (r .ellipsoid) && finiteOrNot (r .dt) && finiteOrNot (r .epoch)
 
 -- rule 8: neither dt nor t_epoch
 abbrev pub neitherOf : Deformation → Bool

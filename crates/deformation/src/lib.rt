@@ -85,12 +85,12 @@ impl Deformation {
     }
 
     // Rule 5.
-    pub fn in_rule(self) -> bool
-        ensures { λ r. ⌜ r ≡ inRuleOf self ⌝ }
+    pub fn in_rule(self, known: u32) -> bool
+        ensures { λ r. ⌜ r ≡ inRuleOf known self ⌝ }
     {
         let flags = self.flags;
         if flags < 4 {
-            if Ellipsoid::exists(self.ellipsoid) {
+            if Ellipsoid::exists(known, self.ellipsoid) {
                 if finite_or_not(self.dt) {
                     return finite_or_not(self.epoch);
                 }
@@ -125,11 +125,12 @@ pub fn metre(inverse: bool) -> f64
 }
 
 impl Motion {
-    pub fn new(step: Deformation) -> Self
-        ensures { λ r. ⌜ r ≡ motionOf step ⌝ }
+    // On the ellipsoid that the record's number names.
+    pub fn new(ellps: Ellipsoid, step: Deformation) -> Self
+        ensures { λ r. ⌜ r ≡ motionOf ellps step ⌝ }
     {
         Motion {
-            ellps: Ellipsoid::named(step.ellipsoid),
+            ellps: ellps,
             dt: step.dt,
             epoch: step.epoch,
             raw: step.raw(),

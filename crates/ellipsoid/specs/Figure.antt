@@ -1,12 +1,12 @@
 -- Document 01, "Kernels and ellipsoids": the ellipsoid's record, the table of five, the radii of
--- curvature and the geocentric latitude. Each formula is a sequence of single roundings, in the
+-- curvature and the geocentric latitude; document 02, A8: a sheet's own rows after the table's. Each formula is a sequence of single roundings, in the
 -- order that it is written here.
-use Prim.Native.Nat.{ℕ, zero, suc}
-use mathlib.Core.List.{List, [], _∷_}
-use mathlib.Core.Bool.{Bool, false, cond}
+use Prim.Native.Nat.{ℕ, zero, suc, _+_}
+use mathlib.Core.List.{List, [], _∷_, _++_}
+use mathlib.Core.Bool.{Bool, false, cond, _&&_}
 use lib.Dec.{leb}
 use lib.ListN.{getD, length}
-use lib.Ieee.{Float, nan}
+use lib.Ieee.{Float, nan, le}
 use Rattle.floats.specs.Binary64.{_⊕_, _⊖_, _⊗_, _⊘_, bits}
 use Rattle.floats.specs.Number.{squareOf}
 use Rattle.root.specs.Sqrt.{sqrtOf}
@@ -14,6 +14,7 @@ use Rattle.trig.specs.Trig.{sinCosOf, sinOf, cosOf}
 use Rattle.arctan.specs.Arctan.{atan2Of}
 use Rattle.ellipsoid.specs.declared.Ellipsoid.{Ellipsoid}
 use Rattle.ellipsoid.specs.declared.Radii.{Radii}
+use Rattle.ellipsoid.specs.declared.Axes.{Axes}
 
 abbrev pub one : Float
 one = bits 0x3ff0_0000_0000_0000
@@ -29,12 +30,7 @@ ellipsoidOf a rf =
     let es = f ⊗ (two ⊖ f) in
     record { a = a; f = f; es = es; b = a ⊗ (one ⊖ f); eps = es ⊘ (one ⊖ es) }
 
--- A row of the table: the semimajor axis, and one over the flattening.
-pub record Axes : Type 0 where
-  pub a : Float
-  pub rf : Float
-
--- The table, from number 1 on.
+-- The table, from number 1 on. A row: the semimajor axis, and one over the flattening.
 abbrev pub table : List Axes
 table =
     -- GRS80: 6378137, 298.257222101
@@ -58,12 +54,34 @@ abbrev pub axesOf : ℕ → Axes
 axesOf zero = noAxes
 axesOf (suc n) = getD table n noAxes
 
--- whether the table has this number
-abbrev pub existsOf : ℕ → Bool
-existsOf n = cond (leb 1 n) (leb n (length table)) false
-
 unfoldable pub namedOf : ℕ → Ellipsoid
 namedOf n = ellipsoidOf (axesOf n .a) (axesOf n .rf)
+
+-- ---- own ellipsoids (document 02, A8)
+
+-- A sheet's own rows go on where the table ends: number 6 names the first of them.
+abbrev pub axesAmong : List Axes → ℕ → Axes
+axesAmong own zero = noAxes
+axesAmong own (suc n) = getD (table ++ own) n noAxes
+
+-- the ellipsoid of a number among the table's and a sheet's own
+unfoldable pub amongOf : List Axes → ℕ → Ellipsoid
+amongOf own n = ellipsoidOf (axesAmong own n .a) (axesAmong own n .rf)
+
+-- how many ellipsoids are known where a sheet has so many of its own
+abbrev pub knownOf : ℕ → ℕ
+knownOf own = length table + own
+
+-- whether a number names one of so many
+abbrev pub existsOf : ℕ → ℕ → Bool
+existsOf known n = cond (leb 1 n) (leb n known) false
+
+abbrev pub billion : Float
+billion = bits 0x41cd_cd65_0000_0000
+
+-- a row's rule: a from 1 to 1e9, 1/f from 2 to 1e9, the bounds included; a NaN is in neither
+unfoldable pub axesInRuleOf : Axes → Bool
+axesInRuleOf r = le one (r .a) && le (r .a) billion && le two (r .rf) && le (r .rf) billion
 
 -- w = 1 - es·sin²φ, from s = sin φ: the square first, then its product with es, then the
 -- difference.

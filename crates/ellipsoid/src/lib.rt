@@ -1,5 +1,5 @@
-// The ellipsoid: its record of five numbers, the five of document 01's table, the radii of
-// curvature and the geocentric latitude.
+// The ellipsoid: its record of five numbers, the five of document 01's table, a sheet's own rows and
+// their rule (document 02, A8), the radii of curvature and the geocentric latitude.
 //
 // By document 01's formulas, since the Rust files lean on these and do not contain them; the order
 // in which each is rounded stands in specs/Figure.antt. The radii and the geocentric latitude take
@@ -9,7 +9,7 @@
 ghost use mathlib.Core.Path.{_≡_};
 ghost use Prim.Native.Nat.{ℕ};
 ghost use Rattle.blocks.specs.Each.{at, Each};
-ghost use Rattle.ellipsoid.specs.Figure.{ellipsoidOf, namedOf, existsOf, wOf, primeVerticalOf, radiiWith, radiiOf, geocentricOf};
+ghost use Rattle.ellipsoid.specs.Figure.{ellipsoidOf, namedOf, existsOf, axesInRuleOf, wOf, primeVerticalOf, radiiWith, radiiOf, geocentricOf};
 use blocks::WIDTH;
 
 pub struct Ellipsoid {
@@ -18,6 +18,21 @@ pub struct Ellipsoid {
     pub es: f64,
     pub b: f64,
     pub eps: f64,
+}
+
+// A row of a table of ellipsoids: the semimajor axis, and one over the flattening.
+pub struct Axes {
+    pub a: f64,
+    pub rf: f64,
+}
+
+impl Axes {
+    // Rule 20 of a sheet's own row: a from 1 to 1e9 and 1/f from 2 to 1e9. A NaN is in neither.
+    pub fn in_rule(self) -> bool
+        ensures { λ r. ⌜ r ≡ axesInRuleOf self ⌝ }
+    {
+        (1.0 <= self.a) & (self.a <= 1e9) & (2.0 <= self.rf) & (self.rf <= 1e9)
+    }
 }
 
 // Both radii of curvature at one latitude.
@@ -56,11 +71,12 @@ impl Ellipsoid {
         }
     }
 
-    // Whether the table has this number.
-    pub fn exists(number: u32) -> bool
-        ensures { λ r. ⌜ r ≡ existsOf number ⌝ }
+    // Whether a number names one of the ellipsoids that are known: the table's five first, then those
+    // that a sheet has of its own.
+    pub fn exists(known: u32, number: u32) -> bool
+        ensures { λ r. ⌜ r ≡ existsOf known number ⌝ }
     {
-        if 1 <= number { number <= 5 } else { false }
+        if 1 <= number { number <= known } else { false }
     }
 
     // w, from the sine of the latitude.

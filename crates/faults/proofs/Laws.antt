@@ -10,11 +10,12 @@ use borrow.Author.Count.{below-more}
 use borrow.Author.Tests.{eqb-true, eqb-false, ltb-true, ltb-false, le-ltb, eq-eqb}
 use lib.Dec.{eqb, ltb}
 use lib.ListN.{length}
+use Rattle.words.specs.Words.{word32}
 use Rattle.bodies.specs.declared.Step.{Step}
 use Rattle.bodies.specs.Kinds.{lengthOf}
-use Rattle.sheet.specs.Layout.{stepCountOf, totalLengthOf, directoryOffsetOf, directoryEnd, entryOffset, kindAt, invertedAt, offsetAt, lengthAt, stepAt}
+use Rattle.sheet.specs.Layout.{formOf, headerOf, inFormTwo, ownCountOf, stepCountOf, totalLengthOf, directoryOffsetOf, placeAt, tableOf, bodiesOf, kindAt, invertedAt, offsetAt, lengthAt, stepAt}
 use Rattle.sheet.specs.declared.Refusal.{Refusal}
-use Rattle.sheet.specs.Rules.{Rule, ofCall, endBefore, placeBroken, someFrom, refusal1, refusal2, refusal3, refusal4, refusal5At, rulesOfStep, fiveToEight, elevens, readerOrder, firstBroken, refusalOf}
+use Rattle.sheet.specs.Rules.{Rule, rule, ofCall, endBefore, placeBroken, someFrom, refusal1, refusal2, refusal3, refusal4, refusal20, refusal5At, rulesOfStep, fiveToEight, elevens, readerOrder, firstBroken, refusalOf}
 use Rattle.sheet.proofs.Order.{neither, count-kept}
 use Rattle.faults.specs.Faults.{entryFault, firstFault, faultOf}
 
@@ -61,11 +62,12 @@ pub data OutsideInEntry (s : List ℕ) (i : ℕ) : ℕ → Type 0 where
 -- the word of a sheet at an offset is outside its rule, and those that rule 4 asks before it are
 -- not
 pub data Outside (s : List ℕ) : ℕ → Type 0 where
-  directory-offset : (directoryOffsetOf s ≡ 16 → ⊥) → Outside s 12
-  step-count : directoryOffsetOf s ≡ 16 → length s < directoryEnd (stepCountOf s) → Outside s 8
-  entry : directoryOffsetOf s ≡ 16 → directoryEnd (stepCountOf s) ≤ length s
-      → (i k : ℕ) → i < stepCountOf s → ((j : ℕ) → j < i → placeBroken s j ≡ false) → OutsideInEntry s i k → Outside s (entryOffset i + k)
-  total-length : directoryOffsetOf s ≡ 16 → directoryEnd (stepCountOf s) ≤ length s
+  directory-offset : (directoryOffsetOf s ≡ headerOf (formOf s) → ⊥) → Outside s 12
+  step-count : directoryOffsetOf s ≡ headerOf (formOf s) → length s < tableOf s → Outside s 8
+  ellipsoid-count : directoryOffsetOf s ≡ headerOf (formOf s) → tableOf s ≤ length s → length s < bodiesOf s → Outside s 16
+  entry : directoryOffsetOf s ≡ headerOf (formOf s) → bodiesOf s ≤ length s
+      → (i k : ℕ) → i < stepCountOf s → ((j : ℕ) → j < i → placeBroken s j ≡ false) → OutsideInEntry s i k → Outside s (placeAt s i + k)
+  total-length : directoryOffsetOf s ≡ headerOf (formOf s) → bodiesOf s ≤ length s
       → ((j : ℕ) → j < stepCountOf s → placeBroken s j ≡ false) → (endBefore s (stepCountOf s) ≡ totalLengthOf s → ⊥) → Outside s 4
 
 -- ---- in an entry
@@ -98,14 +100,14 @@ word-within (OutsideInEntry.body-offset p q r t) = omega arith
 differ : (a b : ℕ) → not (eqb a b) ≡ true → a ≡ b → ⊥
 differ a b p e = true≢false (sym p ∙ ap not (eq-eqb a b e))
 
-module _ (s : List ℕ) (at-16 : directoryOffsetOf s ≡ 16) (inside : directoryEnd (stepCountOf s) ≤ length s) where
+module _ (s : List ℕ) (behind : directoryOffsetOf s ≡ headerOf (formOf s)) (inside : bodiesOf s ≤ length s) where
   turn : (k i : ℕ) → i < stepCountOf s → ((j : ℕ) → j < i → placeBroken s j ≡ false)
       → (placeBroken s i ≡ false → Outside s (firstFault s k (i + 1)))
       → (none : Bool) → eqb (entryFault s i) 16 ≡ none
-      → Outside s (cond none (firstFault s k (i + 1)) (entryOffset i + entryFault s i))
+      → Outside s (cond none (firstFault s k (i + 1)) (placeAt s i + entryFault s i))
   turn k i h before later true e = later (no-fault-in-an-entry s i (eqb-true (entryFault s i) 16 e))
   turn k i h before later false e =
-      Outside.entry at-16 inside i (entryFault s i) h before (fault-in-an-entry s i (eqb-false (entryFault s i) 16 e))
+      Outside.entry behind inside i (entryFault s i) h before (fault-in-an-entry s i (eqb-false (entryFault s i) 16 e))
 
   -- the search over the k entries that are left, those before entry i being in rule
   found : (k i : ℕ) → i + k ≡ stepCountOf s → ((j : ℕ) → j < i → placeBroken s j ≡ false)
@@ -113,36 +115,51 @@ module _ (s : List ℕ) (at-16 : directoryOffsetOf s ≡ 16) (inside : directory
       → Outside s (firstFault s k i)
   unfolding firstFault someFrom
   found zero i e before broken =
-      Outside.total-length at-16 inside (λ j h. before j (omega arith)) (differ (endBefore s (stepCountOf s)) (totalLengthOf s) broken)
+      Outside.total-length behind inside (λ j h. before j (omega arith)) (differ (endBefore s (stepCountOf s)) (totalLengthOf s) broken)
   found (suc k) i e before broken =
       turn k i (omega arith) before
       (λ here. found k (i + 1) (omega arith) (below-more (λ (j : ℕ). placeBroken s j ≡ false) i before here) (rw here at broken))
       (eqb (entryFault s i) 16) refl
 
 module _ (s : List ℕ) where
-  named-by : (a b : Bool) → eqb (directoryOffsetOf s) 16 ≡ a → ltb (length s) (directoryEnd (stepCountOf s)) ≡ b
-      → not a || b || someFrom (placeBroken s) (stepCountOf s) 0 || not (eqb (endBefore s (stepCountOf s)) (totalLengthOf s)) ≡ true
-      → Outside s (cond (not a) 12 (cond b 8 (firstFault s (stepCountOf s) 0)))
-  named-by false b p q broken = Outside.directory-offset (eqb-false _ _ p)
-  named-by true true p q broken = Outside.step-count (eqb-true _ _ p) (ltb-true _ _ q)
-  named-by true false p q broken =
-      found s (eqb-true _ _ p) (ltb-false _ _ q) (stepCountOf s) 0 (zero-add (stepCountOf s)) (λ j h. absurd (omega arith)) broken
+  named-by : (a b c : Bool) → eqb (directoryOffsetOf s) (headerOf (formOf s)) ≡ a → ltb (length s) (tableOf s) ≡ b → ltb (length s) (bodiesOf s) ≡ c
+      → not a || c || someFrom (placeBroken s) (stepCountOf s) 0 || not (eqb (endBefore s (stepCountOf s)) (totalLengthOf s)) ≡ true
+      → Outside s (cond (not a) 12 (cond b 8 (cond c 16 (firstFault s (stepCountOf s) 0))))
+  named-by false b c p q r broken = Outside.directory-offset (eqb-false _ _ p)
+  named-by true true c p q r broken = Outside.step-count (eqb-true _ _ p) (ltb-true _ _ q)
+  named-by true false true p q r broken = Outside.ellipsoid-count (eqb-true _ _ p) (ltb-false _ _ q) (ltb-true _ _ r)
+  named-by true false false p q r broken =
+      found s (eqb-true _ _ p) (ltb-false _ _ r) (stepCountOf s) 0 (zero-add (stepCountOf s)) (λ j h. absurd (omega arith)) broken
 
   named : refusal3 (stepCountOf s) ≡ false → refusal4 s ≡ true → Outside s (faultOf s)
   unfolding refusal4 faultOf
   named three four =
       rw (le-ltb 16 (stepCountOf s) (count-kept (stepCountOf s) three .1))
-      (named-by (eqb (directoryOffsetOf s) 16) (ltb (length s) (directoryEnd (stepCountOf s))) refl refl four)
+      (named-by (eqb (directoryOffsetOf s) (headerOf (formOf s))) (ltb (length s) (tableOf s)) (ltb (length s) (bodiesOf s)) refl refl refl four)
 
-there : {s : List ℕ} {at : ℕ} → 16 ≤ length s → Outside s at → at + 4 ≤ length s
-there h (Outside.directory-offset p) = omega arith
-there h (Outside.step-count p q) = omega arith
-there h (Outside.entry p q i k l before w) = omega (arith, word-within w)
-there h (Outside.total-length p q before e) = omega arith
+-- a header has its four words, and a sheet with a row of its own has six
+four-words : (form : ℕ) (t : Bool) → eqb form 2 ≡ t → 16 ≤ headerOf form
+unfolding headerOf
+four-words form true e = rw e (omega arith)
+four-words form false e = rw e (omega arith)
 
-header-there : (s : List ℕ) → refusal1 s ≡ false → 16 ≤ length s
+six-words : (form word : ℕ) (t : Bool) → eqb form 2 ≡ t → 0 < inFormTwo form word 0 → 24 ≤ headerOf form
+unfolding headerOf inFormTwo
+six-words form word true e h = rw e (omega arith)
+six-words form word false e h = let z : 0 < 0 = rw e at h in absurd (omega arith)
+
+there : {s : List ℕ} {at : ℕ} → headerOf (formOf s) ≤ length s → Outside s at → at + 4 ≤ length s
+there {s} h (Outside.directory-offset p) = omega (arith, four-words (formOf s) (eqb (formOf s) 2) refl)
+there {s} h (Outside.step-count p q) = omega (arith, four-words (formOf s) (eqb (formOf s) 2) refl)
+there {s} h (Outside.ellipsoid-count p q r) =
+    let some : 0 < ownCountOf s = omega (arith, q, r) in
+    omega (arith, six-words (formOf s) (word32 s 16) (eqb (formOf s) 2) refl some)
+there {s} h (Outside.entry p q i k l before w) = omega (arith, word-within w)
+there {s} h (Outside.total-length p q before e) = omega (arith, four-words (formOf s) (eqb (formOf s) 2) refl)
+
+header-there : (s : List ℕ) → refusal1 s ≡ false → headerOf (formOf s) ≤ length s
 unfolding refusal1
-header-there s e = ltb-false (length s) 16 (neither _ _ (neither _ _ e .0) .0)
+header-there s e = ltb-false (length s) (headerOf (formOf s)) (neither _ _ (neither _ _ e .0) .0)
 
 -- Where rule 4 is broken and rules 1 and 3 are kept, the place named is that of the first word
 -- outside its rule, in the rule's own order, and the sheet has it.
@@ -199,6 +216,7 @@ by-four false false false false x h e = absurd (h e)
 pub fault-where-refused-by-4 : (s : List ℕ) → refusalOf s .number ≡ 4 → Outside s (faultOf s) × (faultOf s + 4 ≤ length s)
 unfolding refusalOf readerOrder firstBroken
 fault-where-refused-by-4 s e =
-    let rest = later-append (later-steps (refusal5At s) (stepAt s) (stepCountOf s) 0) (later-elevens (kindAt s) (stepCountOf s) 0) in
-    let p = by-four (refusal1 s) (refusal2 s) (refusal3 (stepCountOf s)) (refusal4 s) _ (later-answers _ rest) e in
+    let steps = later-append (later-steps (refusal5At s) (stepAt s) (stepCountOf s) 0) (later-elevens (kindAt s) (stepCountOf s) 0) in
+    let rest : Later (rule (ofCall 20) (refusal20 s) ∷ (fiveToEight (refusal5At s) (stepAt s) (stepCountOf s) 0 ++ elevens (kindAt s) (stepCountOf s) 0)) = next (past-four 15) steps in
+    let p = by-four (refusal1 s) (refusal2 (formOf s)) (refusal3 (stepCountOf s)) (refusal4 s) _ (later-answers _ rest) e in
     fault-in-the-directory s (p .0) (p .1 .0) (p .1 .1)

@@ -4,6 +4,7 @@ use Prim.Native.Nat.{ℕ}
 use mathlib.Core.Bool.{Bool}
 use mathlib.Core.List.{List}
 use lib.Ieee.{Float}
+use Rattle.ellipsoid.specs.Figure.{namedOf}
 use Rattle.deformation.specs.declared.Deformation.{Deformation}
 use Rattle.deformation.specs.Record.{directedOf}
 use Rattle.deformation.specs.Step.{motionOf}
@@ -15,4 +16,4 @@ abbrev pub recordOf : ℕ → ℕ → Float → Float → Deformation
 recordOf flags ellipsoid dt epoch = record { flags = flags; ellipsoid = ellipsoid; dt = dt; epoch = epoch }
 
 abbrev pub griddedStepOf : Bool → Deformation → List ℕ → Turns State
-griddedStepOf inverse r g = griddedTurns (motionOf r) (directedOf r inverse) g
+griddedStepOf inverse r g = griddedTurns (motionOf (namedOf (r .ellipsoid)) r) (directedOf r inverse) g

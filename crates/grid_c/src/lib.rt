@@ -8,6 +8,8 @@ ghost use mathlib.Core.Bool.{Bool, not};
 ghost use Prim.Native.Nat.{ℕ};
 ghost use lib.Dec.{eqb};
 ghost use Rattle.blocks.specs.Each.{at, Each, EachWhole};
+ghost use Rattle.ellipsoid.specs.Figure.{namedOf};
+ghost use Rattle.deformation.specs.Step.{motionOf};
 ghost use Rattle.lists.specs.Run.{ranOf, countOf};
 ghost use Rattle.helmert.specs.Turns.{noState};
 ghost use Rattle.turns.specs.Turns.{deformationTurns};
@@ -17,6 +19,7 @@ ghost use Rattle.grid_c.specs.Steps.{recordOf, griddedStepOf};
 use blocks::WIDTH;
 use deformation::Deformation;
 use deformation::Motion;
+use ellipsoid::Ellipsoid;
 
 // The mark at a place; the velocity goes to the three lent numbers.
 #[no_mangle]
@@ -78,6 +81,13 @@ fn step_given(flags: u32, ellipsoid: u32, dt: f64, epoch: f64) -> Deformation
     }
 }
 
+// The step made ready, on the table's ellipsoid.
+fn motion_of(step: Deformation) -> Motion
+    ensures { λ r. ⌜ r ≡ motionOf (namedOf (step .ellipsoid)) step ⌝ }
+{
+    Motion::new(Ellipsoid::named(step.ellipsoid), step)
+}
+
 // A deformation step by a grid over four columns, in place: forward where inverse is 0. How many
 // rows count.
 #[no_mangle]
@@ -99,7 +109,7 @@ pub extern "C" fn grid_deformation(
 {
     let step = step_given(flags, ellipsoid, dt, epoch);
     let reversed = step.directed(inverse != 0);
-    deformation_grid_columns::deformation(x, y, z, t, Motion::new(step), reversed, g)
+    deformation_grid_columns::deformation(x, y, z, t, motion_of(step), reversed, g)
 }
 
 // The same by velocities and marks that are lent.
@@ -118,8 +128,8 @@ pub extern "C" fn lent_deformation(
     marks: &[u8],
 ) -> usize
     ensures { λ r. ⌜ (flatOf (now (x .exit)) (now (y .exit)) (now (z .exit)) (now (t .exit))
-        ≡ ranOf (deformationTurns (not (eqb inverse 0)) (recordOf flags ellipsoid dt epoch) (now (velocities .entry)) (now (marks .entry))) 0 noState (flatOf (now (x .entry)) (now (y .entry)) (now (z .entry)) (now (t .entry))))
-        × (r ≡ countOf (deformationTurns (not (eqb inverse 0)) (recordOf flags ellipsoid dt epoch) (now (velocities .entry)) (now (marks .entry))) 0 noState (flatOf (now (x .entry)) (now (y .entry)) (now (z .entry)) (now (t .entry)))) ⌝ }
+        ≡ ranOf (deformationTurns (not (eqb inverse 0)) (namedOf ellipsoid) (recordOf flags ellipsoid dt epoch) (now (velocities .entry)) (now (marks .entry))) 0 noState (flatOf (now (x .entry)) (now (y .entry)) (now (z .entry)) (now (t .entry))))
+        × (r ≡ countOf (deformationTurns (not (eqb inverse 0)) (namedOf ellipsoid) (recordOf flags ellipsoid dt epoch) (now (velocities .entry)) (now (marks .entry))) 0 noState (flatOf (now (x .entry)) (now (y .entry)) (now (z .entry)) (now (t .entry)))) ⌝ }
 {
     let step = step_given(flags, ellipsoid, dt, epoch);
     let reversed = step.directed(inverse != 0);
@@ -129,7 +139,7 @@ pub extern "C" fn lent_deformation(
         z,
         t,
         0,
-        Motion::new(step),
+        motion_of(step),
         reversed,
         velocities,
         marks,

@@ -31,12 +31,12 @@ endAt h = marksAt h + h .velocities
 
 -- ---- 16, a bad job
 
--- direction over 1; a sheet over 4,240 bytes; over 512 tuples; velocities neither none nor as many
+-- direction over 1; a sheet over 4,376 bytes; over 512 tuples; velocities neither none nor as many
 -- as the tuples; not as long as the words say
 unfoldable pub refusal16 : Head → ℕ → Bool
 refusal16 h bytes =
     ltb 1 (h .direction)
-    || ltb 4240 (h .sheet)
+    || ltb 4376 (h .sheet)
     || ltb 512 (h .tuples)
     || not (eqb (h .velocities) 0 || eqb (h .velocities) (h .tuples))
     || not (eqb bytes (endAt h))

@@ -54,7 +54,7 @@ pub fn is_bad(head: Head, bytes: usize) -> bool
 {
     let end = marks_at(head) + words::wide(head.velocities);
     (1 < head.direction)
-        | (4240 < head.sheet)
+        | (4376 < head.sheet)
         | (512 < head.tuples)
         | !((head.velocities == 0) | (head.velocities == head.tuples))
         | (bytes != end)

@@ -42,7 +42,7 @@ module _ (s : List ℕ) (list results track : ℕ) (later : List Rule) where
   twelve-when w =
       let law =
       number-given-exactly-when (ownRule s ∷ []) twelve (nine ∷ thirteen ∷ later) (λ e. omega arith)
-      (Without.next (own-without 12 (λ a b. omega arith) (λ e. omega arith) s) Without.none)
+      (Without.next (own-without 12 (λ a b. omega arith) (λ e. omega arith) (λ e. omega arith) s) Without.none)
       (without-rule 9 (λ e. omega arith) (without-rule 13 (λ e. omega arith) w)) in (
         λ e. let k = law .0 e in (own-kept s (kept-first (k .0)), k .1),
         λ h. law .1 (Unbroken.next (keep-own s (h .0)) Unbroken.none, h .1),
@@ -52,7 +52,7 @@ module _ (s : List ℕ) (list results track : ℕ) (later : List Rule) where
   nine-when w =
       let law =
       number-given-exactly-when (ownRule s ∷ twelve ∷ []) nine (thirteen ∷ later) (λ e. omega arith)
-      (Without.next (own-without 9 (λ a b. omega arith) (λ e. omega arith) s) (without-rule 12 (λ e. omega arith) Without.none))
+      (Without.next (own-without 9 (λ a b. omega arith) (λ e. omega arith) (λ e. omega arith) s) (without-rule 12 (λ e. omega arith) Without.none))
       (without-rule 13 (λ e. omega arith) w) in (
         λ e. let k = law .0 e in (own-kept s (kept-first (k .0)), kept-first (kept-rest (k .0)), k .1),
         λ h. law .1 (Unbroken.next (keep-own s (h .0)) (Unbroken.next (h .1) Unbroken.none), h .2),
@@ -63,7 +63,7 @@ module _ (s : List ℕ) (list results track : ℕ) (later : List Rule) where
   thirteen-when w =
       let law =
       number-given-exactly-when (ownRule s ∷ twelve ∷ nine ∷ []) thirteen later (λ e. omega arith)
-      (Without.next (own-without 13 (λ a b. omega arith) (λ e. omega arith) s)
+      (Without.next (own-without 13 (λ a b. omega arith) (λ e. omega arith) (λ e. omega arith) s)
       (without-rule 12 (λ e. omega arith) (without-rule 9 (λ e. omega arith) Without.none)))
       w in (
         λ e.
@@ -78,7 +78,7 @@ module _ (s : List ℕ) (list results track : ℕ) (later : List Rule) where
   none-when w =
       let law =
       none-given-exactly-when (keptOrder s list results track later)
-      (Without.next (own-without 0 (λ a b. omega arith) (λ e. omega arith) s)
+      (Without.next (own-without 0 (λ a b. omega arith) (λ e. omega arith) (λ e. omega arith) s)
       (without-rule 12 (λ e. omega arith) (without-rule 9 (λ e. omega arith) (without-rule 13 (λ e. omega arith) w)))) in (
         λ e.
             let k = law .0 e in
@@ -185,7 +185,7 @@ module _ (inverse : Bool) (s : List ℕ) (old : Kept) (index : ℕ) (fix : Tuple
   fourteen-exactly-when =
       let law =
       number-given-exactly-when (keptOrder s count (length (old .results)) (length (old .track)) []) fourteen [] (λ e. omega arith)
-      (Without.next (own-without 14 (λ a b. omega arith) (λ e. omega arith) s)
+      (Without.next (own-without 14 (λ a b. omega arith) (λ e. omega arith) (λ e. omega arith) s)
       (without-rule 12 (λ e. omega arith) (without-rule 9 (λ e. omega arith) (without-rule 13 (λ e. omega arith) Without.none))))
       Without.none in (
         λ e.

@@ -14,8 +14,8 @@ use Rattle.words.specs.Words.{word32, word64, numberAt, oneNanAt, le32}
 use Rattle.bodies.specs.Kinds.{lengthOf}
 use Rattle.bodies.specs.Read.{stepOf as readOf, vec3At, helmertOf as helmertRecordOf}
 use Rattle.bodies.specs.Rules.{stepInRule, lacksConvention, lacksEpoch, lacksDuration, writtenInRule, bodyInRule}
-use Rattle.sheet.specs.Layout.{bodyAt, entryAt}
-use Rattle.sheet.specs.Rules.{refusal1, refusal2, refusal3, refusal4, refusal5, endBefore, placeBroken, someFrom, hasDeformation, refusal11, rulesOfStep, fiveToEight, elevens, readerOrder, firstBroken, refusalOf}
+use Rattle.sheet.specs.Layout.{headerOf, mostOf, inFormTwo, bodyAt, entryAt}
+use Rattle.sheet.specs.Rules.{refusal1, refusal2, refusal3, refusal4, refusal20, rowBroken, refusal5, endBefore, placeBroken, someFrom, hasDeformation, refusal11, rulesOfStep, fiveToEight, elevens, readerOrder, firstBroken, refusalOf}
 use Rattle.lists.specs.Flat.{tupleAt, putAt}
 use Rattle.chain.specs.Rules.{refusal9}
 use Rattle.chain.specs.MarkedPoints.{bytes, helmertSheet, fixes, xs, one, y2001, y2002}
@@ -27,11 +27,11 @@ use Rattle.kept.specs.MarkedPoints.{p6-sheet, y2000, p6-lists, p6-kept, 
 use Rattle.kept.proofs.Promises.{count-by-the-tracks}
 
 pub p6 : P6
-unfolding p6-sheet p6-lists p6-fix y2000 y2001 y2002 one fixes xs bytes helmertSheet correctOf keepOf correctRefusalOf keepRefusalOf refusal9 refusal12 refusal13 refusal14 correctedOf redoOf beforeOf freshOf stretchOf stretchFrom meetsOf alikeOf alikeNumberOf tupleAt putAt word32 word64 numberAt oneNanAt le32 lengthOf bodyAt readOf vec3At helmertRecordOf stepInRule lacksConvention lacksEpoch lacksDuration writtenInRule bodyInRule fieldsInRuleOf vectorsFiniteOf scalesFiniteOf finite3Of timeOf lacksConventionOf lacksEpochOf refusal1 refusal2 refusal3 refusal4 refusal5 endBefore placeBroken someFrom hasDeformation refusal11 rulesOfStep fiveToEight elevens readerOrder firstBroken refusalOf entryAt prepareOf parametersOf winnerOf lengthsOf anglesOf rotatedOf dynamicOf someOf startOf stepOf runningOf nextOf grownOf scaleAtOf rotationMatrixOf firstOrderOf rowsOf forwardOf offsetOf isNan ofBits toBits neg add sub mul div lt le eq ne sum round size
+unfolding p6-sheet p6-lists p6-fix y2000 y2001 y2002 one fixes xs bytes helmertSheet correctOf keepOf correctRefusalOf keepRefusalOf refusal9 refusal12 refusal13 refusal14 correctedOf redoOf beforeOf freshOf stretchOf stretchFrom meetsOf alikeOf alikeNumberOf tupleAt putAt word32 word64 numberAt oneNanAt le32 lengthOf bodyAt readOf vec3At helmertRecordOf stepInRule lacksConvention lacksEpoch lacksDuration writtenInRule bodyInRule fieldsInRuleOf vectorsFiniteOf scalesFiniteOf finite3Of timeOf lacksConventionOf lacksEpochOf refusal1 refusal2 refusal3 refusal4 refusal20 rowBroken headerOf mostOf inFormTwo refusal5 endBefore placeBroken someFrom hasDeformation refusal11 rulesOfStep fiveToEight elevens readerOrder firstBroken refusalOf entryAt prepareOf parametersOf winnerOf lengthsOf anglesOf rotatedOf dynamicOf someOf startOf stepOf runningOf nextOf grownOf scaleAtOf rotationMatrixOf firstOrderOf rowsOf forwardOf offsetOf isNan ofBits toBits neg add sub mul div lt le eq ne sum round size
 p6 = (refl, refl, refl, refl, refl)
 
 p6-passes : keepRefusalOf p6-sheet p6-lists .number ≡ 0
-unfolding p6-sheet p6-lists p6-fix y2000 y2001 y2002 one fixes xs bytes helmertSheet correctOf keepOf correctRefusalOf keepRefusalOf refusal9 refusal12 refusal13 refusal14 correctedOf redoOf beforeOf freshOf stretchOf stretchFrom meetsOf alikeOf alikeNumberOf tupleAt putAt word32 word64 numberAt oneNanAt le32 lengthOf bodyAt readOf vec3At helmertRecordOf stepInRule lacksConvention lacksEpoch lacksDuration writtenInRule bodyInRule fieldsInRuleOf vectorsFiniteOf scalesFiniteOf finite3Of timeOf lacksConventionOf lacksEpochOf refusal1 refusal2 refusal3 refusal4 refusal5 endBefore placeBroken someFrom hasDeformation refusal11 rulesOfStep fiveToEight elevens readerOrder firstBroken refusalOf entryAt prepareOf parametersOf winnerOf lengthsOf anglesOf rotatedOf dynamicOf someOf startOf stepOf runningOf nextOf grownOf scaleAtOf rotationMatrixOf firstOrderOf rowsOf forwardOf offsetOf isNan ofBits toBits neg add sub mul div lt le eq ne sum round size
+unfolding p6-sheet p6-lists p6-fix y2000 y2001 y2002 one fixes xs bytes helmertSheet correctOf keepOf correctRefusalOf keepRefusalOf refusal9 refusal12 refusal13 refusal14 correctedOf redoOf beforeOf freshOf stretchOf stretchFrom meetsOf alikeOf alikeNumberOf tupleAt putAt word32 word64 numberAt oneNanAt le32 lengthOf bodyAt readOf vec3At helmertRecordOf stepInRule lacksConvention lacksEpoch lacksDuration writtenInRule bodyInRule fieldsInRuleOf vectorsFiniteOf scalesFiniteOf finite3Of timeOf lacksConventionOf lacksEpochOf refusal1 refusal2 refusal3 refusal4 refusal20 rowBroken headerOf mostOf inFormTwo refusal5 endBefore placeBroken someFrom hasDeformation refusal11 rulesOfStep fiveToEight elevens readerOrder firstBroken refusalOf entryAt prepareOf parametersOf winnerOf lengthsOf anglesOf rotatedOf dynamicOf someOf startOf stepOf runningOf nextOf grownOf scaleAtOf rotationMatrixOf firstOrderOf rowsOf forwardOf offsetOf isNan ofBits toBits neg add sub mul div lt le eq ne sum round size
 p6-passes = refl
 
 -- and it is a case of the stretch by the tracks: of three fixes from index 1 on, two

@@ -22,9 +22,11 @@ use Rattle.bodies.specs.declared.Step.{Step}
 use Rattle.bodies.specs.declared.Step.the-variants as step
 use Rattle.bodies.specs.Kinds.{kindOf}
 use Rattle.bodies.proofs.Laws.{kind-after-read}
+use Rattle.ellipsoid.specs.declared.Axes.{Axes}
+use Rattle.ellipsoid.specs.Figure.{knownOf}
 use Rattle.sheet.specs.declared.Entry.{Entry}
 use Rattle.sheet.specs.declared.Refusal.{Refusal}
-use Rattle.sheet.specs.Layout.{stepCountOf, kindAt, invertedAt, bodyAt, stepAt, entryAt}
+use Rattle.sheet.specs.Layout.{ownCountOf, ownOf, stepCountOf, kindAt, invertedAt, bodyAt, stepAt, entryAt}
 use Rattle.sheet.specs.Rules.{hasDeformation, refusalOf}
 use Rattle.sheet.proofs.Order.{neither}
 use Rattle.sheet.proofs.Accepted.{accepted-keeps, body-kept}
@@ -35,7 +37,7 @@ use Rattle.lists.proofs.Laws.{ran-length}
 use Rattle.lists.proofs.Results.{track-at, result-at}
 use Rattle.helmert.specs.Turns.{helmertTurns}
 use Rattle.plans.specs.Lent.{lentOf}
-use Rattle.chain.specs.Chain.{turnsOf, stateOf, reversedOf, stepListOf, Run, chainOf, entriesOf}
+use Rattle.chain.specs.Chain.{linkAt, turnsOf, stateOf, reversedOf, stepListOf, Run, chainOf, entriesOf}
 use Rattle.chain.specs.Rules.{refusal10, overOne, ranOutcome, shiftOf}
 use Rattle.chain.proofs.Laws.{one-step-forward, one-step-inverse}
 use Rattle.chain.proofs.Outcome.{run-through}
@@ -58,14 +60,14 @@ Shifts kind = (kind ≡ 1) ⊎ (kind ≡ 6)
 no-shift : {A : Type 0} (kind : ℕ) → (kind ≡ 1 → ⊥) → (kind ≡ 6 → ⊥) → Shifts kind → A
 no-shift kind a b e = absurd (⊎-elim a b e)
 
-shift-turns : (inverse : Bool) (st : Step) → Shifts (kindOf st) → turnsOf inverse (lentOf [] [] []) st ≡ helmertTurns inverse (stepShiftOf st)
+shift-turns : (inverse : Bool) (rows : List Axes) (st : Step) → Shifts (kindOf st) → turnsOf inverse (lentOf [] [] []) rows st ≡ helmertTurns inverse (stepShiftOf st)
 unfolding kindOf
-shift-turns inverse (step.Helmert h) e = refl
-shift-turns inverse (step.Badekas r) e = refl
-shift-turns inverse (step.Cart r) e = no-shift 2 (λ k. omega arith) (λ k. omega arith) e
-shift-turns inverse (step.Molodensky r) e = no-shift 3 (λ k. omega arith) (λ k. omega arith) e
-shift-turns inverse (step.Permtide r) e = no-shift 4 (λ k. omega arith) (λ k. omega arith) e
-shift-turns inverse (step.Deformation r) e = no-shift 5 (λ k. omega arith) (λ k. omega arith) e
+shift-turns inverse rows (step.Helmert h) e = refl
+shift-turns inverse rows (step.Badekas r) e = refl
+shift-turns inverse rows (step.Cart r) e = no-shift 2 (λ k. omega arith) (λ k. omega arith) e
+shift-turns inverse rows (step.Molodensky r) e = no-shift 3 (λ k. omega arith) (λ k. omega arith) e
+shift-turns inverse rows (step.Permtide r) e = no-shift 4 (λ k. omega arith) (λ k. omega arith) e
+shift-turns inverse rows (step.Deformation r) e = no-shift 5 (λ k. omega arith) (λ k. omega arith) e
 
 shift-start : (st : Step) → Shifts (kindOf st) → stateOf st ≡ startOf (stepShiftOf st)
 unfolding kindOf
@@ -117,7 +119,7 @@ module _ (s : List ℕ) (own : refusalOf s .number ≡ 0) (one : refusal12 s ≡
   its-kind =
       let ok = accepted-keeps s own in
       ap (λ (e : Entry). kindOf (e .step)) entry-is
-      ∙ kind-after-read (kindAt s 0) (bodyAt s 0) (body-kept s 0 (ok .steps 0 (omega (arith, one-step)) .kept5))
+      ∙ kind-after-read (knownOf (ownCountOf s)) (kindAt s 0) (bodyAt s 0) (body-kept s 0 (ok .steps 0 (omega (arith, one-step)) .kept5))
 
   a-shift : Shifts (kindOf (entryAt s 0 .step))
   a-shift = rw its-kind of-a-kind
@@ -125,19 +127,19 @@ module _ (s : List ℕ) (own : refusalOf s .number ≡ 0) (one : refusal12 s ≡
   no-deformation : hasDeformation (kindAt s) (stepCountOf s) ≡ false
   no-deformation = rw one-step (shifts-alone (kindAt s) of-a-kind)
 
-  entries-are : entriesOf (entryAt s) (stepCountOf s) 0 ≡ entryAt s 0 ∷ []
+  entries-are : entriesOf (linkAt s) (stepCountOf s) 0 ≡ linkAt s 0 ∷ []
   unfolding entriesOf
   entries-are = rw one-step
 
-  step-list : (inverse : Bool) (l : List Float) → stepListOf inverse (lentOf [] [] []) (entryAt s 0) l ≡ ranOf (helmertTurns (reversedIn inverse s) (shiftIn s)) 0 (startOf (shiftIn s)) l
+  step-list : (inverse : Bool) (l : List Float) → stepListOf inverse (lentOf [] [] []) (linkAt s 0) l ≡ ranOf (helmertTurns (reversedIn inverse s) (shiftIn s)) 0 (startOf (shiftIn s)) l
   unfolding stepListOf
   step-list inverse l =
-      rw (shift-turns (reversedOf inverse (entryAt s 0)) (entryAt s 0 .step) a-shift, shift-start (entryAt s 0 .step) a-shift)
+      rw (shift-turns (reversedOf inverse (entryAt s 0)) (ownOf s) (entryAt s 0 .step) a-shift, shift-start (entryAt s 0 .step) a-shift)
 
   chain-list : (inverse : Bool) (l : List Float)
-      → chainOf inverse (lentOf [] [] []) (entriesOf (entryAt s) (stepCountOf s) 0) l .list ≡ ranOf (helmertTurns (reversedIn inverse s) (shiftIn s)) 0 (startOf (shiftIn s)) l
-  chain-list true l = rw entries-are (ap (λ (r : Run). r .list) (one-step-inverse (lentOf [] [] []) (entryAt s 0) l) ∙ step-list true l)
-  chain-list false l = rw entries-are (ap (λ (r : Run). r .list) (one-step-forward (lentOf [] [] []) (entryAt s 0) l) ∙ step-list false l)
+      → chainOf inverse (lentOf [] [] []) (entriesOf (linkAt s) (stepCountOf s) 0) l .list ≡ ranOf (helmertTurns (reversedIn inverse s) (shiftIn s)) 0 (startOf (shiftIn s)) l
+  chain-list true l = rw entries-are (ap (λ (r : Run). r .list) (one-step-inverse (lentOf [] [] []) (linkAt s 0) l) ∙ step-list true l)
+  chain-list false l = rw entries-are (ap (λ (r : Run). r .list) (one-step-forward (lentOf [] [] []) (linkAt s 0) l) ∙ step-list false l)
 
 -- ---- a fresh run
 
@@ -169,15 +171,15 @@ module _ (inverse : Bool) (s : List ℕ) (old : Kept) (passes : keepRefusalOf s 
 
   -- The results of a fresh run are the chain's, on the same sheet, direction and list: `shift`
   -- takes them too, and leaves that list.
-  pub results-are-the-chains : kept .results ≡ chainOf inverse (lentOf [] [] []) (entriesOf (entryAt s) (stepCountOf s) 0) (old .list) .list
+  pub results-are-the-chains : kept .results ≡ chainOf inverse (lentOf [] [] []) (entriesOf (linkAt s) (stepCountOf s) 0) (old .list) .list
   unfolding freshOf
   results-are-the-chains =
       ap (λ (k : Kept). k .results) keep-runs ∙ sym (chain-list s (lists-pass .own) (lists-pass .one-shift) inverse (old .list))
 
-  pub shift-takes-them-too : shiftOf inverse s (old .list) [] [] ≡ ranOutcome (chainOf inverse (lentOf [] [] []) (entriesOf (entryAt s) (stepCountOf s) 0) (old .list))
+  pub shift-takes-them-too : shiftOf inverse s (old .list) [] [] ≡ ranOutcome (chainOf inverse (lentOf [] [] []) (entriesOf (linkAt s) (stepCountOf s) 0) (old .list))
   unfolding shiftOf refusal10 overOne
   shift-takes-them-too =
-      run-through (refusalOf s) (hasDeformation (kindAt s) (stepCountOf s)) inverse (entriesOf (entryAt s) (stepCountOf s) 0) (old .list) [] []
+      run-through (refusalOf s) (hasDeformation (kindAt s) (stepCountOf s)) inverse (entriesOf (linkAt s) (stepCountOf s) 0) (old .list) [] []
       (lists-pass .own) (lists-pass .list-kept) nothing-lent
     where
       nothing-lent : refusal10 (hasDeformation (kindAt s) (stepCountOf s)) (length (old .list)) [] [] ≡ false

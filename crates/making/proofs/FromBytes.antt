@@ -1,7 +1,8 @@
 -- What is read from bytes is what a computer's memory holds: words of 32 bits and binary64 numbers.
 -- Assumes nothing.
 use mathlib.Core.Path.{_≡_, refl, ap, _∙_}
-use Prim.Native.Nat.{ℕ, zero, suc, _+_, _<_}
+use Prim.Native.Nat.{ℕ, _+_, _*_, _<_}
+use native.Mathlib.Nat.{zero-add}
 use mathlib.Core.Bool.{Bool, true, false, cond}
 use mathlib.Core.List.{List}
 use native.Mathlib.Omega.{arith}
@@ -11,15 +12,18 @@ use lib.ListN.{length, take, drop}
 use lib.Ieee.{binary64, fits}
 use lib.Ieee.Bits.{ofBits-fits}
 use Rattle.words.specs.Words.{Bytes, word32, word64, numberAt}
+use Rattle.ellipsoid.specs.Figure.{noAxes}
 use Rattle.words.proofs.Laws.{word32-is-a-word}
 use Rattle.bodies.specs.declared.Step.{Step}
 use Rattle.bodies.specs.Kinds.{lengthOf}
 use Rattle.bodies.specs.Read.{vec3At, helmertOf, cartOf, molodenskyOf, permtideOf, deformationOf, badekasOf, blankStep, stepOf}
-use Rattle.bodies.specs.Held.{Held, Held3, HeldHelmert, HeldCart, HeldMolodensky, HeldPermtide, HeldDeformation, HeldBadekas}
-use Rattle.sheet.specs.Layout.{stepCountOf, kindAt, bodyAt, lengthAt, offsetAt, entryAt, entriesFrom, recordOf}
+use Rattle.bodies.specs.Held.{Held, Number, Held3, HeldHelmert, HeldCart, HeldMolodensky, HeldPermtide, HeldDeformation, HeldBadekas}
+use Rattle.sheet.specs.Layout.{stepCountOf, ownCountOf, tableOf, rowAt, rowOrBlank, kindAt, bodyAt, lengthAt, offsetAt, entryAt, recordOf, stepIn}
 use Rattle.sheet.specs.Rules.{refusalOf}
 use Rattle.sheet.proofs.Accepted.{accepted-keeps}
-use Rattle.sheet.proofs.Back.{bytes-part, entry-same, step-same, record-count}
+use Rattle.sheet.proofs.Entries.{length-list, list-at}
+use Rattle.sheet.proofs.Back.{bytes-part, entry-same, step-same, row-here, record-count, record-own}
+use Rattle.sheet_writer.specs.Bytes.{rowIn}
 use Rattle.sheet_writer.specs.SameSheet.{HeldSheet}
 use Rattle.making.specs.InTurn.{Tidy}
 
@@ -117,18 +121,34 @@ module _ (b : List ℕ) (bytes : Bytes b) where
 
 -- ---- the record of a sheet
 
-length-entries : (s : List ℕ) (k i : ℕ) → length (entriesFrom s k i) ≡ k
-unfolding entriesFrom
-length-entries s zero i = refl
-length-entries s (suc k) i = ap suc (length-entries s k (i + 1))
-
 pub read-is-tidy : (s : List ℕ) → Tidy (recordOf s)
-unfolding recordOf entryAt
-read-is-tidy s = record { places = length-entries s 16 0; blank = λ i l h. entry-same s i h ∙ rw (le-ltb i (stepCountOf s) l) }
+unfolding recordOf entryAt rowOrBlank
+read-is-tidy s =
+    record {
+      places = length-list (entryAt s) 16 0;
+      blank = λ i l h. entry-same s i h ∙ rw (le-ltb i (stepCountOf s) l);
+      row-places = length-list (rowOrBlank s) 8 0;
+      blank-rows = λ j l h. list-at (rowOrBlank s) noAxes 8 0 j h ∙ rw (zero-add, le-ltb j (ownCountOf s) l);
+    }
 
-pub read-is-held : (s : List ℕ) → Bytes s → refusalOf s .number ≡ 0 → HeldSheet (recordOf s)
-unfolding bodyAt
-read-is-held s bytes e i h =
-    let here : i < stepCountOf s = omega (arith, record-count s) in
-    rw (step-same s bytes (accepted-keeps s e) i here)
-    (step-held (take (lengthAt s i) (drop (offsetAt s i) s)) (bytes-part s (lengthAt s i) (offsetAt s i) bytes) (kindAt s i))
+module _ (s : List ℕ) (bytes : Bytes s) (e : refusalOf s .number ≡ 0) where
+  step-is-held : (i : ℕ) → i < recordOf s .count → Held (stepIn (recordOf s) i)
+  unfolding bodyAt
+  step-is-held i h =
+      let here : i < stepCountOf s = omega (arith, record-count s) in
+      rw (step-same s bytes (accepted-keeps s e) i here)
+      (step-held (take (lengthAt s i) (drop (offsetAt s i) s)) (bytes-part s (lengthAt s i) (offsetAt s i) bytes) (kindAt s i))
+
+  row-read : (j : ℕ) → j < recordOf s .own → rowIn (recordOf s) j ≡ rowAt s j
+  row-read j h = row-here s j (accepted-keeps s e .few-own) (omega (arith, record-own s))
+
+  a-is-held : (j : ℕ) → j < recordOf s .own → Number (rowIn (recordOf s) j .a)
+  unfolding rowAt
+  a-is-held j h = rw (row-read j h) (number s bytes (tableOf s + 16 * j))
+
+  rf-is-held : (j : ℕ) → j < recordOf s .own → Number (rowIn (recordOf s) j .rf)
+  unfolding rowAt
+  rf-is-held j h = rw (row-read j h) (number s bytes (tableOf s + 16 * j + 8))
+
+  pub read-is-held : HeldSheet (recordOf s)
+  read-is-held = record { steps-held = step-is-held; a-held = a-is-held; rf-held = rf-is-held }

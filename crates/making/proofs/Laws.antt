@@ -21,7 +21,7 @@ use Rattle.sheet.specs.declared.Entry.{Entry}
 use Rattle.sheet.specs.declared.Sheet.{Sheet}
 use Rattle.sheet.specs.declared.Refusal.{Refusal}
 use Rattle.sheet.specs.declared.Reading.{Reading}
-use Rattle.sheet.specs.Layout.{totalLengthOf, recordOf, blankSheet}
+use Rattle.sheet.specs.Layout.{formOf, headerOf, totalLengthOf, recordOf, blankSheet}
 use Rattle.sheet_writer.specs.Bytes.{sheetLength, sheetBytesOf}
 use Rattle.sheet.specs.Rules.{accepted, ofCall, refusalOf, readingOf}
 use Rattle.sheet_writer.specs.Rules.{writerRefusalOf, roomAfterOf}
@@ -40,6 +40,11 @@ use Rattle.making.proofs.FromBytes.{read-is-held, read-is-tidy}
 number-of : {r : Refusal} → r ≡ accepted → r .number ≡ 0
 number-of e = ap (λ (x : Refusal). x .number) e
 
+header-least : (form : ℕ) (t : Bool) → eqb form 2 ≡ t → 16 ≤ headerOf form
+unfolding headerOf
+header-least form true e = rw e (omega arith)
+header-least form false e = rw e (omega arith)
+
 -- ---- a record that the writer took stands in the room
 
 written-is : (sheet : Sheet) (room : List ℕ) → writerRefusalOf sheet (length room) ≡ accepted → roomAfterOf sheet room ≡ put room 0 (sheetBytesOf sheet)
@@ -49,7 +54,7 @@ written-is sheet room e = rw e
 same-room : (sheet : Sheet) (room : List ℕ) → writerRefusalOf sheet (length room) ≡ accepted → length (roomAfterOf sheet room) ≡ length room
 same-room sheet room e =
     ap length (written-is sheet room e)
-    ∙ length-put room 0 (sheetBytesOf sheet) (omega (arith, accepted-record sheet (length room) (number-of e) .1, sheet-bytes-length sheet))
+    ∙ length-put room 0 (sheetBytesOf sheet) (omega (arith, accepted-record sheet (length room) (number-of e) .1 .1, sheet-bytes-length sheet))
 
 module _ (sheet : Sheet) (room : List ℕ) (tidy : Tidy sheet) (held : HeldSheet sheet) (e : writerRefusalOf sheet (length room) ≡ accepted) where
   read-back : (refusalOf (sheetBytesOf sheet) ≡ accepted) × SameSheet (recordOf (sheetBytesOf sheet)) sheet
@@ -59,10 +64,10 @@ module _ (sheet : Sheet) (room : List ℕ) (tidy : Tidy sheet) (held : HeldSheet
   ok = accepted-keeps (sheetBytesOf sheet) (number-of (read-back .0))
 
   fits : sheetLength sheet ≤ length room
-  fits = accepted-record sheet (length room) (number-of e) .1
+  fits = accepted-record sheet (length room) (number-of e) .1 .1
 
   long : 16 ≤ sheetLength sheet
-  long = omega (arith, ok .at-least, sheet-bytes-length sheet)
+  long = omega (arith, ok .at-least, header-least (formOf (sheetBytesOf sheet)) (eqb (formOf (sheetBytesOf sheet)) 2) refl, sheet-bytes-length sheet)
 
   total : totalLengthOf (roomAfterOf sheet room) ≡ sheetLength sheet
   total =
@@ -88,7 +93,7 @@ module _ (sheet : Sheet) (room : List ℕ) (tidy : Tidy sheet) (held : HeldSheet
 
 -- the writer's answer with number 0 is none at all
 none-at-all : (sheet : Sheet) (room : ℕ) → writerRefusalOf sheet room .number ≡ 0 → writerRefusalOf sheet room ≡ accepted
-none-at-all sheet room e = writer-takes sheet (taken sheet room e) room (accepted-record sheet room e .1)
+none-at-all sheet room e = writer-takes sheet (taken sheet room e) room (accepted-record sheet room e .1 .1)
 
 module _ (room : List ℕ) (len inverted : ℕ) (step : Step) where
   refused-by : (r : Reading) → r ≡ standingOf room len → (none : Bool) → eqb (r .refusal .number) 0 ≡ none
@@ -220,7 +225,7 @@ first-taken es sheet room tidy some e =
     let all = withSteps sheet es in
     let r = accepted-record all room (number-of e) in
     let b = begins-all es sheet tidy (r .0) in
-    writer-takes sheet (taken-before sheet all b some (taken all room (number-of e))) room (omega (arith, shorter sheet all b, r .1))
+    writer-takes sheet (taken-before sheet all b some (taken all room (number-of e))) room (omega (arith, shorter sheet all b, r .1 .1))
 
 -- one step of several: what its addition leaves, and where the later ones begin
 module _ (e : Entry) (room : List ℕ) (len : ℕ) (sheet : Sheet) (st : standingOf room len ≡ readingAs accepted sheet)

@@ -37,8 +37,11 @@ entryAs inverted step = record { inverted = inverted; step = step }
 unfoldable pub withStepOf : Sheet → ℕ → Step → Sheet
 withStepOf sheet inverted step =
     record {
+      form = sheet .form;
       count = sheet .count + 1;
       entries = cond (ltb (sheet .count) 16) (set (sheet .entries) (sheet .count) (entryAs inverted step)) (sheet .entries);
+      own = sheet .own;
+      rows = sheet .rows;
     }
 
 -- what a call answers, and the room afterwards

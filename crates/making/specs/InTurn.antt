@@ -8,7 +8,8 @@ use lib.ListN.{length, take}
 use Rattle.bodies.specs.Held.{Held}
 use Rattle.sheet.specs.declared.Entry.{Entry}
 use Rattle.sheet.specs.declared.Sheet.{Sheet}
-use Rattle.sheet.specs.Layout.{blankEntry, entryOf}
+use Rattle.sheet.specs.Layout.{blankEntry, blankRow, entryOf}
+use Rattle.sheet_writer.specs.Bytes.{rowIn}
 use Rattle.sheet.specs.Rules.{accepted, refusalOf}
 use Rattle.making.specs.Adding.{withStepOf, AddOutcome, outcome, addedAs, addedOf}
 
@@ -18,10 +19,13 @@ pub record Sheeted (o : AddOutcome) : Type 0 where
   pub within : o .answer .length ≤ length (o .room)
   pub passes : refusalOf (take (o .answer .length) (o .room)) ≡ accepted
 
--- a record as it is read or begun: sixteen entries, blank past its step count
+-- a record as it is read or begun: sixteen entries, blank past its step count, and eight rows, zeros
+-- past its ellipsoid count
 pub record Tidy (sheet : Sheet) : Type 0 where
   pub places : length (sheet .entries) ≡ 16
   pub blank : (i : ℕ) → sheet .count ≤ i → i < 16 → entryOf sheet i ≡ blankEntry
+  pub row-places : length (sheet .rows) ≡ 8
+  pub blank-rows : (j : ℕ) → sheet .own ≤ j → j < 8 → rowIn sheet j ≡ blankRow
 
 -- each added in turn, until one is refused
 unfoldable pub allAdded : List ℕ → ℕ → List Entry → AddOutcome

@@ -53,6 +53,7 @@ fn with_step(sheet: Sheet, inverted: u32, step: Step) -> Sheet
 {
     let n = sheet.count;
     let mut entries = sheet.entries;
+    let rows = sheet.rows;
     if n < 16 {
         let entry = Entry {
             inverted: inverted,
@@ -60,9 +61,13 @@ fn with_step(sheet: Sheet, inverted: u32, step: Step) -> Sheet
         };
         entries[n as usize] = entry;
     }
+    let count = n + 1;
     Sheet {
-        count: n + 1,
+        form: sheet.form,
+        count: count,
         entries: entries,
+        own: sheet.own,
+        rows: rows,
     }
 }
 

@@ -21,9 +21,9 @@ abridgedOf r = eqb (r .flags % 2) 1
 abbrev pub twoEllipsoidsOf : Molodensky → Bool
 twoEllipsoidsOf r = eqb (r .flags / 2 % 2) 1
 
--- the second ellipsoid is one of the table under flag 2, else it is 0
-abbrev pub secondInRuleOf : Molodensky → Bool
-secondInRuleOf r = cond (twoEllipsoidsOf r) (existsOf (r .second)) (eqb (r .second) 0)
+-- the second ellipsoid is one of those known under flag 2, else it is 0
+abbrev pub secondInRuleOf : ℕ → Molodensky → Bool
+secondInRuleOf known r = cond (twoEllipsoidsOf r) (existsOf known (r .second)) (eqb (r .second) 0)
 
 -- da and df are +0 under flag 2
 abbrev pub figureInRuleOf : Molodensky → Bool
@@ -34,5 +34,5 @@ abbrev pub finiteOf : Molodensky → Bool
 finiteOf r = finite (r .dx) && finite (r .dy) && finite (r .dz) && finite (r .da) && finite (r .df)
 
 -- rule 5
-abbrev pub inRuleOf : Molodensky → Bool
-inRuleOf r = ltb (r .flags) 4 && existsOf (r .first) && secondInRuleOf r && finiteOf r && figureInRuleOf r
+abbrev pub inRuleOf : ℕ → Molodensky → Bool
+inRuleOf known r = ltb (r .flags) 4 && existsOf known (r .first) && secondInRuleOf known r && finiteOf r && figureInRuleOf r

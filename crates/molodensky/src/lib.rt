@@ -83,11 +83,11 @@ impl Molodensky {
         self.flags / 2 % 2 == 1
     }
 
-    fn second_in_rule(self) -> bool
-        ensures { λ r. ⌜ r ≡ secondInRuleOf self ⌝ }
+    fn second_in_rule(self, known: u32) -> bool
+        ensures { λ r. ⌜ r ≡ secondInRuleOf known self ⌝ }
     {
         if self.two_ellipsoids() {
-            Ellipsoid::exists(self.second)
+            Ellipsoid::exists(known, self.second)
         } else {
             self.second == 0
         }
@@ -122,13 +122,13 @@ impl Molodensky {
     }
 
     // Rule 5.
-    pub fn in_rule(self) -> bool
-        ensures { λ r. ⌜ r ≡ inRuleOf self ⌝ }
+    pub fn in_rule(self, known: u32) -> bool
+        ensures { λ r. ⌜ r ≡ inRuleOf known self ⌝ }
     {
         let flags = self.flags;
         if flags < 4 {
-            if Ellipsoid::exists(self.first) {
-                if self.second_in_rule() {
+            if Ellipsoid::exists(known, self.first) {
+                if self.second_in_rule(known) {
                     if self.finite() {
                         return self.figure_in_rule();
                     }
@@ -155,13 +155,12 @@ impl Moped {
         }
     }
 
-    // With two ellipsoids da and df are second minus first.
-    pub fn new(step: Molodensky) -> Self
-        ensures { λ r. ⌜ r ≡ mopedOf step ⌝ }
+    // On the ellipsoids that the record's two numbers name. With two ellipsoids da and df are second
+    // minus first, else the second is not looked at.
+    pub fn new(ellps_0: Ellipsoid, ellps_1: Ellipsoid, step: Molodensky) -> Self
+        ensures { λ r. ⌜ r ≡ mopedOf ellps_0 ellps_1 step ⌝ }
     {
-        let ellps_0 = Ellipsoid::named(step.first);
         if step.two_ellipsoids() {
-            let ellps_1 = Ellipsoid::named(step.second);
             return Moped::with(step, ellps_0, ellps_1.a - ellps_0.a, ellps_1.f - ellps_0.f);
         }
         Moped::with(step, ellps_0, step.da, step.df)

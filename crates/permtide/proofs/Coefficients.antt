@@ -11,6 +11,7 @@ use lib.Ieee.Scale.{finite}
 use lib.Ieee.Fits.{round-is}
 use lib.Ieee.Order.{drop, kept}
 use Rattle.floats.specs.Binary64.{_⊕_, bits}
+use Rattle.ellipsoid.specs.declared.Ellipsoid.{Ellipsoid}
 use Rattle.ellipsoid.specs.Figure.{one, existsOf}
 use Rattle.permtide.specs.declared.Permtide.{Permtide}
 use Rattle.permtide.specs.Record.{fromOf, coefficientOf, systemOf, inRuleOf}
@@ -60,10 +61,11 @@ both true d h = (tt, h)
 both false d h = absurd h
 
 -- the coefficient of a record within rule 5
-pub checked-coefficient-is-finite : (r : Permtide) → T (fits binary64 (r .k)) → T (inRuleOf r) → T (finite (tideOf r .coefficient))
+pub checked-coefficient-is-finite :
+    (known : ℕ) (e : Ellipsoid) (r : Permtide) → T (fits binary64 (r .k)) → T (inRuleOf known r) → T (finite (tideOf e r .coefficient))
 unfolding tideOf
-checked-coefficient-is-finite r f h =
-    let t = split (existsOf (r .ellipsoid)) (finite (r .k)) (systemOf (r .to) && systemOf (r .from)) h in
+checked-coefficient-is-finite known e r f h =
+    let t = split (existsOf known (r .ellipsoid)) (finite (r .k)) (systemOf (r .to) && systemOf (r .from)) h in
     let codes = both (systemOf (r .to)) (systemOf (r .from)) (t .1) in
     coefficient-is-finite (r .to) (r .from) (r .k) f (t .0) (codes .0) (codes .1)
 
@@ -145,9 +147,9 @@ number-exactly-if-systems to from k h =
     (picked-row from (neg (one ⊕ k)) (neg k) (bits 0) (neg-number (one ⊕ k) more) (neg-number k (finite-number k h)) none)
 
 -- rule 5 by the Rust's test
-pub inRuleByNan : Permtide → Bool
-inRuleByNan r =
-    cond (existsOf (r .ellipsoid)) (cond (finite (r .k)) (not (isNan (coefficientOf (r .to) (r .from) (r .k)))) false) false
+pub inRuleByNan : ℕ → Permtide → Bool
+inRuleByNan known r =
+    cond (existsOf known (r .ellipsoid)) (cond (finite (r .k)) (not (isNan (coefficientOf (r .to) (r .from) (r .k)))) false) false
 
 one-rule : (b c d n : Bool) → (T c → n ≡ d) → cond b (cond c d false) false ≡ cond b (cond c n false) false
 one-rule false c d n h = refl
@@ -155,8 +157,8 @@ one-rule true false d n h = refl
 one-rule true true d n h = sym (h tt)
 
 -- one rule for every record, whatever its numbers
-pub rule-is-the-rusts : (r : Permtide) → inRuleOf r ≡ inRuleByNan r
+pub rule-is-the-rusts : (known : ℕ) (r : Permtide) → inRuleOf known r ≡ inRuleByNan known r
 unfolding inRuleByNan number
-rule-is-the-rusts r =
-    one-rule (existsOf (r .ellipsoid)) (finite (r .k)) (systemOf (r .to) && systemOf (r .from)) (not (isNan (coefficientOf (r .to) (r .from) (r .k))))
+rule-is-the-rusts known r =
+    one-rule (existsOf known (r .ellipsoid)) (finite (r .k)) (systemOf (r .to) && systemOf (r .from)) (not (isNan (coefficientOf (r .to) (r .from) (r .k))))
     (number-exactly-if-systems (r .to) (r .from) (r .k))

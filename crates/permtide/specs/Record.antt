@@ -30,6 +30,6 @@ coefficientOf to from k =
 abbrev pub systemOf : ℕ → Bool
 systemOf code = eqb code 1 || eqb code 2 || eqb code 3
 
--- rule 5: the table has the ellipsoid, k is finite, and both codes name a system
-abbrev pub inRuleOf : Permtide → Bool
-inRuleOf r = cond (existsOf (r .ellipsoid)) (cond (finite (r .k)) (systemOf (r .to) && systemOf (r .from)) false) false
+-- rule 5: the ellipsoid is one of those known, k is finite, and both codes name a system
+abbrev pub inRuleOf : ℕ → Permtide → Bool
+inRuleOf known r = cond (existsOf known (r .ellipsoid)) (cond (finite (r .k)) (systemOf (r .to) && systemOf (r .from)) false) false

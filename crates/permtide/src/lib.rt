@@ -45,10 +45,10 @@ impl Permtide {
     // test for NaN: of a record that passes here it is finite (proofs/Coefficients.antt,
     // `checked-coefficient-is-finite`), and the test would refuse just the same records
     // (`rule-is-the-rusts`).
-    pub fn in_rule(self) -> bool
-        ensures { λ r. ⌜ r ≡ inRuleOf self ⌝ }
+    pub fn in_rule(self, known: u32) -> bool
+        ensures { λ r. ⌜ r ≡ inRuleOf known self ⌝ }
     {
-        if Ellipsoid::exists(self.ellipsoid) {
+        if Ellipsoid::exists(known, self.ellipsoid) {
             if floats::is_finite(self.k) {
                 return system(self.to) & system(self.from);
             }
@@ -97,11 +97,12 @@ pub fn coefficient(to: u32, from: u32, k: f64) -> f64
 }
 
 impl Tide {
-    pub fn new(step: Permtide) -> Self
-        ensures { λ r. ⌜ r ≡ tideOf step ⌝ }
+    // On the ellipsoid that the record's number names.
+    pub fn new(ellps: Ellipsoid, step: Permtide) -> Self
+        ensures { λ r. ⌜ r ≡ tideOf ellps step ⌝ }
     {
         Tide {
-            ellps: Ellipsoid::named(step.ellipsoid),
+            ellps: ellps,
             coefficient: coefficient(step.to, step.from, step.k),
         }
     }

@@ -1,5 +1,6 @@
 -- What the proofs of this crate share, and the laws that callers cite.
-mod Bodies
+mod Rows
+pub mod Bodies
 pub mod Lent
 pub mod Windows
 pub mod Arrays

@@ -7,7 +7,9 @@ use mathlib.Core.List.{List}
 use lib.Dec.{eqb, ltb}
 use lib.ListN.{getD}
 use lib.Ieee.{Float, nan}
-use Rattle.ellipsoid.specs.Figure.{namedOf}
+use Rattle.ellipsoid.specs.declared.Ellipsoid.{Ellipsoid}
+use Rattle.ellipsoid.specs.declared.Axes.{Axes}
+use Rattle.ellipsoid.specs.Figure.{amongOf}
 use Rattle.cart.specs.Step.{cartFwdOf, cartInvOf, inverseFiguresOf}
 use Rattle.permtide.specs.Step.{tideOf, fwdOf, invOf}
 use Rattle.molodensky.specs.Step.{mopedOf, commonOf}
@@ -17,7 +19,6 @@ use Rattle.helmert.specs.declared.State.{State}
 use Rattle.helmert.specs.Modes.{prepareOf, startOf}
 use Rattle.badekas.specs.Step.{shiftOf}
 use Rattle.bodies.specs.declared.Step.{Step}
-use Rattle.cart.specs.declared.Cart as record-of
 use Rattle.bodies.specs.declared.Step.the-variants.{Cart, Permtide, Deformation, Molodensky, Badekas, Helmert}
 use Rattle.bodies.specs.Kinds.{lengthOf}
 use Rattle.lists.specs.Run.{Turns}
@@ -34,17 +35,19 @@ use Rattle.plans.specs.declared.Plan.the-variants.{CartForward, CartInve
 abbrev pub heldKindOf : ℕ → ℕ → ℕ
 heldKindOf kind n = cond (eqb n (lengthOf kind)) kind 0
 
--- the plan of a cart step in a direction, and of any step
-abbrev pub cartPlanOf : Bool → record-of.Cart → Plan
-cartPlanOf inverse r = cond inverse (CartInverse (inverseFiguresOf (namedOf (r .ellipsoid)))) (CartForward (namedOf (r .ellipsoid)))
+-- the plan of a cart step on an ellipsoid in a direction
+abbrev pub cartPlanOf : Bool → Ellipsoid → Plan
+cartPlanOf inverse e = cond inverse (CartInverse (inverseFiguresOf e)) (CartForward e)
 
-unfoldable pub planOf : Bool → Step → Plan
-planOf inverse (Cart r) = cartPlanOf inverse r
-planOf inverse (Permtide r) = PermtideEither (tideOf r) inverse
-planOf inverse (Deformation r) = DeformationEither (motionOf r) (directedOf r inverse)
-planOf inverse (Molodensky r) = MolodenskyEither (mopedOf r) inverse
-planOf inverse (Helmert h) = HelmertEither (prepareOf h) inverse
-planOf inverse (Badekas r) = HelmertEither (shiftOf r) inverse
+-- The plan of any step in a direction. Its ellipsoids are those that its numbers name among the
+-- table's and its sheet's own rows.
+unfoldable pub planOf : Bool → List Axes → Step → Plan
+planOf inverse own (Cart r) = cartPlanOf inverse (amongOf own (r .ellipsoid))
+planOf inverse own (Permtide r) = PermtideEither (tideOf (amongOf own (r .ellipsoid)) r) inverse
+planOf inverse own (Deformation r) = DeformationEither (motionOf (amongOf own (r .ellipsoid)) r) (directedOf r inverse)
+planOf inverse own (Molodensky r) = MolodenskyEither (mopedOf (amongOf own (r .first)) (amongOf own (r .second)) r) inverse
+planOf inverse own (Helmert h) = HelmertEither (prepareOf h) inverse
+planOf inverse own (Badekas r) = HelmertEither (shiftOf r) inverse
 
 -- the plan at an index of an array; past the end what an array reads as there
 abbrev pub planIn : List Plan → ℕ → Plan

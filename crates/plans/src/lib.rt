@@ -3,22 +3,25 @@
 //
 // It stands in place of the Rust's `Op`, which holds a step's prepared values and its direction. A
 // ten-parameter step has Helmert's plan, whose shift then has a pivot.
-// `plan_of` reads the record from a sheet's bytes where they lie, `plan_of_step` takes one that is
-// already read. specs/Plans.antt says what a plan makes of one tuple and the state that it starts a
+// `plan_of_step` takes a record that is already read, with its sheet's own rows; sheet_plans reads one
+// from a sheet's bytes where they lie. specs/Plans.antt says what a plan makes of one tuple and the state that it starts a
 // list in; specs/Windows.antt says what plans make of a part of a list, each going on from where it
 // stands, and proofs/Windows.antt that a list in parts is the whole list. Exact: no rounding but the
 // records' own. Used by the chain, by what runs a record, and by the windows.
 ghost use mathlib.Core.Path.{_≡_};
 ghost use mathlib.Core.Bool.{cond};
 ghost use lib.Dec.{eqb};
+ghost use lib.ListN.{take};
+ghost use Rattle.ellipsoid.specs.Figure.{amongOf};
 ghost use Rattle.cart.specs.Record.{blankOf};
 ghost use Rattle.helmert.specs.Turns.{noState};
-ghost use Rattle.bodies.specs.Read.{cartIn, stepOf};
+ghost use Rattle.bodies.specs.Read.{cartIn};
 ghost use Rattle.plans.specs.Plans.{heldKindOf, cartPlanOf, planOf, atMostSixteen, planStartOf};
 use bodies::Step;
 use cart::Cart;
 use cart::Inverse;
 use deformation::Motion;
+use ellipsoid::Axes;
 use ellipsoid::Ellipsoid;
 use helmert::Shift;
 use helmert::State;
@@ -45,32 +48,54 @@ pub struct Standing {
 
 // ----- a step made ready -----------------------------------------------------------------------
 
-fn cart_plan(inverse: bool, step: Cart) -> Plan
-    ensures { λ r. ⌜ r ≡ cartPlanOf inverse step ⌝ }
+pub fn cart_plan(inverse: bool, ellps: Ellipsoid) -> Plan
+    ensures { λ r. ⌜ r ≡ cartPlanOf inverse ellps ⌝ }
 {
-    let ellps = Ellipsoid::named(step.ellipsoid);
     if inverse {
         return Plan::CartInverse(Inverse::new(ellps));
     }
     Plan::CartForward(ellps)
 }
 
-// A record that is already read.
-pub fn plan_of_step(inverse: bool, step: Step) -> Plan
-    ensures { λ r. ⌜ r ≡ planOf inverse step ⌝ }
+// The ellipsoid that a number names among the table's five and the first `own` of some rows; of any
+// other number a record of NaNs.
+pub fn among(own: u32, rows: [Axes; 8], number: u32) -> Ellipsoid
+    ensures { λ r. ⌜ r ≡ amongOf (take own rows) number ⌝ }
+{
+    if number <= 5 {
+        return Ellipsoid::named(number);
+    }
+    let j = words::wide(number - 6);
+    if words::wide(own) <= j {
+        return Ellipsoid::named(0);
+    }
+    if 8 <= j {
+        return Ellipsoid::named(0);
+    }
+    let row = rows[j];
+    Ellipsoid::new(row.a, row.rf)
+}
+
+// A record that is already read, on its sheet's own rows.
+pub fn plan_of_step(inverse: bool, own: u32, rows: [Axes; 8], step: Step) -> Plan
+    ensures { λ r. ⌜ r ≡ planOf inverse (take own rows) step ⌝ }
 {
     match step {
         Step::Cart(r) => {
-            return cart_plan(inverse, r);
+            return cart_plan(inverse, among(own, rows, r.ellipsoid));
         }
         Step::Permtide(r) => {
-            return Plan::PermtideEither(Tide::new(r), inverse);
+            let ellps = among(own, rows, r.ellipsoid);
+            return Plan::PermtideEither(Tide::new(ellps, r), inverse);
         }
         Step::Deformation(r) => {
-            return Plan::DeformationEither(Motion::new(r), r.directed(inverse));
+            let ellps = among(own, rows, r.ellipsoid);
+            return Plan::DeformationEither(Motion::new(ellps, r), r.directed(inverse));
         }
         Step::Molodensky(r) => {
-            return Plan::MolodenskyEither(Moped::new(r), inverse);
+            let first = among(own, rows, r.first);
+            let second = among(own, rows, r.second);
+            return Plan::MolodenskyEither(Moped::new(first, second, r), inverse);
         }
         Step::Helmert(h) => {
             return Plan::HelmertEither(helmert::prepare(h), inverse);
@@ -99,31 +124,6 @@ pub fn cart_of(kind: u32, b: &[u8]) -> Cart
         return bodies::read_cart(b);
     }
     Cart::blank()
-}
-
-// A record in a sheet's bytes. No `Step` is built: the enum is as large as a Helmert record and
-// would be copied at each call.
-pub fn plan_of(inverse: bool, kind: u32, b: &[u8]) -> Plan
-    ensures { λ r. ⌜ r ≡ planOf inverse (stepOf kind (now (b .entry))) ⌝ }
-{
-    let held = held_kind(kind, b.len());
-    if held == 1 {
-        return Plan::HelmertEither(helmert::prepare(bodies::read_helmert(b)), inverse);
-    }
-    if held == 3 {
-        return Plan::MolodenskyEither(Moped::new(bodies::read_molodensky(b)), inverse);
-    }
-    if held == 4 {
-        return Plan::PermtideEither(Tide::new(bodies::read_permtide(b)), inverse);
-    }
-    if held == 5 {
-        let r = bodies::read_deformation(b);
-        return Plan::DeformationEither(Motion::new(r), r.directed(inverse));
-    }
-    if held == 6 {
-        return Plan::HelmertEither(badekas::prepare(bodies::read_badekas(b)), inverse);
-    }
-    cart_plan(inverse, cart_of(held, b))
 }
 
 // As many steps as an array of plans has.

@@ -67,8 +67,8 @@ fn narrow(x: usize) -> u32
 fn put_step(s: &mut [u8], n: usize, i: usize)
     requires { ⌜ (n ≤ 17) × (i < 17) ⌝ }
 {
-    let at = sheet::entry_offset(narrow(i));
-    let body = sheet::directory_end(narrow(n)) + 8 * i;
+    let at = sheet::entry_offset(1, narrow(i));
+    let body = sheet::directory_end(1, narrow(n)) + 8 * i;
     words::put32(s, at, 2);
     words::put32(s, at + 4, narrow(i % 2));
     words::put32(s, at + 8, narrow(body));
@@ -86,9 +86,9 @@ fn put_header(s: &mut [u8], n: u32, total: u32) {
 // How long a sheet of n cart steps is.
 fn length_of(n: usize) -> usize
     requires { ⌜ n ≤ 17 ⌝ }
-    ensures { λ r. ⌜ r ≤ 424 ⌝ }
+    ensures { λ r. ⌜ r ≤ 432 ⌝ }
 {
-    sheet::directory_end(narrow(n)) + 8 * n
+    sheet::directory_end(1, narrow(n)) + 8 * n
 }
 
 fn put_sheet(s: &mut [u8], n: usize)
@@ -145,10 +145,10 @@ fn run_spread(s: &[u8], list: &mut [f64]) {
     run(s, list, &none[..0], &unmarked[..0]);
 }
 
-fn sheet_room() -> [u8; 424]
-    ensures { λ r. ⌜ 424 ≡ length r ⌝ }
+fn sheet_room() -> [u8; 432]
+    ensures { λ r. ⌜ 432 ≡ length r ⌝ }
 {
-    [0; 424]
+    [0; 432]
 }
 
 // n cart steps over some tuples, of which there are at most 2,049.

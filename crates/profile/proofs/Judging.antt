@@ -32,17 +32,18 @@ module _ (step : ℕ → Step) where
 
 -- ---- the numbers that each part gives
 
-pub without-eight : (n : ℕ) → (0 < n → n < 9 → ⊥) → (s : List ℕ) → Without n (upToEight s)
+pub without-eight : (n : ℕ) → (0 < n → n < 9 → ⊥) → (n ≡ 20 → ⊥) → (s : List ℕ) → Without n (upToEight s)
 unfolding upToEight
-without-eight n other s =
+without-eight n other not20 s =
     without-rule 1 (λ e. other (omega arith) (omega arith))
     (without-rule 2 (λ e. other (omega arith) (omega arith))
     (without-rule 3 (λ e. other (omega arith) (omega arith))
     (without-rule 4 (λ e. other (omega arith) (omega arith))
-    (without-steps n (λ a b. other (omega arith) b) (refusal5At s) (stepAt s) (stepCountOf s) 0))))
+    (without-rule 20 (λ e. not20 (sym e))
+    (without-steps n (λ a b. other (omega arith) b) (refusal5At s) (stepAt s) (stepCountOf s) 0)))))
 
 pub numbered-eight : (s : List ℕ) → Numbered (upToEight s)
-numbered-eight = without-eight 0 (λ a b. omega arith)
+numbered-eight = without-eight 0 (λ a b. omega arith) (λ e. omega arith)
 
 pub without-25s : (n : ℕ) → (n ≡ 25 → ⊥) → (step : ℕ → Step) (k i : ℕ) → Without n (twentyFives step k i)
 unfolding twentyFives
@@ -109,7 +110,7 @@ module _ (s : List ℕ) where
           let some = eqb-false _ _ z in
           let same : r .number ≡ firstBroken (upToEight s) .number = ap (λ (x : Refusal). x .number) (e ∙ reader-first some) in
           one-of (r .number) h (λ n. absurd (some (sym same ∙ n)))
-          (λ n. absurd (never-given 11 (λ x. omega arith) (upToEight s) (without-eight 11 (λ a b. omega arith) s) (sym same ∙ n)))
+          (λ n. absurd (never-given 11 (λ x. omega arith) (upToEight s) (without-eight 11 (λ a b. omega arith) (λ e. omega arith) s) (sym same ∙ n)))
 
   kept-three : Unbroken (upToEight s) → refusal3 (stepCountOf s) ≡ false
   unfolding upToEight

@@ -213,7 +213,7 @@ module _ (s : List ℕ) where
               let kept = eqb-true _ _ z in
               (all-kept (upToEight s) (numbered-eight s) kept, by-offence kept (eqb (firstBroken offences .number) 0) refl)
           by-eight false z =
-              absurd (never-given 25 (λ x. omega arith) (upToEight s) (without-eight 25 (λ a b. omega arith) s)
+              absurd (never-given 25 (λ x. omega arith) (upToEight s) (without-eight 25 (λ a b. omega arith) (λ e. omega arith) s)
               (ap (λ (r : Refusal). r .number) (sym (eight-answers s 1 (eqb-false _ _ z))) ∙ number))
 
 -- ---- after 8 and before 11, under any profile

@@ -12,8 +12,8 @@ use Rattle.helmert.specs.Rules.{dynamicOf}
 use Rattle.bodies.specs.declared.Step.{Step}
 use Rattle.bodies.specs.declared.Step.the-variants.{Cart, Permtide, Deformation, Molodensky, Badekas, Helmert}
 use Rattle.sheet.specs.declared.Refusal.{Refusal}
-use Rattle.sheet.specs.Layout.{stepCountOf, kindAt, stepAt}
-use Rattle.sheet.specs.Rules.{Rule, rule, ofCall, ofStep, refusal1, refusal2, refusal3, refusal4, refusal5At, fiveToEight, elevens, firstBroken}
+use Rattle.sheet.specs.Layout.{formOf, stepCountOf, kindAt, stepAt}
+use Rattle.sheet.specs.Rules.{Rule, rule, ofCall, ofStep, refusal1, refusal2, refusal3, refusal4, refusal20, refusal5At, fiveToEight, elevens, firstBroken}
 
 -- ---- the chart profile
 
@@ -45,13 +45,14 @@ profileRules profile s =
     cond (eqb profile 0) []
     (cond (eqb profile 1) (twentyFives (stepAt s) (stepCountOf s) 0) (rule (ofCall 25) true ∷ []))
 
--- the reader's 1 to 8, as `readerOrder` has them
+-- the reader's 1 to 8, with 20 between 4 and 5, as `readerOrder` has them
 unfoldable pub upToEight : List ℕ → List Rule
 upToEight s =
     rule (ofCall 1) (refusal1 s)
-    ∷ rule (ofCall 2) (refusal2 s)
+    ∷ rule (ofCall 2) (refusal2 (formOf s))
     ∷ rule (ofCall 3) (refusal3 (stepCountOf s))
     ∷ rule (ofCall 4) (refusal4 s)
+    ∷ rule (ofCall 20) (refusal20 s)
     ∷ fiveToEight (refusal5At s) (stepAt s) (stepCountOf s) 0
 
 -- 25 comes after 8 and before 11

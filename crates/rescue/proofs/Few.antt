@@ -1,6 +1,6 @@
 -- A rescue changes at most three words of the header and two of each step's entry: the step count,
 -- the kinds and the inverted words stay. Assumes nothing.
-use mathlib.Core.Path.{_≡_, refl, sym, ap}
+use mathlib.Core.Path.{_≡_, refl, sym, ap, _∙_}
 use Prim.Native.Nat.{ℕ, zero, suc, _+_, _*_, _<_, _≤_}
 use mathlib.Core.Bool.{Bool, true, false, cond}
 use mathlib.Core.List.{List, [], _∷_}
@@ -13,7 +13,7 @@ use Rattle.rescue.specs.Rebuilt.{countWord, rebuiltOf}
 use Rattle.rescue.specs.Changes.{Change, changeOf, changedOf, changeAt, changesIn, changesOf}
 use Rattle.rescue.specs.Rules.{refusal19, refusal15}
 use Rattle.rescue.proofs.Rebuildable.{Rebuildable, can-be-rebuilt}
-use Rattle.rescue.proofs.Reading.{count-kept, kind-kept, inverted-kept}
+use Rattle.rescue.proofs.Reading.{place-rebuilt, count-kept, kind-kept, inverted-kept}
 use Rattle.rescue.proofs.Listing.{none-changed, counted-next}
 
 one-or-none : (b : Bool) (c : Change) → length (cond b [] (c ∷ [])) ≤ 1
@@ -55,8 +55,8 @@ module _ (s : List ℕ) (ok : Rebuildable s) where
       let k = 4 + 4 * i in
       let l : i < countWord s = omega arith in
       let e : 4 + 4 * suc i ≡ k + 1 + 1 + 1 + 1 = omega arith in
-      let kind = none-at s r k (16 + 16 * i) (omega arith) (sym (kind-kept s ok i l)) in
-      let inverted = none-at s r (k + 1) (16 + 16 * i + 4) (omega arith) (sym (inverted-kept s ok i l)) in
+      let kind = none-at s r k (16 + 16 * i) (omega arith) (sym (kind-kept s ok i l) ∙ ap (word32 r) (place-rebuilt s ok i)) in
+      let inverted = none-at s r (k + 1) (16 + 16 * i + 4) (omega arith) (sym (inverted-kept s ok i l) ∙ ap (λ (m : ℕ). word32 r (m + 4)) (place-rebuilt s ok i)) in
       rw e
       (omega (
         arith,

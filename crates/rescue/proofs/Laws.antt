@@ -1,6 +1,6 @@
 -- What holds of every rescue, for callers to cite: which refusal is given when; that what is
 -- accepted passes the reader and has the bodies as they were; that the list has exactly the words
--- that differ; that a whole sheet comes out as it is, and a damaged one as it was. Assumes nothing.
+-- that differ; that a whole sheet of form 1 comes out as it is, and a damaged one as it was. Assumes nothing.
 use mathlib.Core.Path.{_≡_, refl, sym, ap, _∙_}
 use mathlib.Core.Logic.{_↔_}
 use Prim.Native.Nat.{ℕ, zero, suc, _*_, _<_, _≤_}
@@ -12,6 +12,7 @@ use lib.ListN.{length, take, drop}
 use Rattle.words.specs.Words.{Bytes, put}
 use Rattle.words.proofs.Laws.{put-none}
 use Rattle.sheet.specs.declared.Refusal.{Refusal}
+use Rattle.sheet.specs.Layout.{formOf}
 use Rattle.sheet.specs.Rules.{accepted, refusalOf}
 use Rattle.sheet.proofs.Order.{reader-never-gives}
 use Rattle.sheet.proofs.Accepted.{accepted-keeps, keeps-accepted}
@@ -47,14 +48,14 @@ module _ (s : List ℕ) (room list : ℕ) where
   pub nineteen-exactly-when : (given ≡ 19) ↔ (refusal19 s ≡ true)
   nineteen-exactly-when = (
     λ e. three-ways (λ a g. a) (λ a b g. absurd (omega (arith, g, e)))
-        (λ a b g. absurd (reader-never-gives 19 (λ z. omega (arith, z)) (λ l m. omega (arith, m)) (λ z. omega (arith, z)) (rebuiltOf s) (sym g ∙ e))),
+        (λ a b g. absurd (reader-never-gives 19 (λ z. omega (arith, z)) (λ l m. omega (arith, m)) (λ z. omega (arith, z)) (λ z. omega (arith, z)) (rebuiltOf s) (sym g ∙ e))),
     λ a. ap (λ (x : Refusal). x .number) (refused-19 s room list a),
   )
 
   pub fifteen-exactly-when : (given ≡ 15) ↔ ((refusal19 s ≡ false) × (refusal15 s room list ≡ true))
   fifteen-exactly-when = (
     λ e. three-ways (λ a g. absurd (omega (arith, g, e))) (λ a b g. (a, b))
-        (λ a b g. absurd (reader-never-gives 15 (λ z. omega (arith, z)) (λ l m. omega (arith, m)) (λ z. omega (arith, z)) (rebuiltOf s) (sym g ∙ e))),
+        (λ a b g. absurd (reader-never-gives 15 (λ z. omega (arith, z)) (λ l m. omega (arith, m)) (λ z. omega (arith, z)) (λ z. omega (arith, z)) (rebuiltOf s) (sym g ∙ e))),
     λ p. ap (λ (x : Refusal). x .number) (refused-15 s room list (p .0) (p .1)),
   )
 
@@ -138,21 +139,21 @@ listed-ascending s =
 
 -- ---- whole sheets
 
-module _ (s : List ℕ) (bytes : Bytes s) (whole : refusalOf s .number ≡ 0) where
-  -- a sheet that the reader accepts is rebuilt as it is
+module _ (s : List ℕ) (bytes : Bytes s) (whole : refusalOf s .number ≡ 0) (one : formOf s ≡ 1) where
+  -- a sheet of form 1 that the reader accepts is rebuilt as it is
   pub whole-as-it-is : rebuiltOf s ≡ s
-  whole-as-it-is = rebuilt-same s (accepted-keeps s whole) bytes
+  whole-as-it-is = rebuilt-same s (accepted-keeps s whole) one bytes
 
   -- nothing is changed, and where the room holds it, it is accepted and copied, with any list
   pub whole-copied : (room list : List ℕ) → length s ≤ length room → rescueOf s room list ≡ outcome (rescuedAs accepted 0) (put room 0 s) list
   unfolding refusal15 listOf
   whole-copied room list h =
       let a = accepted-keeps s whole in
-      let same = rebuilt-same s a bytes in
-      let none = whole-unchanged s a bytes in
+      let same = rebuilt-same s a one bytes in
+      let none = whole-unchanged s a one bytes in
       let fits : refusal15 s (length room) (length list) ≡ false = rw (none, le-ltb (length room) (length s) h) (le-ltb (length list) 0 (omega arith)) in
       let reads : refusalOf (rebuiltOf s) ≡ accepted = ap refusalOf same ∙ keeps-accepted s a in
-      gives-sheet s room list (whole-kept s a) fits (ap (λ (x : Refusal). x .number) reads)
+      gives-sheet s room list (whole-kept s a one) fits (ap (λ (x : Refusal). x .number) reads)
       ∙ rw (reads, none, same) (rw (put-none list 0) refl)
 
 -- ---- damaged sheets
@@ -179,6 +180,6 @@ module _ (s d : List ℕ) (as-long : length d ≡ length s) (count : countWord d
   unfolding rebuiltOf headerBytes
   rebuilt-alike = rw (as-long, count, bodies, directory-alike (countWord s) (omega arith))
 
-  -- So a sheet that was accepted before its other words were damaged comes out as it was.
-  pub mended-as-it-was : Bytes s → refusalOf s .number ≡ 0 → rebuiltOf d ≡ s
-  mended-as-it-was b whole = rebuilt-alike ∙ whole-as-it-is s b whole
+  -- So a sheet of form 1 that was accepted before its other words were damaged comes out as it was.
+  pub mended-as-it-was : Bytes s → refusalOf s .number ≡ 0 → formOf s ≡ 1 → rebuiltOf d ≡ s
+  mended-as-it-was b whole one = rebuilt-alike ∙ whole-as-it-is s b whole one

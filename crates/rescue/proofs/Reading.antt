@@ -1,5 +1,5 @@
--- What the reader finds in a rebuilt sheet: each word of header and directory, so that rules 1 to 4
--- are kept and only a step's rules or 11 can be broken. Assumes nothing.
+-- What the reader finds in a rebuilt sheet, which is of form 1: each word of header and directory, so
+-- that rules 1 to 4 and 20 are kept and only a step's rules or 11 can be broken. Assumes nothing.
 use mathlib.Core.Path.{_≡_, sym, ap, _∙_}
 use Prim.Native.Nat.{ℕ, zero, suc, _+_, _*_, _-_, _^_, _<_, _≤_}
 use mathlib.Core.List.{List, [], _++_, append-nil, append-assoc}
@@ -12,10 +12,11 @@ use lib.Seq.{take-at, drop-at}
 use Rattle.words.specs.Words.{word32, le32}
 use Rattle.words.proofs.Laws.{word-back, word32-in-part}
 use Rattle.bodies.specs.Kinds.{lengthOf}
-use Rattle.sheet.specs.Layout.{formOf, totalLengthOf, stepCountOf, directoryOffsetOf, kindAt, invertedAt, offsetAt, lengthAt, directoryEnd, stepAt}
-use Rattle.sheet.specs.Rules.{refusal1, refusal2, refusal3, refusal4, refusal5At, endBefore, placeBroken, someFrom, fiveToEight, elevens, readerOrder, firstBroken, refusalOf}
+use Rattle.sheet.specs.Layout.{formOf, totalLengthOf, stepCountOf, directoryOffsetOf, placeAt, kindAt, invertedAt, offsetAt, lengthAt, stepAt}
+use Rattle.sheet.specs.Rules.{refusal1, refusal2, refusal3, refusal4, refusal20, refusal5At, endBefore, placeBroken, someFrom, fiveToEight, elevens, readerOrder, firstBroken, refusalOf}
 use Rattle.sheet.proofs.Order.{never-given, without-append, without-steps, without-elevens}
 use Rattle.sheet.proofs.Each.{every-kept}
+use Rattle.sheet.proofs.Forms.{head-one, most-one, place-one, bodies-one, twenty-one}
 use Rattle.rescue.specs.Rebuilt.{countWord, kindWord, invertedWord, headLength, startOf, headerBytes, entryBytes, directoryBytes, rebuiltOf}
 use Rattle.rescue.proofs.Rebuildable.{Rebuildable, length-small, kind-small, start-small}
 use Rattle.rescue.proofs.Rebuilding.{header-length, entry-length, directory-length, rebuilt-length}
@@ -107,6 +108,9 @@ module _ (s : List ℕ) (ok : Rebuildable s) where
   unfolding headerBytes
   directory-rebuilt = header-word s 12 16 (omega arith) (fourth-back 1 (length s) (countWord s) 16 (omega arith))
 
+  pub place-rebuilt : (i : ℕ) → placeAt (rebuiltOf s) i ≡ 16 + 16 * i
+  place-rebuilt i = place-one (rebuiltOf s) form-rebuilt i
+
   module _ (i : ℕ) (h : i < countWord s) where
     start-fits : startOf s i ≤ 4240
     start-fits = omega (arith, start-small s i, ok .few-steps)
@@ -115,34 +119,37 @@ module _ (s : List ℕ) (ok : Rebuildable s) where
     unfolding entryBytes
     kind-kept =
         let small = kind-small (kindWord s i) (ok .entries i h .a-kind) in
-        ap (word32 (rebuiltOf s)) (sym (add-zero (16 + 16 * i)))
+        ap (word32 (rebuiltOf s)) (place-rebuilt i ∙ sym (add-zero (16 + 16 * i)))
         ∙ entry-word s i 0 (kindWord s i) h (omega arith) (first-back (kindWord s i) (invertedWord s i) (startOf s i) (lengthOf (kindWord s i)) (omega arith))
 
     pub inverted-kept : invertedAt (rebuiltOf s) i ≡ invertedWord s i
     unfolding entryBytes
     inverted-kept =
         let small = ok .entries i h .turned in
-        entry-word s i 4 (invertedWord s i) h (omega arith) (second-back (kindWord s i) (invertedWord s i) (startOf s i) (lengthOf (kindWord s i)) (omega arith))
+        ap (λ (k : ℕ). word32 (rebuiltOf s) (k + 4)) (place-rebuilt i)
+        ∙ entry-word s i 4 (invertedWord s i) h (omega arith) (second-back (kindWord s i) (invertedWord s i) (startOf s i) (lengthOf (kindWord s i)) (omega arith))
 
     pub offset-rebuilt : offsetAt (rebuiltOf s) i ≡ startOf s i
     unfolding entryBytes
     offset-rebuilt =
-        entry-word s i 8 (startOf s i) h (omega arith) (third-back (kindWord s i) (invertedWord s i) (startOf s i) (lengthOf (kindWord s i)) (omega (arith, start-fits)))
+        ap (λ (k : ℕ). word32 (rebuiltOf s) (k + 8)) (place-rebuilt i)
+        ∙ entry-word s i 8 (startOf s i) h (omega arith) (third-back (kindWord s i) (invertedWord s i) (startOf s i) (lengthOf (kindWord s i)) (omega (arith, start-fits)))
 
     pub length-rebuilt : lengthAt (rebuiltOf s) i ≡ lengthOf (kindWord s i)
     unfolding entryBytes
     length-rebuilt =
         let small = length-small (kindWord s i) in
-        entry-word s i 12 (lengthOf (kindWord s i)) h (omega arith) (fourth-back (kindWord s i) (invertedWord s i) (startOf s i) (lengthOf (kindWord s i)) (omega arith))
+        ap (λ (k : ℕ). word32 (rebuiltOf s) (k + 12)) (place-rebuilt i)
+        ∙ entry-word s i 12 (lengthOf (kindWord s i)) h (omega arith) (fourth-back (kindWord s i) (invertedWord s i) (startOf s i) (lengthOf (kindWord s i)) (omega arith))
 
-  -- ---- rules 1 to 4
+  -- ---- rules 1 to 4 and 20
 
   as-long : length (rebuiltOf s) ≡ length s
   as-long = rebuilt-length s (ok .inside)
 
   ends : (i : ℕ) → i ≤ countWord s → endBefore (rebuiltOf s) i ≡ startOf s i
   unfolding endBefore startOf
-  ends zero h = ap directoryEnd count-kept
+  ends zero h = bodies-one (rebuiltOf s) form-rebuilt ∙ ap (λ (k : ℕ). 16 + 16 * k) count-kept
   ends (suc i) h =
       let l : i < countWord s = omega arith in
       omega (arith, offset-rebuilt i l, length-rebuilt i l)
@@ -163,15 +170,17 @@ module _ (s : List ℕ) (ok : Rebuildable s) where
   unfolding refusal1
   kept-one =
       rw (
+        head-one (rebuiltOf s) form-rebuilt,
+        most-one (rebuiltOf s) form-rebuilt,
         as-long,
         le-ltb (length s) 16 (ok .at-least),
         le-ltb 4240 (length s) (ok .at-most-long),
         eq-eqb (totalLengthOf (rebuiltOf s)) (length s) total-rebuilt,
       )
 
-  kept-two : refusal2 (rebuiltOf s) ≡ false
+  kept-two : refusal2 (formOf (rebuiltOf s)) ≡ false
   unfolding refusal2
-  kept-two = rw (eq-eqb (formOf (rebuiltOf s)) 1 form-rebuilt)
+  kept-two = rw form-rebuilt
 
   kept-three : refusal3 (stepCountOf (rebuiltOf s)) ≡ false
   unfolding refusal3
@@ -185,6 +194,8 @@ module _ (s : List ℕ) (ok : Rebuildable s) where
       let places : someFrom (placeBroken (rebuiltOf s)) (countWord s) 0 ≡ false =
       every-kept (placeBroken (rebuiltOf s)) (countWord s) 0 (λ i l. rw zero-add (place-kept i l)) in
       rw (
+        bodies-one (rebuiltOf s) form-rebuilt,
+        head-one (rebuiltOf s) form-rebuilt,
         count-kept,
         as-long,
         eq-eqb (directoryOffsetOf (rebuiltOf s)) 16 directory-rebuilt,
@@ -193,11 +204,14 @@ module _ (s : List ℕ) (ok : Rebuildable s) where
         eq-eqb (endBefore (rebuiltOf s) (countWord s)) (totalLengthOf (rebuiltOf s)) (ends (countWord s) (omega arith) ∙ ok .fills ∙ sym total-rebuilt),
       )
 
+  kept-twenty : refusal20 (rebuiltOf s) ≡ false
+  kept-twenty = twenty-one (rebuiltOf s) form-rebuilt
+
   -- only a step's rules and 11 are left to the reader
   pub reader-left : refusalOf (rebuiltOf s)
       ≡ firstBroken (fiveToEight (refusal5At (rebuiltOf s)) (stepAt (rebuiltOf s)) (stepCountOf (rebuiltOf s)) 0 ++ elevens (kindAt (rebuiltOf s)) (stepCountOf (rebuiltOf s)) 0)
   unfolding refusalOf readerOrder firstBroken
-  reader-left = rw (kept-one, kept-two, kept-three, kept-four)
+  reader-left = rw (kept-one, kept-two, kept-three, kept-four, kept-twenty)
 
   -- which are 5 to 8 and 11
   pub reader-leaves : (k : ℕ) → (k ≡ 0 → ⊥) → (4 < k → k < 9 → ⊥) → (k ≡ 11 → ⊥) → refusalOf (rebuiltOf s) .number ≡ k → ⊥

@@ -1,4 +1,4 @@
--- A sheet that the reader accepts is rebuilt as it stands. Assumes nothing.
+-- A sheet of form 1 that the reader accepts is rebuilt as it stands. Assumes nothing.
 use mathlib.Core.Path.{_≡_, refl, sym, ap, _∙_}
 use Prim.Native.Nat.{ℕ, zero, suc, _+_, _*_, _<_, _≤_}
 use mathlib.Core.Bool.{false}
@@ -11,9 +11,10 @@ use lib.Seq.{take-add, drop-drop}
 use Rattle.words.specs.Words.{Bytes, word32, le32}
 use Rattle.words.proofs.Laws.{le32-word32}
 use Rattle.bodies.specs.Kinds.{lengthOf}
-use Rattle.sheet.specs.Layout.{offsetAt}
+use Rattle.sheet.specs.Layout.{formOf, kindAt, invertedAt, offsetAt}
 use Rattle.sheet.specs.Rules.{endBefore, someFrom}
 use Rattle.sheet.proofs.Accepted.{Accepted}
+use Rattle.sheet.proofs.Forms.{head-one, place-one, bodies-one}
 use Rattle.sheet.proofs.Each.{every-kept}
 use Rattle.rescue.specs.Rebuilt.{countWord, kindWord, invertedWord, headLength, startOf, headerBytes, entryBytes, directoryBytes, rebuiltOf}
 use Rattle.rescue.specs.Changes.{changesIn, changesOf}
@@ -47,15 +48,27 @@ unfolding changesIn
 none-differs s zero = refl
 none-differs s (suc n) = rw (none-differs s n, none-changed (4 * n) (word32 s (4 * n)) (word32 s (4 * n)) refl)
 
-module _ (s : List ℕ) (ok : Accepted s) where
+module _ (s : List ℕ) (ok : Accepted s) (one : formOf s ≡ 1) where
+  kind-one : (i : ℕ) → kindAt s i ≡ kindWord s i
+  kind-one i = ap (word32 s) (place-one s one i)
+
+  inverted-one : (i : ℕ) → invertedAt s i ≡ invertedWord s i
+  inverted-one i = ap (λ (k : ℕ). word32 s (k + 4)) (place-one s one i)
+
+  at-least-16 : 16 ≤ length s
+  at-least-16 = omega (arith, ok .at-least, head-one s one)
+
+  directory-inside : headLength s ≤ length s
+  directory-inside = omega (arith, ok .inside, bodies-one s one)
+
   -- each body starts where the sheet has it
   start-same : (i : ℕ) → i ≤ countWord s → startOf s i ≡ endBefore s i
   unfolding startOf endBefore
-  start-same zero h = refl
+  start-same zero h = sym (bodies-one s one)
   start-same (suc i) h =
       let l : i < countWord s = omega arith in
       let place = ok .places i l in
-      omega (arith, start-same i (omega arith), place .no-gap, place .its-length)
+      omega (arith, start-same i (omega arith), place .no-gap, place .its-length, ap lengthOf (kind-one i))
 
   pub fills-same : startOf s (countWord s) ≡ length s
   fills-same = start-same (countWord s) (omega arith) ∙ ok .ends
@@ -63,7 +76,7 @@ module _ (s : List ℕ) (ok : Accepted s) where
   entry-in-rule : (i : ℕ) → i < countWord s → entryBroken s i ≡ false
   unfolding entryBroken
   entry-in-rule i h =
-      rw (ne-eqb (lengthOf (kindWord s i)) 0 (ok .places i h .a-kind), le-ltb 1 (invertedWord s i) (ok .places i h .turned))
+      rw (← kind-one i, ← inverted-one i, ne-eqb (lengthOf (kindAt s i)) 0 (ok .places i h .a-kind), le-ltb 1 (invertedAt s i) (ok .places i h .turned))
 
   -- it can be rebuilt
   pub whole-kept : refusal19 s ≡ false
@@ -73,10 +86,10 @@ module _ (s : List ℕ) (ok : Accepted s) where
       let entries : someFrom (entryBroken s) (countWord s) 0 ≡ false =
       every-kept (entryBroken s) (countWord s) 0 (λ i l. rw zero-add (entry-in-rule i l)) in
       rw (
-        le-ltb (length s) 16 (ok .at-least),
+        le-ltb (length s) 16 at-least-16,
         ne-eqb (countWord s) 0 some,
         le-ltb 16 (countWord s) (ok .few-steps),
-        le-ltb (length s) (headLength s) (ok .inside),
+        le-ltb (length s) (headLength s) directory-inside,
         entries,
         eq-eqb (startOf s (countWord s)) (length s) fills-same,
       )
@@ -85,18 +98,19 @@ module _ (s : List ℕ) (ok : Accepted s) where
     header-same : headerBytes s ≡ take 16 s
     unfolding headerBytes
     header-same =
-        ap (λ (k : ℕ). le32 k ++ le32 (length s) ++ le32 (countWord s) ++ le32 16) (sym (ok .form))
+        ap (λ (k : ℕ). le32 k ++ le32 (length s) ++ le32 (countWord s) ++ le32 16) (sym one)
         ∙ ap (λ (k : ℕ). le32 (word32 s 0) ++ le32 k ++ le32 (countWord s) ++ le32 16) (sym (ok .total))
-        ∙ ap (λ (k : ℕ). le32 (word32 s 0) ++ le32 (word32 s 4) ++ le32 (countWord s) ++ le32 k) (sym (ok .directory))
-        ∙ four-words s 0 bytes (ok .at-least)
+        ∙ ap (λ (k : ℕ). le32 (word32 s 0) ++ le32 (word32 s 4) ++ le32 (countWord s) ++ le32 k) (sym (ok .directory ∙ head-one s one))
+        ∙ four-words s 0 bytes at-least-16
 
     entry-same : (i : ℕ) → i < countWord s → entryBytes s i ≡ take 16 (drop (16 + 16 * i) s)
     unfolding entryBytes
     entry-same i h =
         ap (λ (k : ℕ). le32 (kindWord s i) ++ le32 (invertedWord s i) ++ le32 k ++ le32 (lengthOf (kindWord s i)))
-        (start-same i (omega arith) ∙ sym (ok .places i h .no-gap))
-        ∙ ap (λ (k : ℕ). le32 (kindWord s i) ++ le32 (invertedWord s i) ++ le32 (offsetAt s i) ++ le32 k) (sym (ok .places i h .its-length))
-        ∙ four-words s (16 + 16 * i) bytes (omega (arith, ok .inside))
+        (start-same i (omega arith) ∙ sym (ok .places i h .no-gap) ∙ ap (λ (k : ℕ). word32 s (k + 8)) (place-one s one i))
+        ∙ ap (λ (k : ℕ). le32 (kindWord s i) ++ le32 (invertedWord s i) ++ le32 (word32 s (16 + 16 * i + 8)) ++ le32 k)
+        (sym (ap lengthOf (kind-one i)) ∙ sym (ok .places i h .its-length) ∙ ap (λ (k : ℕ). word32 s (k + 12)) (place-one s one i))
+        ∙ four-words s (16 + 16 * i) bytes (omega (arith, directory-inside))
 
     directory-same : (i : ℕ) → i ≤ countWord s → directoryBytes s i ≡ take (16 * i) (drop 16 s)
     unfolding directoryBytes

@@ -7,3 +7,4 @@ pub mod Accepted
 pub mod Tides
 pub mod Back
 pub mod Laws
+pub mod Forms

@@ -14,8 +14,8 @@ use Rattle.bodies.specs.declared.Step.{Step}
 use Rattle.bodies.specs.Read.{stepOf}
 use Rattle.bodies.specs.Rules.{bodyInRule, lacksConvention, lacksEpoch, lacksDuration, lowestBroken}
 use Rattle.sheet.specs.declared.Refusal.{Refusal}
-use Rattle.sheet.specs.Layout.{offsetAt, lengthAt, stepCountOf, kindAt, stepAt}
-use Rattle.sheet.specs.Rules.{Rule, rule, ofCall, ofStep, ofIndex, accepted, firstBroken, rulesOfStep, fiveToEight, elevens, refusal6, refusal7, refusal8, refusal11, hasDeformation, someFrom, endBefore, refusal1, refusal2, refusal3, refusal4, refusal5, refusal5At, readerOrder, refusalOf}
+use Rattle.sheet.specs.Layout.{formOf, ownCountOf, offsetAt, lengthAt, stepCountOf, kindAt, stepAt}
+use Rattle.sheet.specs.Rules.{Rule, rule, ofCall, ofStep, ofIndex, accepted, firstBroken, rulesOfStep, fiveToEight, elevens, refusal6, refusal7, refusal8, refusal11, hasDeformation, someFrom, endBefore, refusal1, refusal2, refusal3, refusal4, refusal20, refusal5, refusal5At, readerOrder, refusalOf}
 use Rattle.sheet.specs.Given.{Unbroken}
 
 -- ---- numbers that a list of rules does not give
@@ -60,16 +60,17 @@ unfolding elevens
 without-elevens n other kind zero i = none
 without-elevens n other kind (suc k) i = without-rule 11 (λ e. other (sym e)) (without-elevens n other kind k (i + 1))
 
--- the reader's rules have the numbers 1 to 8 and 11
-pub without-reader : (n : ℕ) → (0 < n → n < 9 → ⊥) → (n ≡ 11 → ⊥) → (s : List ℕ) → Without n (readerOrder s)
+-- the reader's rules have the numbers 1 to 8, 11 and 20
+pub without-reader : (n : ℕ) → (0 < n → n < 9 → ⊥) → (n ≡ 11 → ⊥) → (n ≡ 20 → ⊥) → (s : List ℕ) → Without n (readerOrder s)
 unfolding readerOrder
-without-reader n other not11 s =
+without-reader n other not11 not20 s =
     without-rule 1 (λ e. other (omega arith) (omega arith))
     (without-rule 2 (λ e. other (omega arith) (omega arith))
     (without-rule 3 (λ e. other (omega arith) (omega arith))
     (without-rule 4 (λ e. other (omega arith) (omega arith))
+    (without-rule 20 (λ e. not20 (sym e))
     (without-append (without-steps n (λ a b. other (omega arith) b) (refusal5At s) (stepAt s) (stepCountOf s) 0)
-    (without-elevens n not11 (kindAt s) (stepCountOf s) 0)))))
+    (without-elevens n not11 (kindAt s) (stepCountOf s) 0))))))
 
 pub numbered-step : (i : ℕ) (five : Bool) (step : Step) → Numbered (rulesOfStep i five step)
 numbered-step = without-step 0 (λ a b. omega arith)
@@ -81,7 +82,7 @@ pub numbered-elevens : (kind : ℕ → ℕ) (k i : ℕ) → Numbered (elevens ki
 numbered-elevens = without-elevens 0 (λ e. omega arith)
 
 pub numbered-reader : (s : List ℕ) → Numbered (readerOrder s)
-numbered-reader = without-reader 0 (λ a b. omega arith) (λ e. omega arith)
+numbered-reader = without-reader 0 (λ a b. omega arith) (λ e. omega arith) (λ e. omega arith)
 
 -- ---- one list after another
 
@@ -130,11 +131,11 @@ by-lowest i true false false true = refl
 by-lowest i true false false false = refl
 
 -- of a body's rules 5 to 8 the first that is broken is the lowest
-pub lowest-first : (i kind : ℕ) (b : List ℕ)
-    → firstBroken (rulesOfStep i (refusal5 kind b) (stepOf kind b)) ≡ byNumber i (lowestBroken kind b)
+pub lowest-first : (i known kind : ℕ) (b : List ℕ)
+    → firstBroken (rulesOfStep i (refusal5 known kind b) (stepOf kind b)) ≡ byNumber i (lowestBroken known kind b)
 unfolding firstBroken rulesOfStep refusal5 lowestBroken
-lowest-first i kind b =
-    by-lowest i (bodyInRule kind b) (lacksConvention (stepOf kind b)) (lacksEpoch (stepOf kind b)) (lacksDuration (stepOf kind b))
+lowest-first i known kind b =
+    by-lowest i (bodyInRule known kind b) (lacksConvention (stepOf kind b)) (lacksEpoch (stepOf kind b)) (lacksDuration (stepOf kind b))
 
 -- ---- a turn of each loop
 
@@ -241,21 +242,22 @@ count-kept n e =
     let p = neither (eqb n 0) (ltb 16 n) e in
     (omega (arith, eqb-false n 0 (p .0)), ltb-false 16 n (p .1))
 
-module _ (s : List ℕ) (kept1 : refusal1 s ≡ false) (kept2 : refusal2 s ≡ false) (kept3 : refusal3 (stepCountOf s) ≡ false) (kept4 : refusal4 s ≡ false)
+module _ (s : List ℕ) (kept1 : refusal1 s ≡ false) (kept2 : refusal2 (formOf s) ≡ false) (kept3 : refusal3 (stepCountOf s) ≡ false) (kept4 : refusal4 s ≡ false)
+    (kept20 : refusal20 s ≡ false)
     (n : ℕ) (count : n ≡ stepCountOf s) (r : Refusal) (answer : r ≡ firstBroken (fiveToEight (refusal5At s) (stepAt s) n 0)) where
-  passed-four : refusalOf s ≡ firstBroken (fiveToEight (refusal5At s) (stepAt s) (stepCountOf s) 0 ++ elevens (kindAt s) (stepCountOf s) 0)
+  passed-twenty : refusalOf s ≡ firstBroken (fiveToEight (refusal5At s) (stepAt s) (stepCountOf s) 0 ++ elevens (kindAt s) (stepCountOf s) 0)
   unfolding refusalOf readerOrder firstBroken
-  passed-four = rw (kept1, kept2, kept3, kept4)
+  passed-twenty = rw (kept1, kept2, kept3, kept4, kept20)
 
-  -- after 1 to 4 a step answers
+  -- after 1 to 4 and 20 a step answers
   pub reader-step : (r .number ≡ 0 → ⊥) → refusalOf s ≡ r
   reader-step h =
-      passed-four ∙ rw (← count) (broken-first (fiveToEight (refusal5At s) (stepAt s) n 0) (elevens (kindAt s) n 0) (rw answer at h) ∙ sym answer)
+      passed-twenty ∙ rw (← count) (broken-first (fiveToEight (refusal5At s) (stepAt s) n 0) (elevens (kindAt s) n 0) (rw answer at h) ∙ sym answer)
 
   -- or 11
   pub reader-eleven : r .number ≡ 0 → refusalOf s ≡ firstBroken (elevens (kindAt s) n 0)
   reader-eleven h =
-      passed-four
+      passed-twenty
       ∙ rw (← count)
       (kept-then (fiveToEight (refusal5At s) (stepAt s) n 0) (elevens (kindAt s) n 0) (numbered-steps (refusal5At s) (stepAt s) n 0) (rw answer at h))
 
@@ -267,6 +269,19 @@ kept-count s (Unbroken.next a (Unbroken.next b (Unbroken.next c k))) = c
 pub accepted-count : (s : List ℕ) → refusalOf s .number ≡ 0 → stepCountOf s ≤ 16
 unfolding refusalOf
 accepted-count s e = count-kept (stepCountOf s) (kept-count s (all-kept (readerOrder s) (numbered-reader s) e)) .1
+
+pub own-few : (s : List ℕ) → refusal20 s ≡ false → ownCountOf s ≤ 8
+unfolding refusal20
+own-few s e = ltb-false _ _ (neither _ _ (neither _ _ e .0) .0)
+
+kept-twenty : (s : List ℕ) → Unbroken (readerOrder s) → refusal20 s ≡ false
+unfolding readerOrder
+kept-twenty s (Unbroken.next a (Unbroken.next b (Unbroken.next c (Unbroken.next d (Unbroken.next g k))))) = g
+
+-- and at most 8 ellipsoids of its own
+pub accepted-own : (s : List ℕ) → refusalOf s .number ≡ 0 → ownCountOf s ≤ 8
+unfolding refusalOf
+accepted-own s e = own-few s (kept-twenty s (all-kept (readerOrder s) (numbered-reader s) e))
 
 -- ---- given exactly when
 
@@ -313,10 +328,10 @@ number-given-exactly-when before r after some w later = (
 pub none-given-exactly-when : (l : List Rule) → Numbered l → (firstBroken l .number ≡ 0) ↔ Unbroken l
 none-given-exactly-when l n = (all-kept l n, λ k. ap (λ (x : Refusal). x .number) (none-broken l k))
 
--- the reader gives no other numbers than 1 to 8 and 11
-pub reader-never-gives : (n : ℕ) → (n ≡ 0 → ⊥) → (0 < n → n < 9 → ⊥) → (n ≡ 11 → ⊥) → (s : List ℕ) → refusalOf s .number ≡ n → ⊥
+-- the reader gives no other numbers than 1 to 8, 11 and 20
+pub reader-never-gives : (n : ℕ) → (n ≡ 0 → ⊥) → (0 < n → n < 9 → ⊥) → (n ≡ 11 → ⊥) → (n ≡ 20 → ⊥) → (s : List ℕ) → refusalOf s .number ≡ n → ⊥
 unfolding refusalOf
-reader-never-gives n some other not11 s e = never-given n some (readerOrder s) (without-reader n other not11 s) e
+reader-never-gives n some other not11 not20 s e = never-given n some (readerOrder s) (without-reader n other not11 not20 s) e
 
 -- ---- the sheet's own refusal as the first rule of a call's order
 
@@ -331,9 +346,9 @@ pub keep-own : (s : List ℕ) → refusalOf s .number ≡ 0 → ownRule s .broke
 keep-own s e = rw (eq-eqb _ _ e)
 
 -- it gives no other number than the reader's, and none where it is broken
-pub own-without : (n : ℕ) → (0 < n → n < 9 → ⊥) → (n ≡ 11 → ⊥) → (s : List ℕ) → ownRule s .broken ≡ true → refusalOf s .number ≡ n → ⊥
-own-without zero other not11 s b e = eqb-false _ _ (not-true _ b) e
-own-without (suc n) other not11 s b e = reader-never-gives (suc n) (not-zero n) other not11 s e
+pub own-without : (n : ℕ) → (0 < n → n < 9 → ⊥) → (n ≡ 11 → ⊥) → (n ≡ 20 → ⊥) → (s : List ℕ) → ownRule s .broken ≡ true → refusalOf s .number ≡ n → ⊥
+own-without zero other not11 not20 s b e = eqb-false _ _ (not-true _ b) e
+own-without (suc n) other not11 not20 s b e = reader-never-gives (suc n) (not-zero n) other not11 not20 s e
 
 -- a number that no later rule has is given exactly when the reader gives it
 pub own-given-exactly-when : (s : List ℕ) (later : List Rule) (n : ℕ) → (n ≡ 0 → ⊥) → Without n later

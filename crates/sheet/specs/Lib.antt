@@ -1,5 +1,6 @@
 -- What the contracts of `sheet` cite: where a sheet's words and bodies stand, and the rules by
--- their numbers; and when a refusal is given, in words.
+-- their numbers; when a refusal is given, in words; and the reader of form 1 alone, for comparison.
 pub mod Layout
 pub mod Rules
 pub mod Given
+pub mod FormOne

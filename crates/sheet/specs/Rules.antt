@@ -1,5 +1,5 @@
--- The rules of the sheet by document 01's numbers: `refusal1` to `refusal8` and `refusal11` say
--- when the rule of that number is broken. The order in which they are asked stands in
+-- The rules of the sheet by the documents' numbers: `refusal1` to `refusal8`, `refusal11` and
+-- `refusal20` say when the rule of that number is broken. The order in which they are asked stands in
 -- `readerOrder`; an answer is the first that is broken. A record's rules and the writer's order
 -- stand in sheet_writer.
 use Prim.Native.Nat.{ℕ, zero, suc, _+_}
@@ -7,30 +7,32 @@ use mathlib.Core.List.{List, [], _∷_, _++_}
 use mathlib.Core.Bool.{Bool, false, not, cond, _&&_, _||_}
 use lib.Dec.{eqb, ltb}
 use lib.ListN.{length}
+use Rattle.ellipsoid.specs.Figure.{knownOf, axesInRuleOf}
 use Rattle.bodies.specs.declared.Step.{Step}
 use Rattle.bodies.specs.Kinds.{lengthOf}
 use Rattle.bodies.specs.Rules.{bodyInRule, lacksConvention, lacksEpoch, lacksDuration}
 use Rattle.sheet.specs.declared.Refusal.{Refusal}
 use Rattle.sheet.specs.declared.Reading.{Reading}
-use Rattle.sheet.specs.Layout.{formOf, totalLengthOf, stepCountOf, directoryOffsetOf, kindAt, invertedAt, offsetAt, lengthAt, directoryEnd, bodyAt, stepAt, recordOf, blankSheet}
+use Rattle.sheet.specs.Layout.{formOf, totalLengthOf, stepCountOf, directoryOffsetOf, headerOf, mostOf, ownCountOf, tableOf, tableOffsetOf, rowAt, bodiesOf, kindAt, invertedAt, offsetAt, lengthAt, bodyAt, stepAt, recordOf, blankSheet}
 
 -- ---- the sheet as a whole
 
--- fewer than 16 or more than 4,240 bytes, or total length differs
+-- fewer than 24 or more than 4,376 bytes where the form word is 2, fewer than 16 or more than 4,240
+-- otherwise, or total length differs
 unfoldable pub refusal1 : List ℕ → Bool
-refusal1 s = ltb (length s) 16 || ltb 4240 (length s) || not (eqb (totalLengthOf s) (length s))
+refusal1 s = ltb (length s) (headerOf (formOf s)) || ltb (mostOf (formOf s)) (length s) || not (eqb (totalLengthOf s) (length s))
 
--- form not 1
-unfoldable pub refusal2 : List ℕ → Bool
-refusal2 s = not (eqb (formOf s) 1)
+-- form neither 1 nor 2
+unfoldable pub refusal2 : ℕ → Bool
+refusal2 form = not (eqb form 1 || eqb form 2)
 
 -- step count 0 or over 16
 unfoldable pub refusal3 : ℕ → Bool
 refusal3 count = eqb count 0 || ltb 16 count
 
--- where the body before step i ends; before the first step's body the directory ends
+-- where the body before step i ends; before the first step's body the counted rows end
 unfoldable pub endBefore : List ℕ → ℕ → ℕ
-endBefore s zero = directoryEnd (stepCountOf s)
+endBefore s zero = bodiesOf s
 endBefore s (suc i) = offsetAt s i + lengthAt s i
 
 -- inverted 0 or 1
@@ -51,24 +53,33 @@ unfoldable pub someFrom : (ℕ → Bool) → ℕ → ℕ → Bool
 someFrom broken zero i = false
 someFrom broken (suc k) i = broken i || someFrom broken k (i + 1)
 
--- directory offset not 16, a directory outside the sheet, a place of it out of rule, or bodies not
--- ending at the total length
+-- directory offset not where the header ends, a directory or counted rows outside the sheet, a place
+-- of the directory out of rule, or bodies not ending at the total length
 unfoldable pub refusal4 : List ℕ → Bool
 refusal4 s =
-    not (eqb (directoryOffsetOf s) 16)
-    || ltb (length s) (directoryEnd (stepCountOf s))
+    not (eqb (directoryOffsetOf s) (headerOf (formOf s)))
+    || ltb (length s) (bodiesOf s)
     || someFrom (placeBroken s) (stepCountOf s) 0
     || not (eqb (endBefore s (stepCountOf s)) (totalLengthOf s))
 
+-- a row out of rule
+unfoldable pub rowBroken : List ℕ → ℕ → Bool
+rowBroken s j = not (axesInRuleOf (rowAt s j))
+
+-- more than 8 own ellipsoids, a table offset not where the directory ends, or a counted row out of
+-- rule; no sheet of form 1 breaks it
+unfoldable pub refusal20 : List ℕ → Bool
+refusal20 s = ltb 8 (ownCountOf s) || not (eqb (tableOffsetOf s) (tableOf s)) || someFrom (rowBroken s) (ownCountOf s) 0
+
 -- ---- a step
 
--- a body field outside its rule
-unfoldable pub refusal5 : ℕ → List ℕ → Bool
-refusal5 kind body = not (bodyInRule kind body)
+-- a body field outside its rule, where so many ellipsoids are known
+unfoldable pub refusal5 : ℕ → ℕ → List ℕ → Bool
+refusal5 known kind body = not (bodyInRule known kind body)
 
 -- the same at step i of a sheet
 abbrev pub refusal5At : List ℕ → ℕ → Bool
-refusal5At s i = refusal5 (kindAt s i) (bodyAt s i)
+refusal5At s i = refusal5 (knownOf (ownCountOf s)) (kindAt s i) (bodyAt s i)
 
 -- rotated, convention none
 abbrev pub refusal6 : Step → Bool
@@ -132,13 +143,14 @@ unfoldable pub elevens : (ℕ → ℕ) → ℕ → ℕ → List Rule
 elevens kind zero i = []
 elevens kind (suc k) i = rule (ofStep 11 i) (refusal11 kind i) ∷ elevens kind k (i + 1)
 
--- the reader's order: 1, 2, 3, 4; then step by step 5 to 8; then 11
+-- the reader's order: 1, 2, 3, 4, 20; then step by step 5 to 8; then 11
 unfoldable pub readerOrder : List ℕ → List Rule
 readerOrder s =
     rule (ofCall 1) (refusal1 s)
-    ∷ rule (ofCall 2) (refusal2 s)
+    ∷ rule (ofCall 2) (refusal2 (formOf s))
     ∷ rule (ofCall 3) (refusal3 (stepCountOf s))
     ∷ rule (ofCall 4) (refusal4 s)
+    ∷ rule (ofCall 20) (refusal20 s)
     ∷ (fiveToEight (refusal5At s) (stepAt s) (stepCountOf s) 0
     ++ elevens (kindAt s) (stepCountOf s) 0)
 

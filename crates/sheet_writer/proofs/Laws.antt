@@ -1,33 +1,35 @@
 -- What is true of sheets as they are written, for callers to cite: a refusal is given exactly when
 -- its rule is broken and none before it; what is read and written again is the same bytes; what is
 -- written and read is the same record; a sheet is read in one way only. Assumes nothing.
-use mathlib.Core.Path.{_≡_, sym, ap, _∙_}
+use mathlib.Core.Path.{_≡_, refl, sym, ap, _∙_}
 use mathlib.Core.Logic.{_↔_}
 use Prim.Native.Nat.{ℕ, _<_, _≤_}
 use mathlib.Core.List.{List}
-use mathlib.Core.Bool.{true, false, not}
+use mathlib.Core.Bool.{Bool, true, false, not, cond}
 use native.Mathlib.Omega.{arith}
 use native.Mathlib.Nat.{zero-add}
 use borrow.Author.Tests.{ne-eqb, le-ltb}
+use lib.Dec.{eqb}
 use lib.ListN.{length, take}
 use lib.Seq.{take-at}
-use Rattle.words.specs.Words.{Bytes, put}
+use Rattle.words.specs.Words.{Bytes, word32, put}
+use Rattle.ellipsoid.specs.Figure.{knownOf}
 use Rattle.bodies.specs.Rules.{stepInRule}
 use Rattle.bodies.proofs.Laws.{step-of-body-in-rule}
 use Rattle.sheet.specs.declared.Refusal.{Refusal}
 use Rattle.sheet.specs.declared.Sheet.{Sheet}
-use Rattle.sheet.specs.Layout.{stepCountOf, kindAt, bodyAt, recordOf, entryOf, stepIn, kindIn}
+use Rattle.sheet.specs.Layout.{formOf, inFormTwo, ownCountOf, stepCountOf, kindAt, bodyAt, recordOf, entryOf, stepIn, kindIn}
 use Rattle.sheet_writer.specs.Bytes.{sheetLength, sheetBytesOf}
-use Rattle.sheet.specs.Rules.{accepted, refusalOf, refusal3, refusal6, refusal7, refusal8, refusal11, fiveToEight, elevens}
-use Rattle.sheet_writer.specs.Rules.{writerOrder, writerRefusalOf, roomAfterOf, recordRefusal4, recordRefusal5, refusal15, invertedBrokenIn}
+use Rattle.sheet.specs.Rules.{accepted, refusalOf, someFrom, refusal2, refusal3, refusal6, refusal7, refusal8, refusal11, fiveToEight, elevens}
+use Rattle.sheet_writer.specs.Rules.{writerOrder, writerRefusalOf, roomAfterOf, mostOwn, rowBrokenIn, recordRefusal4, recordRefusal20, recordRefusal5, refusal15, invertedBrokenIn}
 use Rattle.sheet.specs.Given.{Unbroken, FirstBroken}
 use Rattle.sheet.proofs.Order.{none-broken, kept-append}
 use Rattle.sheet.proofs.Each.{StepKept, every-step, every-eleven, every-kept, eleven-same}
 use Rattle.sheet.proofs.Accepted.{Accepted, accepted-keeps, keeps-accepted, body-kept}
 use Rattle.sheet_writer.specs.SameSheet.{HeldSheet, SameSheet}
-use Rattle.sheet_writer.proofs.Forth.{taken, count-back, accepted-back, entry-back}
+use Rattle.sheet_writer.proofs.Forth.{taken, form-back, count-back, own-back, row-back, accepted-back, entry-back}
 use Rattle.sheet_writer.proofs.Writing.{sheet-bytes-length}
-use Rattle.sheet.proofs.Back.{record-count, count-same, entry-same, step-same, inverted-same, kind-same}
+use Rattle.sheet.proofs.Back.{record-form, record-count, record-own, row-here, count-same, entry-same, step-same, inverted-same, kind-same}
 use Rattle.sheet_writer.proofs.SameBytes.{sheet-length-same, bytes-same}
 use Rattle.sheet.proofs.Laws.{first-broken-exactly-when}
 
@@ -48,6 +50,9 @@ module _ (s : List ℕ) (bytes : Bytes s) (e : refusalOf s ≡ accepted) where
   count : recordOf s .count ≡ stepCountOf s
   count = count-same s bytes ok
 
+  takes-two : refusal2 (recordOf s .form) ≡ false
+  takes-two = ap refusal2 (record-form s) ∙ ok .form
+
   takes-three : refusal3 (recordOf s .count) ≡ false
   unfolding refusal3
   takes-three =
@@ -61,13 +66,27 @@ module _ (s : List ℕ) (bytes : Bytes s) (e : refusalOf s ≡ accepted) where
       (λ i h. let l : i < stepCountOf s = omega (arith, count) in
       rw zero-add (le-ltb 1 (entryOf (recordOf s) i .inverted) (omega (arith, inverted-same s bytes ok i l, ok .places i l .turned))))
 
+  most-own : (t : Bool) → eqb (formOf s) 2 ≡ t → cond t (word32 s 16) 0 ≤ 8 → cond t (word32 s 16) 0 ≤ cond t 8 0
+  most-own true e h = h
+  most-own false e h = omega arith
+
+  takes-twenty : recordRefusal20 (recordOf s) ≡ false
+  unfolding recordRefusal20 rowBrokenIn mostOwn inFormTwo
+  takes-twenty =
+      let own = record-own s in
+      let rows : someFrom (rowBrokenIn (recordOf s)) (recordOf s .own) 0 ≡ false =
+      every-kept (rowBrokenIn (recordOf s)) (recordOf s .own) 0
+      (λ j h. let l : j < ownCountOf s = omega (arith, own) in rw (zero-add, row-here s j (ok .few-own) l, ok .own-rows j l)) in
+      rw (record-form s, own, le-ltb _ _ (most-own (eqb (formOf s) 2) refl (ok .few-own)), ← own, rows)
+
   takes-step : (i : ℕ) → i < stepCountOf s → StepKept (recordRefusal5 (recordOf s) i) (stepIn (recordOf s) i)
   unfolding recordRefusal5
   takes-step i h =
       let same = step-same s bytes ok i h in
       let rule = ok .steps i h in
-      let five : stepInRule (stepIn (recordOf s) i) ≡ true =
-      ap stepInRule same ∙ step-of-body-in-rule (kindAt s i) (bodyAt s i) (body-kept s i (rule .kept5)) in
+      let known = knownOf (ownCountOf s) in
+      let five : stepInRule (knownOf (recordOf s .own)) (stepIn (recordOf s) i) ≡ true =
+      ap (λ (k : ℕ). stepInRule (knownOf k) (stepIn (recordOf s) i)) (record-own s) ∙ ap (stepInRule known) same ∙ step-of-body-in-rule known (kindAt s i) (bodyAt s i) (body-kept s i (rule .kept5)) in
       record {
         kept5 = ap not five;
         kept6 = ap refusal6 same ∙ rule .kept6;
@@ -93,7 +112,8 @@ module _ (s : List ℕ) (bytes : Bytes s) (e : refusalOf s ≡ accepted) where
       let second : Unbroken (elevens (kindIn r) (r .count) 0) =
       every-eleven (kindIn r) (r .count) 0 (λ i l. rw zero-add (takes-eleven i (omega (arith, count)))) in
       none-broken (writerOrder r room)
-      (Unbroken.next takes-three (Unbroken.next takes-four (kept-append steps (kept-append second (Unbroken.next (takes-room room h) Unbroken.none)))))
+      (Unbroken.next takes-two (Unbroken.next takes-three (Unbroken.next takes-four (Unbroken.next takes-twenty
+      (kept-append steps (kept-append second (Unbroken.next (takes-room room h) Unbroken.none)))))))
 
   -- and gives the same bytes
   pub read-then-written : (room : List ℕ) → length s ≤ length room → roomAfterOf (recordOf s) room ≡ put room 0 s
@@ -111,8 +131,12 @@ written-then-read sheet room held e =
     let t = taken sheet room (ap (λ (x : Refusal). x .number) e) in (
       keeps-accepted (sheetBytesOf sheet) (accepted-back sheet t held),
       record {
+        same-form = record-form (sheetBytesOf sheet) ∙ form-back sheet t held;
         same-count = record-count (sheetBytesOf sheet) ∙ count-back sheet t held;
         same-entries = λ i h. entry-same (sheetBytesOf sheet) i (omega (arith, t .few-steps)) ∙ entry-back sheet t held i h;
+        same-own = record-own (sheetBytesOf sheet) ∙ own-back sheet t held;
+        same-rows = λ j h.
+            row-here (sheetBytesOf sheet) j (accepted-back sheet t held .few-own) (omega (arith, own-back sheet t held)) ∙ row-back sheet t held j h;
       },
     )
 

@@ -1,24 +1,25 @@
 -- The bytes of a record as the writer's loops meet them: where each part starts, how long it is,
 -- and a turn of each loop. Assumes nothing.
-use mathlib.Core.Path.{_≡_, refl}
+use mathlib.Core.Path.{_≡_, refl, ap, _∙_}
 use Prim.Native.Nat.{ℕ, zero, suc, _+_, _*_, _-_, _≤_, _<_}
 use mathlib.Core.List.{List, _++_}
 use mathlib.Core.Bool.{Bool, true, false, cond}
 use native.Mathlib.Omega.{arith}
-use native.Mathlib.Nat.{add-zero, add-suc}
+use native.Mathlib.Nat.{zero-add, add-zero, add-suc}
 use native.Mathlib.Numerals.{add-one}
 use lib.Dec.{eqb}
 use lib.ListN.{length, length-append}
-use Rattle.words.specs.Words.{put}
-use Rattle.words.proofs.Laws.{length-le32, put-put}
+use Rattle.words.specs.Words.{put, le32}
+use Rattle.words.proofs.Laws.{length-le32, length-leNumber, put-put}
+use Rattle.ellipsoid.specs.declared.Axes.{Axes}
 use Rattle.bodies.specs.Kinds.{lengthOf}
 use Rattle.body_writer.specs.Write.{bytesOf}
 use Rattle.body_writer.proofs.Laws.{bytes-length}
 use Rattle.sheet.specs.declared.Sheet.{Sheet}
-use Rattle.sheet.specs.Layout.{stepIn, kindIn}
-use Rattle.sheet_writer.specs.Bytes.{lengthIn, bodyStart, sheetLength, headerBytes, placeBytes, directoryBytes, bodiesBytes, sheetBytesOf}
+use Rattle.sheet.specs.Layout.{headerOf, stepIn, kindIn}
+use Rattle.sheet_writer.specs.Bytes.{lengthIn, rowIn, rowsStart, bodyStart, sheetLength, headerBytes, moreBytes, placeBytes, directoryBytes, rowBytes, rowsBytes, bodiesBytes, sheetBytesOf}
 
-at-most : (b : Bool) (x y m : ℕ) → x ≤ m → y ≤ m → cond b x y ≤ m
+pub at-most : (b : Bool) (x y m : ℕ) → x ≤ m → y ≤ m → cond b x y ≤ m
 at-most true x y m p q = p
 at-most false x y m p q = q
 
@@ -30,12 +31,16 @@ length-small kind =
     (at-most (eqb kind 4) _ _ 248 (omega arith) (at-most (eqb kind 5) _ _ 248 (omega arith)
     (at-most (eqb kind 6) _ _ 248 (omega arith) (omega arith))))))
 
+pub head-of-two : (form : ℕ) → eqb form 2 ≡ true → headerOf form ≡ 24
+unfolding headerOf
+head-of-two form e = rw e
+
 module _ (sheet : Sheet) where
   pub start-next : (i : ℕ) → bodyStart sheet (i + 1) ≡ bodyStart sheet i + lengthIn sheet i
   unfolding bodyStart
   start-next i = rw add-one
 
-  pub start-small : (i : ℕ) → bodyStart sheet i ≤ 16 + 16 * sheet .count + 248 * i
+  pub start-small : (i : ℕ) → bodyStart sheet i ≤ rowsStart sheet + 16 * sheet .own + 248 * i
   unfolding bodyStart
   start-small zero = omega arith
   start-small (suc i) = omega (arith, start-small i, length-small (kindIn sheet i))
@@ -51,7 +56,7 @@ module _ (sheet : Sheet) where
       let k : n ≡ i + 1 + (n - (i + 1)) = omega arith in
       rw k (rw (← start-next i) (start-grows (i + 1) (n - (i + 1))))
 
-  pub bodies-length : (n : ℕ) → 16 + 16 * sheet .count + length (bodiesBytes sheet n) ≡ bodyStart sheet n
+  pub bodies-length : (n : ℕ) → rowsStart sheet + 16 * sheet .own + length (bodiesBytes sheet n) ≡ bodyStart sheet n
   unfolding bodiesBytes bodyStart
   bodies-length zero = omega arith
   bodies-length (suc n) = simp (length-append, bytes-length) (omega (arith, bodies-length n))
@@ -69,39 +74,83 @@ module _ (sheet : Sheet) where
   unfolding headerBytes
   header-length = simp (length-append, length-le32)
 
+  pub more-length : (t : Bool) → eqb (sheet .form) 2 ≡ t → 16 + length (moreBytes sheet) ≡ headerOf (sheet .form)
+  unfolding moreBytes headerOf le32
+  more-length true e = rw e
+  more-length false e = rw e
+
+  pub row-length : (r : Axes) → length (rowBytes r) ≡ 16
+  unfolding rowBytes
+  row-length r = simp (length-append, length-leNumber)
+
+  pub rows-length : (n : ℕ) → length (rowsBytes sheet n) ≡ 16 * n
+  unfolding rowsBytes
+  rows-length zero = omega arith
+  rows-length (suc n) = simp (length-append, row-length) (omega (arith, rows-length n))
+
+  -- the header of either form, whole
+  abbrev pub head : List ℕ
+  head = headerBytes sheet ++ moreBytes sheet
+
+  pub head-length : length head ≡ headerOf (sheet .form)
+  head-length = simp (length-append, header-length) (more-length (eqb (sheet .form) 2) refl)
+
+  pub head-small : headerOf (sheet .form) ≤ 24
+  unfolding headerOf
+  head-small = at-most (eqb (sheet .form) 2) 24 16 24 (omega arith) (omega arith)
+
   pub sheet-bytes-length : length (sheetBytesOf sheet) ≡ sheetLength sheet
   unfolding sheetBytesOf
   sheet-bytes-length =
-      simp (length-append, header-length, directory-length) (omega (arith, bodies-length (sheet .count)))
+      simp (length-append, header-length, directory-length, rows-length)
+      (omega (arith, more-length (eqb (sheet .form) 2) refl, bodies-length (sheet .count)))
 
   -- ---- a turn of each loop
 
-  pub directory-next : (l : List ℕ) (i : ℕ) → 16 + 16 * i ≤ length l
-      → put (put l 16 (directoryBytes sheet i)) (16 + 16 * i) (placeBytes sheet i) ≡ put l 16 (directoryBytes sheet (i + 1))
+  pub directory-next : (l : List ℕ) (i : ℕ) → headerOf (sheet .form) + 16 * i ≤ length l
+      → put (put l (headerOf (sheet .form)) (directoryBytes sheet i)) (headerOf (sheet .form) + 16 * i) (placeBytes sheet i)
+      ≡ put l (headerOf (sheet .form)) (directoryBytes sheet (i + 1))
   unfolding directoryBytes
-  directory-next l i h = rw add-one (put-put l (directoryBytes sheet i) (placeBytes sheet i) 16 (16 * i) (directory-length i) h)
+  directory-next l i h =
+      rw add-one (put-put l (directoryBytes sheet i) (placeBytes sheet i) (headerOf (sheet .form)) (16 * i) (directory-length i) h)
+
+  pub rows-next : (l : List ℕ) (j : ℕ) → rowsStart sheet + 16 * j ≤ length l
+      → put (put l (rowsStart sheet) (rowsBytes sheet j)) (rowsStart sheet + 16 * j) (rowBytes (rowIn sheet j)) ≡ put l (rowsStart sheet) (rowsBytes sheet (j + 1))
+  unfolding rowsBytes
+  rows-next l j h = rw add-one (put-put l (rowsBytes sheet j) (rowBytes (rowIn sheet j)) (rowsStart sheet) (16 * j) (rows-length j) h)
+
+  -- where the first body starts
+  pub first-start : bodyStart sheet 0 ≡ rowsStart sheet + 16 * sheet .own
+  unfolding bodyStart
+  first-start = refl
 
   pub bodies-next : (l : List ℕ) (i : ℕ) → bodyStart sheet i ≤ length l
-      → put (put l (16 + 16 * sheet .count) (bodiesBytes sheet i)) (bodyStart sheet i) (bytesOf (stepIn sheet i))
-      ≡ put l (16 + 16 * sheet .count) (bodiesBytes sheet (i + 1))
+      → put (put l (bodyStart sheet 0) (bodiesBytes sheet i)) (bodyStart sheet i) (bytesOf (stepIn sheet i)) ≡ put l (bodyStart sheet 0) (bodiesBytes sheet (i + 1))
   unfolding bodiesBytes
   bodies-next l i h =
-      let e = bodies-length i in
+      let e : bodyStart sheet 0 + length (bodiesBytes sheet i) ≡ bodyStart sheet i = ap (λ (k : ℕ). k + length (bodiesBytes sheet i)) first-start ∙ bodies-length i in
       rw (add-one, ← e)
-      (put-put l (bodiesBytes sheet i) (bytesOf (stepIn sheet i)) (16 + 16 * sheet .count) (length (bodiesBytes sheet i)) refl (omega arith))
+      (put-put l (bodiesBytes sheet i) (bytesOf (stepIn sheet i)) (bodyStart sheet 0) (length (bodiesBytes sheet i)) refl (omega (arith, e)))
 
-  -- header, directory and bodies, one after the other, are the sheet
-  pub three-puts : (l : List ℕ) → sheetLength sheet ≤ length l
-      → put (put (put l 0 (headerBytes sheet)) 16 (directoryBytes sheet (sheet .count))) (16 + 16 * sheet .count) (bodiesBytes sheet (sheet .count))
+  -- header, directory, rows and bodies, one after the other, are the sheet
+  pub four-puts : (l : List ℕ) → sheetLength sheet ≤ length l
+      → put (put (put (put l 0 head) (headerOf (sheet .form)) (directoryBytes sheet (sheet .count))) (rowsStart sheet) (rowsBytes sheet (sheet .own)))
+      (bodyStart sheet 0) (bodiesBytes sheet (sheet .count))
       ≡ put l 0 (sheetBytesOf sheet)
   unfolding sheetBytesOf
-  three-puts l h =
-      let d = bodies-length (sheet .count) in
-      let from : 0 + (16 + 16 * sheet .count) ≡ 16 + 16 * sheet .count = omega arith in
-      let short : length (headerBytes sheet ++ directoryBytes sheet (sheet .count)) ≡ 16 + 16 * sheet .count =
-      simp (length-append, header-length, directory-length) in
-      let first : put (put l 0 (headerBytes sheet)) 16 (directoryBytes sheet (sheet .count)) ≡ put l 0 (headerBytes sheet ++ directoryBytes sheet (sheet .count)) =
-      put-put l (headerBytes sheet) (directoryBytes sheet (sheet .count)) 0 16 header-length (omega arith) in
-      rw first
-      (rw from at
-      (put-put l (headerBytes sheet ++ directoryBytes sheet (sheet .count)) (bodiesBytes sheet (sheet .count)) 0 (16 + 16 * sheet .count) short (omega arith)))
+  four-puts l h =
+      let n = sheet .count in
+      let own = sheet .own in
+      let d = bodies-length n in
+      let f = first-start in
+      let directory = head ++ directoryBytes sheet n in
+      let rows = directory ++ rowsBytes sheet own in
+      let one : length directory ≡ rowsStart sheet = rw (length-append, head-length, directory-length n) in
+      let two : length rows ≡ bodyStart sheet 0 = rw (length-append, one, rows-length own, f) in
+      let a : put (put l 0 head) (headerOf (sheet .form)) (directoryBytes sheet n) ≡ put l 0 directory =
+      rw zero-add at (put-put l head (directoryBytes sheet n) 0 (headerOf (sheet .form)) head-length (omega arith)) in
+      let b : put (put l 0 directory) (rowsStart sheet) (rowsBytes sheet own) ≡ put l 0 rows =
+      rw zero-add at (put-put l directory (rowsBytes sheet own) 0 (rowsStart sheet) one (omega arith)) in
+      let c : put (put l 0 rows) (bodyStart sheet 0) (bodiesBytes sheet n) ≡ put l 0 (rows ++ bodiesBytes sheet n) =
+      rw zero-add at (put-put l rows (bodiesBytes sheet n) 0 (bodyStart sheet 0) two (omega arith)) in
+      rw (a, b) c

@@ -11,7 +11,7 @@ ghost use Prim.Native.Nat.{_+_, _-_, _<_, _≤_};
 ghost use lib.ListN.{length};
 ghost use Rattle.text.specs.Text.{text, appended};
 ghost use Rattle.text.specs.Digits.{decimalOf};
-ghost use Rattle.show.specs.Show.{lineOf, headLine, headText, entryText, stepText, stepsText, acceptedText, ruleText, answerText, wordPlace, sheetPlace, stepPlace, refusedText, showText};
+ghost use Rattle.show.specs.Show.{lineOf, headLine, headText, moreText, rowText, rowsText, entryText, stepText, stepsText, acceptedText, ruleText, answerText, wordPlace, sheetPlace, stepPlace, refusedText, showText};
 
 fn put_count(room: &mut [u8], at: usize, n: usize) -> usize
     ensures { λ r. ⌜ text (now (room .exit)) r ≡ appended (text (now (room .entry)) at) (decimalOf n) ⌝ }
@@ -37,7 +37,7 @@ fn put_word(room: &mut [u8], at: usize, name: &[u8], n: u32) -> usize
 
 // The word at an offset; of a sheet that is too short to have it, that it is missing.
 fn put_head_word(room: &mut [u8], at: usize, name: &[u8], s: &[u8], offset: usize) -> usize
-    requires { ⌜ offset ≤ 12 ⌝ }
+    requires { ⌜ offset ≤ 20 ⌝ }
     ensures { λ r. ⌜ text (now (room .exit)) r ≡ appended (text (now (room .entry)) at) (headLine (now (name .entry)) (now (s .entry)) offset) ⌝ }
 {
     if s.len() < offset + 4 {
@@ -53,7 +53,49 @@ fn put_head(room: &mut [u8], at: usize, s: &[u8]) -> usize
     let p = put_head_word(room, at, b"form: ", s, 0);
     let q = put_head_word(room, p, b"total length: ", s, 4);
     let r = put_head_word(room, q, b"step count: ", s, 8);
-    put_head_word(room, r, b"directory offset: ", s, 12)
+    let t = put_head_word(room, r, b"directory offset: ", s, 12);
+    put_more(room, t, s)
+}
+
+// Form 2's two words more.
+fn put_more(room: &mut [u8], at: usize, s: &[u8]) -> usize
+    ensures { λ r. ⌜ text (now (room .exit)) r ≡ appended (text (now (room .entry)) at) (moreText (now (s .entry))) ⌝ }
+{
+    if sheet::form_of(s) == 2 {
+        let p = put_head_word(room, at, b"ellipsoid count: ", s, 16);
+        return put_head_word(room, p, b"table offset: ", s, 20);
+    }
+    text::put_bytes(room, at, b"")
+}
+
+// ----- own ellipsoids -----------------------------------------------------------------------
+
+// A row by the number that names it.
+fn put_row(room: &mut [u8], at: usize, s: &[u8], j: usize) -> usize
+    requires { ⌜ j < 4294967296 ⌝ }
+    ensures { λ r. ⌜ text (now (room .exit)) r ≡ appended (text (now (room .entry)) at) (rowText (now (s .entry)) j) ⌝ }
+{
+    let place = sheet::table_at(s) + 16 * j;
+    let p = text::put_bytes(room, at, b"ellipsoid ");
+    let q = put_count(room, p, j + 6);
+    let r = text::put_bytes(room, q, b": a ");
+    let t = figures::put_number_at(room, r, s, place);
+    let u = text::put_bytes(room, t, b" m, 1/f ");
+    let v = figures::put_number_at(room, u, s, place + 8);
+    text::put_bytes(room, v, b"\n")
+}
+
+fn put_rows(room: &mut [u8], at: usize, s: &[u8], n: usize) -> usize
+    requires { ⌜ n < 4294967296 ⌝ }
+    ensures { λ r. ⌜ text (now (room .exit)) r ≡ appended (text (now (room .entry)) at) (rowsText (now (s .entry)) n 0) ⌝ }
+{
+    let mut p = text::put_bytes(room, at, b"");
+    let mut i = 0;
+    while i < n {
+        p = put_row(room, p, s, i);
+        i += 1;
+    }
+    p
 }
 
 // ----- a step -----------------------------------------------------------------------------
@@ -104,8 +146,10 @@ fn put_accepted(room: &mut [u8], at: usize, s: &[u8]) -> usize
     ensures { λ r. ⌜ text (now (room .exit)) r ≡ appended (text (now (room .entry)) at) (acceptedText (now (s .entry))) ⌝ }
 {
     let n = sheet::step_count(s);
+    let own = sheet::own_count(s);
     let p = put_head(room, at, s);
-    put_steps(room, p, s, n)
+    let q = put_rows(room, p, s, own);
+    put_steps(room, q, s, n)
 }
 
 // ----- a refusal --------------------------------------------------------------------------
@@ -117,11 +161,11 @@ pub fn put_rule(room: &mut [u8], at: usize, number: u32) -> usize
         return text::put_bytes(
             room,
             at,
-            b"fewer than 16 or more than 4,240 bytes, or total length differs\n",
+            b"fewer than 16 or more than 4,240 bytes, of form 2 fewer than 24 or more than 4,376, or total length differs\n",
         );
     }
     if number == 2 {
-        return text::put_bytes(room, at, b"form not 1\n");
+        return text::put_bytes(room, at, b"form neither 1 nor 2\n");
     }
     if number == 3 {
         return text::put_bytes(room, at, b"step count 0 or over 16\n");
@@ -130,7 +174,7 @@ pub fn put_rule(room: &mut [u8], at: usize, number: u32) -> usize
         return text::put_bytes(
             room,
             at,
-            b"directory offset not 16, a directory outside the sheet, a kind, inverted word or body length outside its rule, an offset not where the body before it ends, or bodies not ending at the total length\n",
+            b"directory offset not where the header ends, a directory or own ellipsoids outside the sheet, a kind, inverted word or body length outside its rule, an offset not where the body before it ends, or bodies not ending at the total length\n",
         );
     }
     if number == 5 {
@@ -144,6 +188,13 @@ pub fn put_rule(room: &mut [u8], at: usize, number: u32) -> usize
     }
     if number == 8 {
         return text::put_bytes(room, at, b"neither dt nor t_epoch\n");
+    }
+    if number == 20 {
+        return text::put_bytes(
+            room,
+            at,
+            b"more than 8 own ellipsoids, a table offset not where the directory ends, or a row outside its rule\n",
+        );
     }
     text::put_bytes(room, at, b"second deformation step\n")
 }
@@ -178,6 +229,9 @@ fn word_place(s: &[u8], number: u32) -> usize
     if number == 3 {
         return 8;
     }
+    if number == 20 {
+        return faults::ellipsoid_fault(s);
+    }
     faults::fault(s)
 }
 
@@ -194,7 +248,7 @@ fn put_step_place(room: &mut [u8], at: usize, s: &[u8], i: u32) -> usize
     ensures { λ r. ⌜ text (now (room .exit)) r ≡ appended (text (now (room .entry)) at) (stepPlace (now (s .entry)) i) ⌝ }
 {
     let index = words::wide(i);
-    let entry = sheet::entry_offset(i);
+    let entry = sheet::entry_offset(sheet::form_of(s), i);
     let body = sheet::offset_at(s, index);
     let p = put_line(room, at, b"place: directory entry at byte ", entry);
     let q = put_word(room, p, b"place: body at byte ", body);

@@ -11,13 +11,12 @@ use lib.Ieee.{Float}
 use Rattle.tuple.specs.declared.Tuple.{Tuple}
 use Rattle.bodies.specs.declared.Step.{Step}
 use Rattle.sheet.specs.declared.Sheet.{Sheet}
-use Rattle.sheet.specs.declared.Entry.{Entry}
 use Rattle.sheet.specs.declared.Refusal.{Refusal}
-use Rattle.sheet.specs.Layout.{stepCountOf, kindAt, entryAt, stepAt, blankSheet, stepIn, kindIn}
-use Rattle.sheet.specs.Rules.{Rule, accepted, ofCall, ofStep, refusal1, refusal2, refusal3, refusal4, refusal5At, rulesOfStep, fiveToEight, elevens, readerOrder, hasDeformation, firstBroken, refusalOf, readingOf}
-use Rattle.sheet_writer.specs.Rules.{recordRefusal4, recordRefusal5, writerOrder, writerRefusalOf}
+use Rattle.sheet.specs.Layout.{formOf, stepCountOf, kindAt, stepAt, blankSheet, stepIn, kindIn}
+use Rattle.sheet.specs.Rules.{Rule, accepted, ofCall, ofStep, refusal1, refusal2, refusal3, refusal4, refusal20, refusal5At, rulesOfStep, fiveToEight, elevens, readerOrder, hasDeformation, firstBroken, refusalOf, readingOf}
+use Rattle.sheet_writer.specs.Rules.{recordRefusal4, recordRefusal20, recordRefusal5, writerOrder, writerRefusalOf}
 use Rattle.sheet.proofs.Order.{count-kept}
-use Rattle.chain.specs.Chain.{entriesOf}
+use Rattle.chain.specs.Chain.{linkAt, Link, entriesOf}
 use Rattle.chain.specs.Rules.{shiftRefusalOf, outcomeOf, shiftOf}
 use Rattle.stretch.specs.Kept.{Kept}
 use Rattle.kept.specs.Entries.{keepRefusalOf, correctRefusalOf, correctOf}
@@ -84,23 +83,26 @@ unfolding refusalOf readerOrder firstBroken
 whole-reader s =
     let n = stepCountOf s in
     either (refusal1 s) _ _ (of-sheet 1 (omega arith))
-    (either (refusal2 s) _ _ (of-sheet 2 (omega arith))
+    (either (refusal2 (formOf s)) _ _ (of-sheet 2 (omega arith))
     (after-three (refusal3 n) _ (λ e.
     let few = count-kept n e .1 in
     either (refusal4 s) _ _ (of-sheet 4 (omega arith))
+    (either (refusal20 s) _ _ (of-sheet 20 (omega arith))
     (whole-first (fiveToEight (refusal5At s) (stepAt s) n 0 ++ elevens (kindAt s) n 0)
-    (each-append (each-steps (refusal5At s) (stepAt s) n 0 (omega arith)) (each-elevens (kindAt s) n 0 (omega arith)))))))
+    (each-append (each-steps (refusal5At s) (stepAt s) n 0 (omega arith)) (each-elevens (kindAt s) n 0 (omega arith))))))))
 
 pub whole-writer : (sheet : Sheet) (room : ℕ) → Whole (writerRefusalOf sheet room)
 unfolding writerRefusalOf writerOrder firstBroken
 whole-writer sheet room =
     let n = sheet .count in
-    after-three (refusal3 n) _ (λ e.
+    either (refusal2 (sheet .form)) _ _ (of-sheet 2 (omega arith))
+    (after-three (refusal3 n) _ (λ e.
     let few = count-kept n e .1 in
     either (recordRefusal4 sheet) _ _ (of-sheet 4 (omega arith))
+    (either (recordRefusal20 sheet) _ _ (of-sheet 20 (omega arith))
     (whole-first _
     (each-append (each-steps (recordRefusal5 sheet) (stepIn sheet) n 0 (omega arith))
-    (each-append (each-elevens (kindIn sheet) n 0 (omega arith)) (next (of-sheet 15 (omega arith)) none)))))
+    (each-append (each-elevens (kindIn sheet) n 0 (omega arith)) (next (of-sheet 15 (omega arith)) none)))))))
 
 -- ---- each function's result
 
@@ -112,7 +114,7 @@ unfolding shiftRefusalOf
 whole-lists own deforms l velocities marks h =
     whole-first _ (next h (next (of-sheet 9 (omega arith)) (next (of-sheet 10 (omega arith)) none)))
 
-whole-outcome : (own : Refusal) (deforms inverse : Bool) (es : List Entry) (l velocities : List Float) (marks : List ℕ) → Whole own
+whole-outcome : (own : Refusal) (deforms inverse : Bool) (es : List Link) (l velocities : List Float) (marks : List ℕ) → Whole own
     → (ran : Bool) → eqb (shiftRefusalOf own deforms l velocities marks .number) 0 ≡ ran → Whole (outcomeOf own deforms inverse es l velocities marks .answer .refusal)
 unfolding outcomeOf
 whole-outcome own deforms inverse es l velocities marks h true e = rw e whole-accepted
@@ -121,7 +123,7 @@ whole-outcome own deforms inverse es l velocities marks h false e = rw e (whole-
 pub shift-tells : (inverse : Bool) (s : List ℕ) (l velocities : List Float) (marks : List ℕ) → Told (shiftOf inverse s l velocities marks .answer .refusal)
 unfolding shiftOf
 shift-tells inverse s l velocities marks =
-    told _ (whole-outcome (refusalOf s) (hasDeformation (kindAt s) (stepCountOf s)) inverse (entriesOf (entryAt s) (stepCountOf s) 0) l velocities marks (whole-reader s) _ refl)
+    told _ (whole-outcome (refusalOf s) (hasDeformation (kindAt s) (stepCountOf s)) inverse (entriesOf (linkAt s) (stepCountOf s) 0) l velocities marks (whole-reader s) _ refl)
 
 pub keep-tells : (s : List ℕ) (old : Kept) → Told (keepRefusalOf s old)
 unfolding keepRefusalOf

@@ -17,30 +17,30 @@ use Rattle.blocks.proofs.Counts.{at-most-one}
 use Rattle.tuple.specs.declared.Tuple.{Tuple}
 use Rattle.tuple.specs.Sums.{nanTuple}
 use Rattle.helmert.specs.declared.State.{State}
-use Rattle.bodies.specs.declared.Step.{Step}
-use Rattle.bodies.specs.declared.Step.the-variants.{Cart, Permtide, Deformation, Molodensky, Badekas, Helmert}
 use Rattle.lists.specs.Flat.{fourOf, numbersOf}
 use Rattle.lists.specs.Run.{Turns, ranOf, countOf}
-use Rattle.sheet.specs.declared.Entry.{Entry}
 use Rattle.sheet.specs.declared.Refusal.{Refusal}
-use Rattle.sheet.specs.Layout.{stepCountOf, kindAt, entryAt}
+use Rattle.sheet.specs.Layout.{stepCountOf, kindAt}
 use Rattle.sheet.specs.Rules.{accepted, ofCall, firstBroken, hasDeformation, refusalOf}
 use Rattle.sheet.proofs.Order.{not-zero, accepted-count}
 use Rattle.plans.specs.Lent.{lentOf}
+use Rattle.plans.specs.declared.Plan.{Plan}
+use Rattle.plans.specs.Plans.{planTurnsOf, planMetOf, planPassOf, planStartOf}
 use Rattle.chain.specs.declared.Answer.{Answer}
 use Rattle.tally.specs.declared.Tally.{Tally}
 use Rattle.tally.specs.Tallies.{noTally, plusOf}
 use Rattle.tally.proofs.Laws.{plus-assoc, plus-none, none-plus}
 use Rattle.plans.specs.Passes.{Pass, meets, tallyOf}
-use Rattle.chain.specs.Chain.{turnsOf, metOf, passOf, stateOf, stepListOf, tuplesCountedOf, tuplesMetOf, stepTallyOf, chainForwardOf, chainInverseOf, chainOf, placesOf, entriesOf}
+use Rattle.chain.specs.Chain.{Link, linkAt, stepListOf, tuplesCountedOf, tuplesMetOf, stepTallyOf, chainForwardOf, chainInverseOf, chainOf, placesOf, entriesOf}
 use Rattle.chain.specs.Rules.{refusal9, refusal10, shiftRefusalOf, outcome, refusedAnswer, ranOutcome, outcomeOf, shiftOf}
 use Rattle.chain.proofs.Laws.{Forward, Backward, forward-start, forward-again, forward-end, backward-start, backward-again, backward-end}
-use Rattle.thin.specs.declared.Plan.{Plan}
+use Rattle.chain.proofs.Windows.{list-at, tally-at}
 use Rattle.thin.specs.declared.Carried.{Carried}
 use Rattle.thin.specs.declared.Turned.{Turned}
 use Rattle.thin.specs.declared.Todo.{Todo}
 use Rattle.thin.specs.Tuples.{tuplesOf, countedAmong, tuplesTallyOf, flatOf}
-use Rattle.thin.specs.Plans.{planOf, planTurnsOf, planMetOf, planPassOf, startsOf, tallied, turnOf}
+use Rattle.thin.specs.Plans.{tallied, turnOf}
+use Rattle.sheet_plans.specs.Sheets.{planAt}
 use Rattle.thin.specs.Sheets.{stepIndexOf, todoOf, thinRefusalOf, stepsOf, notedOf}
 
 -- ---- the same numbers as a flat list
@@ -76,49 +76,10 @@ tuples-in-flat (u ∷ us) = ap (λ (more : List Tuple). u ∷ more) (tuples-in-f
 pub flat-injective : (us ws : List Tuple) → flatOf us ≡ flatOf ws → us ≡ ws
 flat-injective us ws e = sym (tuples-in-flat us) ∙ ap tuplesIn e ∙ tuples-in-flat ws
 
--- ---- a plan makes of every tuple what its step makes of it
-
-pub plan-turns : (velocities : List Float) (marks : List ℕ) (inverse : Bool) (step : Step) → planTurnsOf velocities marks (planOf inverse step) ≡ turnsOf inverse (lentOf velocities marks []) step
-unfolding planOf
-plan-turns velocities marks true (Cart r) = refl
-plan-turns velocities marks false (Cart r) = refl
-plan-turns velocities marks true (Permtide r) = refl
-plan-turns velocities marks false (Permtide r) = refl
-plan-turns velocities marks inverse (Deformation r) = refl
-plan-turns velocities marks inverse (Molodensky r) = refl
-plan-turns velocities marks inverse (Helmert h) = refl
-plan-turns velocities marks inverse (Badekas r) = refl
-
-pub plan-met : (velocities : List Float) (marks : List ℕ) (inverse : Bool) (step : Step) → planMetOf marks (planOf inverse step) ≡ metOf inverse (lentOf velocities marks []) step
-unfolding planOf
-plan-met velocities marks true (Cart r) = refl
-plan-met velocities marks false (Cart r) = refl
-plan-met velocities marks true (Permtide r) = refl
-plan-met velocities marks false (Permtide r) = refl
-plan-met velocities marks inverse (Deformation r) = refl
-plan-met velocities marks inverse (Molodensky r) = refl
-plan-met velocities marks inverse (Helmert h) = refl
-plan-met velocities marks inverse (Badekas r) = refl
-
-pub plan-pass : (velocities : List Float) (marks : List ℕ) (inverse : Bool) (step : Step) → planPassOf velocities marks (planOf inverse step) ≡ passOf inverse (lentOf velocities marks []) step
-plan-pass velocities marks inverse step =
-    let et = plan-turns velocities marks inverse step in
-    let em = plan-met velocities marks inverse step in
-    λ j. record { turns = et j; met = em j }
-
-pub plan-starts : (inverse : Bool) (step : Step) → startsOf (planOf inverse step) ≡ stateOf step
-unfolding planOf
-plan-starts true (Cart r) = refl
-plan-starts false (Cart r) = refl
-plan-starts true (Permtide r) = refl
-plan-starts false (Permtide r) = refl
-plan-starts inverse (Deformation r) = refl
-plan-starts inverse (Molodensky r) = refl
-plan-starts inverse (Helmert h) = refl
-plan-starts inverse (Badekas r) = refl
+-- ---- one turn
 
 pub turn-is : (velocities : List Float) (marks : List ℕ) (plan : Plan) (k : ℕ) (at : Carried) (u : Tuple)
-    → turnOf velocities marks plan k at u ≡ tallied at (planTurnsOf velocities marks plan k (at .state) u) (planMetOf marks plan k (at .state) u)
+    → turnOf velocities marks plan k at u ≡ tallied at (planTurnsOf (lentOf velocities marks []) plan k (at .state) u) (planMetOf (lentOf velocities marks []) plan k (at .state) u)
 unfolding turnOf
 turn-is velocities marks plan k at u = refl
 
@@ -251,11 +212,11 @@ steps-few s tuples velocities marks =
 
 -- ---- the loop over the steps, either way: `chain`'s invariants, of the same numbers
 
-abbrev pub Ahead : Bool → List Float → List ℕ → (ℕ → Entry) → ℕ → List Float → ℕ → List Float → List Tally → Type 0
+abbrev pub Ahead : Bool → List Float → List ℕ → (ℕ → Link) → ℕ → List Float → ℕ → List Float → List Tally → Type 0
 Ahead false velocities marks entry n l₀ i l tallies = Forward (lentOf velocities marks []) entry n l₀ i l tallies
 Ahead true velocities marks entry n l₀ i l tallies = Backward (lentOf velocities marks []) entry n l₀ (n - i) l tallies
 
-module _ (velocities : List Float) (marks : List ℕ) (entry : ℕ → Entry) (n : ℕ) (l₀ : List Float) (most : n ≤ 16) where
+module _ (velocities : List Float) (marks : List ℕ) (entry : ℕ → Link) (n : ℕ) (l₀ : List Float) (most : n ≤ 16) where
   pub ahead-start : (inverse : Bool) → Ahead inverse velocities marks entry n l₀ 0 l₀ (replicate 16 noTally)
   ahead-start false = forward-start (lentOf velocities marks []) entry n l₀ most
   ahead-start true = let z : n - 0 ≡ n = omega arith in rw z (backward-start (lentOf velocities marks []) entry n l₀ most)
@@ -276,14 +237,21 @@ module _ (velocities : List Float) (marks : List ℕ) (entry : ℕ → Entry) (n
 
 -- one step over the records is the chain's step over the same numbers
 module _ (inverse : Bool) (s : List ℕ) (velocities : List Float) (marks : List ℕ) (n i : ℕ) (todo : Todo) (zs zs′ : List Tuple) (tally : Tally) (et : todo ≡ todoOf inverse s n i)
-    (ez : zs′ ≡ tuplesOf (turnsOf (todo .inverse) (lentOf velocities marks []) (todo .step)) 0 (stateOf (todo .step)) zs) (ec : tally ≡ tuplesTallyOf (passOf (todo .inverse) (lentOf velocities marks []) (todo .step)) 0 (stateOf (todo .step)) zs) where
-  pub todo-list : flatOf zs′ ≡ stepListOf inverse (lentOf velocities marks []) (entryAt s (stepIndexOf inverse n i)) (flatOf zs)
-  unfolding todoOf stepListOf
-  todo-list = ap flatOf ez ∙ flat-tuples (turnsOf (todo .inverse) (lentOf velocities marks []) (todo .step)) 0 (stateOf (todo .step)) zs ∙ rw et
+    (below : stepIndexOf inverse n i < stepCountOf s)
+    (ez : zs′ ≡ tuplesOf (planTurnsOf (lentOf velocities marks []) (todo .plan)) 0 (planStartOf (todo .plan)) zs) (ec : tally ≡ tuplesTallyOf (planPassOf (lentOf velocities marks []) (todo .plan)) 0 (planStartOf (todo .plan)) zs) where
+  todo-plan : todo .plan ≡ planAt inverse s (stepIndexOf inverse n i)
+  unfolding todoOf
+  todo-plan = ap (λ (t : Todo). t .plan) et
 
-  pub todo-tally : tally ≡ stepTallyOf inverse (lentOf velocities marks []) (entryAt s (stepIndexOf inverse n i)) (flatOf zs)
-  unfolding todoOf tuplesCountedOf tuplesMetOf
-  todo-tally = ec ∙ flat-tally (passOf (todo .inverse) (lentOf velocities marks []) (todo .step)) 0 (stateOf (todo .step)) zs ∙ ap (λ (t : Todo). tallyOf (passOf (t .inverse) (lentOf velocities marks []) (t .step)) 0 (stateOf (t .step)) (flatOf zs)) et
+  pub todo-list : flatOf zs′ ≡ stepListOf inverse (lentOf velocities marks []) (linkAt s (stepIndexOf inverse n i)) (flatOf zs)
+  todo-list =
+      ap flatOf ez ∙ flat-tuples (planTurnsOf (lentOf velocities marks []) (todo .plan)) 0 (planStartOf (todo .plan)) zs
+      ∙ list-at inverse (lentOf velocities marks []) s (stepIndexOf inverse n i) below todo-plan (flatOf zs)
+
+  pub todo-tally : tally ≡ stepTallyOf inverse (lentOf velocities marks []) (linkAt s (stepIndexOf inverse n i)) (flatOf zs)
+  todo-tally =
+      ec ∙ flat-tally (planPassOf (lentOf velocities marks []) (todo .plan)) 0 (planStartOf (todo .plan)) zs
+      ∙ tally-at inverse (lentOf velocities marks []) s (stepIndexOf inverse n i) below todo-plan (flatOf zs)
 
 -- no step: the list as it was, and no tallies
 no-tallies : (inverse : Bool) (velocities : List Float) (marks : List ℕ) (l : List Float) → placesOf (chainOf inverse (lentOf velocities marks []) [] l .tallies) ≡ replicate 16 noTally
@@ -302,20 +270,20 @@ module _ (inverse : Bool) (s : List ℕ) (velocities : List Float) (marks : List
   flat-refusal = shiftRefusalOf (refusalOf s) (hasDeformation (kindAt s) (stepCountOf s)) (flatOf ys) velocities marks
 
   by-refusal : (t : Bool) → eqb (flat-refusal .number) 0 ≡ t → answer .refusal ≡ flat-refusal
-      → (flatOf zs ≡ chainOf inverse (lentOf velocities marks []) (entriesOf (entryAt s) (cond t (stepCountOf s) 0) 0) (flatOf ys) .list)
-      → (answer .tallies ≡ placesOf (chainOf inverse (lentOf velocities marks []) (entriesOf (entryAt s) (cond t (stepCountOf s) 0) 0) (flatOf ys) .tallies))
-      → outcome answer (flatOf zs) ≡ cond t (ranOutcome (chainOf inverse (lentOf velocities marks []) (entriesOf (entryAt s) (stepCountOf s) 0) (flatOf ys))) (outcome (refusedAnswer flat-refusal) (flatOf ys))
+      → (flatOf zs ≡ chainOf inverse (lentOf velocities marks []) (entriesOf (linkAt s) (cond t (stepCountOf s) 0) 0) (flatOf ys) .list)
+      → (answer .tallies ≡ placesOf (chainOf inverse (lentOf velocities marks []) (entriesOf (linkAt s) (cond t (stepCountOf s) 0) 0) (flatOf ys) .tallies))
+      → outcome answer (flatOf zs) ≡ cond t (ranOutcome (chainOf inverse (lentOf velocities marks []) (entriesOf (linkAt s) (stepCountOf s) 0) (flatOf ys))) (outcome (refusedAnswer flat-refusal) (flatOf ys))
   unfolding entriesOf
   by-refusal true e er el ec = λ j. outcome (record { refusal = (er ∙ refusal-none _ _ _ velocities marks (eqb-true (flat-refusal .number) 0 e)) j; tallies = ec j }) (el j)
   by-refusal false e er el ec = λ j. outcome (record { refusal = er j; tallies = (ec ∙ no-tallies inverse velocities marks (flatOf ys)) j }) ((el ∙ same-list inverse velocities marks (flatOf ys)) j)
 
   pub shift-end : {refusal : Refusal} {n i : ℕ} → refusal ≡ thinRefusalOf s (length ys) velocities marks → n ≡ stepsOf s refusal → answer .refusal ≡ refusal → n ≤ i
-      → Ahead inverse velocities marks (entryAt s) n (flatOf ys) i (flatOf zs) (answer .tallies) → outcome answer (flatOf zs) ≡ shiftOf inverse s (flatOf ys) velocities marks
+      → Ahead inverse velocities marks (linkAt s) n (flatOf ys) i (flatOf zs) (answer .tallies) → outcome answer (flatOf zs) ≡ shiftOf inverse s (flatOf ys) velocities marks
   unfolding shiftOf outcomeOf stepsOf
   shift-end {refusal} {n} {i} er en ea past now =
       let e : refusal ≡ flat-refusal = er ∙ refusal-is-flat s ys velocities marks in
       let m : n ≡ cond (eqb (flat-refusal .number) 0) (stepCountOf s) 0 = en ∙ rw e in
-      let end = rw m at (ahead-end velocities marks (entryAt s) n (flatOf ys) (rw (en, er) (steps-few s (length ys) velocities marks)) i (flatOf zs) (answer .tallies) inverse past now) in
+      let end = rw m at (ahead-end velocities marks (linkAt s) n (flatOf ys) (rw (en, er) (steps-few s (length ys) velocities marks)) i (flatOf zs) (answer .tallies) inverse past now) in
       by-refusal (eqb (flat-refusal .number) 0) refl (ea ∙ e) (end .0) (end .1)
 
 -- ---- the loop over the steps as the walk has it
@@ -331,31 +299,41 @@ todo-place inverse s n i todo et = ap (λ (t : Todo). t .place) et
 pub record Going (inverse : Bool) (s : List ℕ) (velocities : List Float) (marks : List ℕ) (ys : List Tuple) (refusal : Refusal) (n i : ℕ) (zs : List Tuple) (answer : Answer) : Type 0 where
   pub told : answer .refusal ≡ refusal
   pub long : length zs ≡ length ys
-  pub ahead : Ahead inverse velocities marks (entryAt s) n (flatOf ys) i (flatOf zs) (answer .tallies)
+  pub ahead : Ahead inverse velocities marks (linkAt s) n (flatOf ys) i (flatOf zs) (answer .tallies)
+
+counted-steps : (s : List ℕ) (t : Bool) → cond t (stepCountOf s) 0 ≤ stepCountOf s
+counted-steps s true = omega arith
+counted-steps s false = omega arith
+
+-- no more steps are run than the sheet counts
+pub going-counted : (s : List ℕ) (refusal : Refusal) (n : ℕ) → n ≡ stepsOf s refusal → n ≤ stepCountOf s
+unfolding stepsOf
+going-counted s refusal n en = rw en (counted-steps s (eqb (refusal .number) 0))
 
 pub going-few : (s : List ℕ) (velocities : List Float) (marks : List ℕ) (ys : List Tuple) (refusal : Refusal) (n : ℕ) → refusal ≡ thinRefusalOf s (length ys) velocities marks → n ≡ stepsOf s refusal → n ≤ 16
 going-few s velocities marks ys refusal n er en = rw (en, er) (steps-few s (length ys) velocities marks)
 
-module _ (inverse : Bool) (s : List ℕ) (velocities : List Float) (marks : List ℕ) (ys : List Tuple) (refusal : Refusal) (n : ℕ) (most : n ≤ 16) where
+module _ (inverse : Bool) (s : List ℕ) (velocities : List Float) (marks : List ℕ) (ys : List Tuple) (refusal : Refusal) (n : ℕ) (most : n ≤ 16) (counted : n ≤ stepCountOf s) where
   pub going-start : (answer : Answer) → answer ≡ refusedAnswer refusal → Going inverse s velocities marks ys refusal n 0 ys answer
   going-start answer e =
       record {
         told = ap (λ (r : Answer). r .refusal) e;
         long = refl;
-        ahead = rw e (ahead-start velocities marks (entryAt s) n (flatOf ys) most inverse);
+        ahead = rw e (ahead-start velocities marks (linkAt s) n (flatOf ys) most inverse);
       }
 
   pub going-again : (i : ℕ) (zs zs′ : List Tuple) (answer answer′ : Answer) (todo : Todo) (tally : Tally) → i < n → todo ≡ todoOf inverse s n i → length zs′ ≡ length zs
-      → (zs′ ≡ tuplesOf (turnsOf (todo .inverse) (lentOf velocities marks []) (todo .step)) 0 (stateOf (todo .step)) zs) × (tally ≡ tuplesTallyOf (passOf (todo .inverse) (lentOf velocities marks []) (todo .step)) 0 (stateOf (todo .step)) zs)
+      → (zs′ ≡ tuplesOf (planTurnsOf (lentOf velocities marks []) (todo .plan)) 0 (planStartOf (todo .plan)) zs) × (tally ≡ tuplesTallyOf (planPassOf (lentOf velocities marks []) (todo .plan)) 0 (planStartOf (todo .plan)) zs)
       → answer′ ≡ notedOf answer (todo .place) tally → Going inverse s velocities marks ys refusal n i zs answer → Going inverse s velocities marks ys refusal n (i + 1) zs′ answer′
   unfolding notedOf
   going-again i zs zs′ answer answer′ todo tally h et el ran ea now =
-      let el′ = todo-list inverse s velocities marks n i todo zs zs′ tally et (ran .0) (ran .1) in
-      let ec = todo-tally inverse s velocities marks n i todo zs zs′ tally et (ran .0) (ran .1) in
+      let below : stepIndexOf inverse n i < stepCountOf s = omega (arith, place-below inverse n i h, counted) in
+      let el′ = todo-list inverse s velocities marks n i todo zs zs′ tally et below (ran .0) (ran .1) in
+      let ec = todo-tally inverse s velocities marks n i todo zs zs′ tally et below (ran .0) (ran .1) in
       record {
         told = ap (λ (r : Answer). r .refusal) ea ∙ now .told;
         long = el ∙ now .long;
-        ahead = rw (ea, todo-place inverse s n i todo et) (ahead-again velocities marks (entryAt s) n (flatOf ys) most i (flatOf zs) (answer .tallies) inverse h el′ ec (now .ahead));
+        ahead = rw (ea, todo-place inverse s n i todo et) (ahead-again velocities marks (linkAt s) n (flatOf ys) most i (flatOf zs) (answer .tallies) inverse h el′ ec (now .ahead));
       }
 
 pub going-end : (inverse : Bool) (s : List ℕ) (velocities : List Float) (marks : List ℕ) (ys : List Tuple) (refusal : Refusal) (n : ℕ) → refusal ≡ thinRefusalOf s (length ys) velocities marks → n ≡ stepsOf s refusal

@@ -7,11 +7,11 @@ use lib.Dec.{eqb}
 use lib.ListN.{set, replicate}
 use lib.Ieee.{Float, nan}
 use Rattle.sheet.specs.declared.Refusal.{Refusal}
-use Rattle.sheet.specs.Layout.{stepCountOf, kindAt, entryAt}
+use Rattle.sheet.specs.Layout.{stepCountOf, kindAt}
 use Rattle.sheet.specs.Rules.{hasDeformation, refusalOf}
 use Rattle.tally.specs.declared.Tally.{Tally}
 use Rattle.chain.specs.declared.Answer.{Answer}
-use Rattle.chain.specs.Chain.{reversedOf}
+use Rattle.sheet_plans.specs.Sheets.{planAt}
 use Rattle.chain.specs.Rules.{shiftRefusalOf}
 use Rattle.thin.specs.declared.Todo.{Todo}
 
@@ -29,11 +29,9 @@ stepsOf s refusal = cond (eqb (refusal .number) 0) (stepCountOf s) 0
 abbrev pub stepIndexOf : Bool → ℕ → ℕ → ℕ
 stepIndexOf inverse n i = cond inverse (n - 1 - i) i
 
--- that step, in the chain's direction, turned round where its inverted word is 1
+-- that step made ready, in the chain's direction, turned round where its inverted word is 1
 unfoldable pub todoOf : Bool → List ℕ → ℕ → ℕ → Todo
-todoOf inverse s n i =
-    let entry = entryAt s (stepIndexOf inverse n i) in
-    record { place = stepIndexOf inverse n i; inverse = reversedOf inverse entry; step = entry .step }
+todoOf inverse s n i = record { place = stepIndexOf inverse n i; plan = planAt inverse s (stepIndexOf inverse n i) }
 
 -- a step's tally in its place
 unfoldable pub notedOf : Answer → ℕ → Tally → Answer

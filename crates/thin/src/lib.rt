@@ -3,47 +3,28 @@
 //
 // Document 01: "a lent flat list; afterwards also a thin entry over a lent list of tuple records".
 // The flat entries are the core. What is here walks a `&mut [Tuple]` and hands each tuple to the
-// step that the core is made of: `run_step` has the one loop over tuples, for all six kinds,
-// either way, Helmert in every mode with its carried state; `shift` runs a sheet's steps one after
-// another by it, with `chain::shift`'s refusals in their order, 2,048 tuples at most. Proved for
-// every input: the list and the tally of `run_step` are the step's own definition from tuple to
-// tuple, and what `shift` answers and leaves are, number for number, what `chain::shift` answers
+// step that the core is made of: `run_step` has the one loop over tuples, for the plan of a step of
+// any of the six kinds, either way, Helmert in every mode with its carried state; `shift` runs a
+// sheet's steps one after another by it, with `chain::shift`'s refusals in their order, 2,048 tuples
+// at most. Proved for every input: the list and the tally of `run_step` are the plan's own definition
+// from tuple to tuple, and what `shift` answers and leaves are, number for number, what `chain::shift` answers
 // and leaves on the same numbers as a flat list (proofs/Flat.antt). No rounding but the steps' own.
-// The two walks are proved by hand; a further kind of step is a case of Plan, with a line each in
-// `plan_of`, `start_of` and `turn`, and no walk. For callers who hold their fixes as records.
+// The two walks are proved by hand; a further kind of step is a case of plans' Plan, with a line in
+// `turn`, and no walk. For callers who hold their fixes as records.
 ghost use mathlib.Core.Path.{_≡_};
 ghost use mathlib.Core.Bool.{true, false};
 ghost use Prim.Native.Nat.{_<_};
-ghost use Rattle.helmert.specs.Turns.{noState};
 ghost use Rattle.chain.specs.Rules.{refusedAnswer, outcome, shiftOf};
 ghost use Rattle.thin.specs.Tuples.{stepTuplesOf, stepTuplesTallyOf, flatOf};
-ghost use Rattle.thin.specs.Plans.{planOf, startsOf, beginOf, tallied, turnOf};
+ghost use Rattle.thin.specs.Plans.{beginOf, tallied, turnOf};
 ghost use Rattle.thin.specs.Sheets.{stepIndexOf, todoOf, thinRefusalOf, stepsOf, notedOf};
 use blocks::one_if;
-use bodies::Step;
-use cart::Inverse;
 use chain::Answer;
-use deformation::Motion;
-use ellipsoid::Ellipsoid;
-use helmert::Shift;
 use helmert::State;
-use molodensky::Moped;
-use permtide::Tide;
-use rotation::Vec3;
+use plans::Plan;
 use sheet::Refusal;
 use tally::Tally;
 use tuple::Tuple;
-
-// A step made ready: what depends on the record alone is worked out once a list.
-pub enum Plan {
-    CartForward(Ellipsoid),
-    CartInverse(Inverse),
-    PermtideForward(Tide),
-    PermtideInverse(Tide),
-    MolodenskyEither(Moped, bool),
-    DeformationEither(Motion, bool),
-    HelmertEither(Shift, bool),
-}
 
 // What a loop carries from one tuple to the next: Helmert's state, how many tuples counted and how
 // many met an angle out of reach.
@@ -57,73 +38,12 @@ pub struct Turned {
     pub tuple: Tuple,
 }
 
-// ----- a step made ready -----------------------------------------------------------------
-
-fn plan_of(inverse: bool, step: Step) -> Plan
-    ensures { λ r. ⌜ r ≡ planOf inverse step ⌝ }
-{
-    match step {
-        Step::Cart(r) => {
-            let ellps = Ellipsoid::named(r.ellipsoid);
-            if inverse {
-                return Plan::CartInverse(Inverse::new(ellps));
-            }
-            return Plan::CartForward(ellps);
-        }
-        Step::Permtide(r) => {
-            let op = Tide::new(r);
-            if inverse {
-                return Plan::PermtideInverse(op);
-            }
-            return Plan::PermtideForward(op);
-        }
-        Step::Deformation(r) => {
-            return Plan::DeformationEither(Motion::new(r), r.directed(inverse));
-        }
-        Step::Molodensky(r) => {
-            return Plan::MolodenskyEither(Moped::new(r), inverse);
-        }
-        Step::Helmert(h) => {
-            return Plan::HelmertEither(helmert::prepare(h), inverse);
-        }
-        Step::Badekas(r) => {
-            return Plan::HelmertEither(badekas::prepare(r), inverse);
-        }
-    }
-}
-
-// No state: NaN and zeros, which no step but Helmert's reads.
-fn no_state() -> State
-    ensures { λ r. ⌜ r ≡ noState ⌝ }
-{
-    State {
-        last: 0.0 / 0.0,
-        t: Vec3 {
-            x: 0.0,
-            y: 0.0,
-            z: 0.0,
-        },
-    }
-}
-
-fn start_of(plan: Plan) -> State
-    ensures { λ r. ⌜ r ≡ startsOf plan ⌝ }
-{
-    match plan {
-        Plan::CartForward(_) => no_state(),
-        Plan::CartInverse(_) => no_state(),
-        Plan::PermtideForward(_) => no_state(),
-        Plan::PermtideInverse(_) => no_state(),
-        Plan::MolodenskyEither(_, _) => no_state(),
-        Plan::DeformationEither(_, _) => no_state(),
-        Plan::HelmertEither(shift, _) => helmert::start(shift),
-    }
-}
+// ----- what a loop starts with -----------------------------------------------------------
 
 fn begin(plan: Plan) -> Carried
     ensures { λ r. ⌜ r ≡ beginOf plan ⌝ }
 {
-    let state = start_of(plan);
+    let state = plans::start(plan);
     let tally = tally::none();
     Carried {
         state: state,
@@ -166,13 +86,12 @@ fn turn(plan: Plan, at: Carried, k: usize, u: Tuple, velocities: &[f64], marks: 
             let r = cart::cart_inv(c, u);
             return carried_on(at, state, r.tuple, r.counted, false); // it takes no sine
         }
-        Plan::PermtideForward(op) => {
-            let v = permtide::fwd(op, u);
-            return carried_on(at, state, v, true, reach::out_of_reach(u.y));
-        }
-        Plan::PermtideInverse(op) => {
-            let v = permtide::inv(op, u);
-            return carried_on(at, state, v, true, reach::out_of_reach(u.y));
+        Plan::PermtideEither(op, inverse) => {
+            let met = reach::out_of_reach(u.y);
+            if inverse {
+                return carried_on(at, state, permtide::inv(op, u), true, met);
+            }
+            return carried_on(at, state, permtide::fwd(op, u), true, met);
         }
         Plan::MolodenskyEither(op, inverse) => {
             let v = molodensky::common(op, inverse, u);
@@ -206,19 +125,12 @@ fn turn(plan: Plan, at: Carried, k: usize, u: Tuple, velocities: &[f64], marks: 
 
 // ----- a step over the list --------------------------------------------------------------
 
-// One step over a list, either way: Helmert in every mode with its carried state, and the four that
-// have none.
-pub fn run_step(
-    list: &mut [Tuple],
-    inverse: bool,
-    step: Step,
-    velocities: &[f64],
-    marks: &[u8],
-) -> Tally
-    ensures { λ r. ⌜ (now (list .exit) ≡ stepTuplesOf inverse (now (velocities .entry)) (now (marks .entry)) step (now (list .entry)))
-        × (r ≡ stepTuplesTallyOf inverse (now (velocities .entry)) (now (marks .entry)) step (now (list .entry))) ⌝ }
+// One step over a list, as its plan has it: Helmert in every mode with its carried state, and the four
+// that have none.
+pub fn run_step(list: &mut [Tuple], plan: Plan, velocities: &[f64], marks: &[u8]) -> Tally
+    ensures { λ r. ⌜ (now (list .exit) ≡ stepTuplesOf (now (velocities .entry)) (now (marks .entry)) plan (now (list .entry)))
+        × (r ≡ stepTuplesTallyOf (now (velocities .entry)) (now (marks .entry)) plan (now (list .entry))) ⌝ }
 {
-    let plan = plan_of(inverse, step);
     let mut at = begin(plan);
     let mut i = 0;
     while i < list.len() {
@@ -232,11 +144,10 @@ pub fn run_step(
 
 // ----- a sheet over the list -------------------------------------------------------------
 
-// What the loop over the steps takes of a sheet: the step's place, its direction and its record.
+// What the loop over the steps takes of a sheet: the step's place, and the step made ready.
 pub struct Todo {
     pub place: usize,
-    pub inverse: bool,
-    pub step: Step,
+    pub plan: Plan,
 }
 
 // The place of the step that comes i-th of n: the first first, inverse the last first.
@@ -253,13 +164,10 @@ fn next_step(inverse: bool, s: &[u8], n: usize, i: usize) -> Todo
     ensures { λ r. ⌜ r ≡ todoOf inverse (now (s .entry)) n i ⌝ }
 {
     let place = place_of(inverse, n, i);
-    let entry = sheet::entry_at(s, place);
-    let step = entry.step;
-    let reversed = chain::reversed(inverse, entry);
+    let plan = sheet_plans::plan_at(inverse, s, place);
     Todo {
         place: place,
-        inverse: reversed,
-        step: step,
+        plan: plan,
     }
 }
 
@@ -330,7 +238,7 @@ pub fn shift(
     let mut i = 0;
     while i < n {
         let e = next_step(inverse, s, n, i);
-        let tally = run_step(list, e.inverse, e.step, velocities, marks);
+        let tally = run_step(list, e.plan, velocities, marks);
         answer = noted(answer, e.place, tally);
         i += 1;
     }

@@ -6,6 +6,7 @@ use mathlib.Core.Bool.{Bool, true, false}
 use mathlib.Core.List.{List}
 use lib.ListN.{length}
 use lib.Ieee.{Float}
+use Rattle.ellipsoid.specs.declared.Ellipsoid.{Ellipsoid}
 use Rattle.permtide.specs.declared.Permtide.{Permtide}
 use Rattle.permtide.specs.Step.{tideOf, fwdOf, invOf}
 use Rattle.molodensky.specs.declared.Molodensky.{Molodensky}
@@ -15,9 +16,9 @@ use Rattle.helmert.proofs.Counts.{all-count}
 use Rattle.lists.specs.Run.{countOf}
 use Rattle.turns.specs.Turns.{permtideTurns, molodenskyTurns}
 
-pub every-permtide-tuple-counts : (inverse : Bool) (r : Permtide) (k : ℕ) (state : State) (l : List Float) → countOf (permtideTurns inverse r) k state l ≡ length l / 4
-every-permtide-tuple-counts true r = all-count (invOf (tideOf r))
-every-permtide-tuple-counts false r = all-count (fwdOf (tideOf r))
+pub every-permtide-tuple-counts : (inverse : Bool) (e : Ellipsoid) (r : Permtide) (k : ℕ) (state : State) (l : List Float) → countOf (permtideTurns inverse e r) k state l ≡ length l / 4
+every-permtide-tuple-counts true e r = all-count (invOf (tideOf e r))
+every-permtide-tuple-counts false e r = all-count (fwdOf (tideOf e r))
 
-pub every-molodensky-tuple-counts : (inverse : Bool) (r : Molodensky) (k : ℕ) (state : State) (l : List Float) → countOf (molodenskyTurns inverse r) k state l ≡ length l / 4
-every-molodensky-tuple-counts inverse r = all-count (commonOf (mopedOf r) inverse)
+pub every-molodensky-tuple-counts : (inverse : Bool) (e o : Ellipsoid) (r : Molodensky) (k : ℕ) (state : State) (l : List Float) → countOf (molodenskyTurns inverse e o r) k state l ≡ length l / 4
+every-molodensky-tuple-counts inverse e o r = all-count (commonOf (mopedOf e o r) inverse)

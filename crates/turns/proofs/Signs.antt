@@ -9,6 +9,7 @@ use lib.Ieee.{Float}
 use Rattle.tuple.specs.declared.Tuple.{Tuple}
 use Rattle.helmert.specs.declared.State.{State}
 use Rattle.lists.specs.Run.{Turn, ranOf, countOf}
+use Rattle.ellipsoid.specs.declared.Ellipsoid.{Ellipsoid}
 use Rattle.deformation.specs.declared.Deformation.{Deformation}
 use Rattle.deformation.specs.Record.{directedOf}
 use Rattle.deformation.specs.Step.{motionOf, recordStepOf}
@@ -16,23 +17,23 @@ use Rattle.deformation.proofs.Signs.{flagged, motion-stays, plain-direction, fl
 use Rattle.turns.specs.Turns.{velocityAt, markAt, movedTurns, deformationTurns}
 
 -- a turn is the record's step, by the velocity and the mark of the fix's index
-pub turn-is-the-step : (inverse : Bool) (r : Deformation) (velocities : List Float) (marks : List ℕ) (k : ℕ) (state : State) (v : Tuple)
-    → let turn = deformationTurns inverse r velocities marks k state v in
-    let step = recordStepOf r inverse (velocityAt velocities k) (markAt marks k) v in
+pub turn-is-the-step : (inverse : Bool) (e : Ellipsoid) (r : Deformation) (velocities : List Float) (marks : List ℕ) (k : ℕ) (state : State) (v : Tuple)
+    → let turn = deformationTurns inverse e r velocities marks k state v in
+    let step = recordStepOf e r inverse (velocityAt velocities k) (markAt marks k) v in
     (turn .tuple ≡ step .tuple) × (turn .counted ≡ step .counted)
-turn-is-the-step inverse r velocities marks k state v =
-    (rw (directed-step r inverse (velocityAt velocities k) (markAt marks k) v) refl, rw (directed-step r inverse (velocityAt velocities k) (markAt marks k) v) refl)
+turn-is-the-step inverse e r velocities marks k state v =
+    (rw (directed-step e r inverse (velocityAt velocities k) (markAt marks k) v) refl, rw (directed-step e r inverse (velocityAt velocities k) (markAt marks k) v) refl)
 
-module _ (r : Deformation) (plain : r .flags < 2) (inverse : Bool) (velocities : List Float) (marks : List ℕ) where
-  turns-agree : deformationTurns inverse (flagged r) velocities marks ≡ deformationTurns (not inverse) r velocities marks
-  turns-agree = rw (motion-stays r, flagged-direction r inverse plain, plain-direction r (not inverse) plain)
+module _ (e : Ellipsoid) (r : Deformation) (plain : r .flags < 2) (inverse : Bool) (velocities : List Float) (marks : List ℕ) where
+  turns-agree : deformationTurns inverse e (flagged r) velocities marks ≡ deformationTurns (not inverse) e r velocities marks
+  turns-agree = rw (motion-stays e r, flagged-direction r inverse plain, plain-direction r (not inverse) plain)
 
   pub flagged-list-is-the-other-direction : (k : ℕ) (state : State) (l : List Float)
-      → ranOf (deformationTurns inverse (flagged r) velocities marks) k state l
-      ≡ ranOf (deformationTurns (not inverse) r velocities marks) k state l
+      → ranOf (deformationTurns inverse e (flagged r) velocities marks) k state l
+      ≡ ranOf (deformationTurns (not inverse) e r velocities marks) k state l
   flagged-list-is-the-other-direction k state l = rw turns-agree
 
   pub flagged-count-is-the-other-direction : (k : ℕ) (state : State) (l : List Float)
-      → countOf (deformationTurns inverse (flagged r) velocities marks) k state l
-      ≡ countOf (deformationTurns (not inverse) r velocities marks) k state l
+      → countOf (deformationTurns inverse e (flagged r) velocities marks) k state l
+      ≡ countOf (deformationTurns (not inverse) e r velocities marks) k state l
   flagged-count-is-the-other-direction k state l = rw turns-agree

@@ -1,6 +1,6 @@
 -- What cart, permtide, Molodensky and deformation make of one tuple of a list, forward or inverse;
--- Helmert's turns stand in helmert/specs/Turns.antt. Each is made of the step's own definition;
--- nothing is computed here.
+-- Helmert's turns stand in helmert/specs/Turns.antt. Each is made of the step's own definition on the
+-- ellipsoids that its record names; nothing is computed here.
 use Prim.Native.Nat.{ℕ, _+_, _*_, _/_}
 use mathlib.Core.Bool.{Bool, cond}
 use mathlib.Core.List.{List}
@@ -9,8 +9,7 @@ use lib.ListN.{getD, length}
 use lib.Ieee.{Float, nan}
 use Rattle.tuple.specs.declared.Tuple.{Tuple}
 use Rattle.tuple.specs.declared.Shifted.{Shifted}
-use Rattle.ellipsoid.specs.Figure.{namedOf}
-use Rattle.cart.specs.declared.Cart.{Cart}
+use Rattle.ellipsoid.specs.declared.Ellipsoid.{Ellipsoid}
 use Rattle.cart.specs.Step.{cartFwdOf, cartInvOf, inverseFiguresOf}
 use Rattle.permtide.specs.declared.Permtide.{Permtide}
 use Rattle.permtide.specs.Step.{tideOf, fwdOf, invOf}
@@ -31,15 +30,14 @@ plainTurns f k state v = record { state = state; tuple = f v .tuple; counted = f
 
 -- ---- cart, permtide, Molodensky
 
-abbrev pub cartTurns : Bool → Cart → Turns State
-cartTurns inverse r =
-    cond inverse (plainTurns (cartInvOf (inverseFiguresOf (namedOf (r .ellipsoid))))) (plainTurns (cartFwdOf (namedOf (r .ellipsoid))))
+abbrev pub cartTurns : Bool → Ellipsoid → Turns State
+cartTurns inverse e = cond inverse (plainTurns (cartInvOf (inverseFiguresOf e))) (plainTurns (cartFwdOf e))
 
-abbrev pub permtideTurns : Bool → Permtide → Turns State
-permtideTurns inverse r = cond inverse (allTurns (invOf (tideOf r))) (allTurns (fwdOf (tideOf r)))
+abbrev pub permtideTurns : Bool → Ellipsoid → Permtide → Turns State
+permtideTurns inverse e r = cond inverse (allTurns (invOf (tideOf e r))) (allTurns (fwdOf (tideOf e r)))
 
-abbrev pub molodenskyTurns : Bool → Molodensky → Turns State
-molodenskyTurns inverse r = allTurns (commonOf (mopedOf r) inverse)
+abbrev pub molodenskyTurns : Bool → Ellipsoid → Ellipsoid → Molodensky → Turns State
+molodenskyTurns inverse e o r = allTurns (commonOf (mopedOf e o r) inverse)
 
 -- ---- deformation: by the velocity and the mark that are lent for the fix
 
@@ -61,5 +59,5 @@ movedTurns op inverse velocities marks k state v =
     record { state = state; tuple = shifted .tuple; counted = shifted .counted }
 
 -- by the sign that the record asks for: flag 2 turns the direction round
-abbrev pub deformationTurns : Bool → Deformation → List Float → List ℕ → Turns State
-deformationTurns inverse r velocities marks = movedTurns (motionOf r) (directedOf r inverse) velocities marks
+abbrev pub deformationTurns : Bool → Ellipsoid → Deformation → List Float → List ℕ → Turns State
+deformationTurns inverse e r velocities marks = movedTurns (motionOf e r) (directedOf r inverse) velocities marks

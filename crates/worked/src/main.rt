@@ -191,7 +191,9 @@ fn ed50(flags: u32) -> Tuple {
     m.dx = 84.87;
     m.dy = 96.49;
     m.dz = 116.95;
-    molodensky::common(Moped::new(m), false, north_sea())
+    let wgs84 = Ellipsoid::named(m.first);
+    let international = Ellipsoid::named(m.second);
+    molodensky::common(Moped::new(wgs84, international, m), false, north_sea())
 }
 
 fn molodensky_shifts() {

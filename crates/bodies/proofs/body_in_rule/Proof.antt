@@ -9,7 +9,7 @@ lowest-broken-requires : tie.Need-lowest-broken-requires
 lowest-broken-requires c κs = search needs
 
 returns : tie.Need-returns
-returns c = rw (c .lowest-broken .ensures) (sym (five-lowest _ _))
+returns c = rw (c .lowest-broken .ensures) (sym (five-lowest _ _ _))
 
 pub body-in-rule-spec : {M : Type 1} → statement M
 body-in-rule-spec =

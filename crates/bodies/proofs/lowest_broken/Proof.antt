@@ -46,7 +46,7 @@ returns-6 c = rw (c .before .if6 .taken) (c .broken-badekas .ensures)
 returns-7 : tie.Need-returns-7
 returns-7 c =
     sym
-    (no-kind-lowest _ _
+    (no-kind-lowest _ _ _
     (ne-eqb _ 1 (c .before .before .before .before .before .if1 .left))
     (ne-eqb _ 2 (c .before .before .before .before .if2 .left))
     (ne-eqb _ 3 (c .before .before .before .if3 .left))

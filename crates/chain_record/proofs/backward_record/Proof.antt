@@ -1,20 +1,20 @@
 -- Invariant (`Backward`): the list is what the steps from index i on make of the list at the start,
 -- the last step first, and the tallies from i on are theirs, followed by zeros. A turn lowers i and
--- runs the record's step there (`run_step`, `entryOf`), which adds that step to those that have run
+-- runs the record's step there (`run_step`, `linkOf`), which adds that step to those that have run
 -- (`backward-again`). At i = 0 all steps have run, and list and tallies are those of
 -- `chainInverseOf` (`backward-end`). The measure is i. Assumes nothing.
 use borrow.Author.Needs.{needs}
 use native.Mathlib.Omega.{arith}
 use Prim.Native.Nat.{_+_, _-_}
 use mathlib.Core.Path.{_≡_, refl}
-use Rattle.sheet.specs.Layout.{entryOf}
+use Rattle.chain.specs.Chain.{linkOf}
 use Rattle.plans.specs.Lent.{lentOf}
 use Rattle.chain.proofs.Laws.{Backward, backward-start, backward-again, backward-end}
 use Rattle.chain_record.proofs.backward_record.Statement.{statement}
 use Rattle.chain_record.proofs.backward_record.Tie as tie
 
 abbrev Inv-loop : tie.InvT-loop
-Inv-loop n list₀ velocities marks grid kept tallies₀ i₀ list tallies i = Backward (lentOf velocities marks grid) (entryOf kept) n list₀ i list tallies
+Inv-loop n list₀ velocities marks grid kept tallies₀ i₀ list tallies i = Backward (lentOf velocities marks grid) (linkOf kept) n list₀ i list tallies
 
 abbrev μ-loop : tie.MeasureT-loop
 μ-loop n list₀ velocities marks grid kept tallies₀ i₀ list tallies i = i
@@ -48,9 +48,9 @@ loop-less c = search needs
 
 loop-again : tie.Need-loop-again Inv-loop μ-loop
 loop-again c =
-    let l = c .before .before .before .before .before .before .loop in
-    let j : l .i - 1 + 1 ≡ l .i = omega (arith, c .before .before .before .before .before .loop-test .taken) in
-    backward-again (c .before .before .before .before .before .before .before .before .before .before .before .before .pre) (l .i - 1) j refl (c .before .before .run-step .ensures .0) (c .before .before .run-step .ensures .1) (l .inv)
+    let l = c .before .before .before .before .before .before .before .loop in
+    let j : l .i - 1 + 1 ≡ l .i = omega (arith, c .before .before .before .before .before .before .loop-test .taken) in
+    backward-again (c .before .before .before .before .before .before .before .before .before .before .before .before .before .pre) (l .i - 1) j refl (c .before .before .run-step .ensures .0) (c .before .before .run-step .ensures .1) (l .inv)
 
 same-length : tie.Need-same-length Inv-loop μ-loop
 same-length c = c .before .loop .inv .long

@@ -1,21 +1,21 @@
 -- Invariant (`Forward`): the steps from index i on make of the list as it stands what all steps
 -- make of the list at the start; the tallies before i, followed by those of these steps, are all
 -- the tallies; and the tallies from i on are still zeros. A turn runs the record's step i
--- (`run_step`, `entryOf`) and writes its tally at i (`forward-again`). At i = n no step is left,
+-- (`run_step`, `linkOf`) and writes its tally at i (`forward-again`). At i = n no step is left,
 -- and list and tallies are those of `chainForwardOf` (`forward-end`). The measure is n - i.
 -- Assumes nothing.
 use native.Mathlib.Omega.{arith}
 use borrow.Author.Needs.{needs}
 use Prim.Native.Nat.{_-_}
 use mathlib.Core.Path.{refl}
-use Rattle.sheet.specs.Layout.{entryOf}
+use Rattle.chain.specs.Chain.{linkOf}
 use Rattle.plans.specs.Lent.{lentOf}
 use Rattle.chain.proofs.Laws.{Forward, forward-start, forward-again, forward-end}
 use Rattle.chain_record.proofs.forward_record.Statement.{statement}
 use Rattle.chain_record.proofs.forward_record.Tie as tie
 
 abbrev Inv-loop : tie.InvT-loop
-Inv-loop n list₀ velocities marks grid kept tallies₀ i₀ list tallies i = Forward (lentOf velocities marks grid) (entryOf kept) n list₀ i list tallies
+Inv-loop n list₀ velocities marks grid kept tallies₀ i₀ list tallies i = Forward (lentOf velocities marks grid) (linkOf kept) n list₀ i list tallies
 
 abbrev μ-loop : tie.MeasureT-loop
 μ-loop n list₀ velocities marks grid kept tallies₀ i₀ list tallies i = n - i
@@ -49,7 +49,7 @@ loop-less c = search needs
 
 loop-again : tie.Need-loop-again Inv-loop μ-loop
 loop-again c =
-    forward-again (c .before .before .before .before .before .before .before .before .before .before .before .before .pre) (search needs) refl (c .before .before .run-step .ensures .0) (c .before .before .run-step .ensures .1) (c .before .before .before .before .before .before .loop .inv)
+    forward-again (c .before .before .before .before .before .before .before .before .before .before .before .before .before .pre) (search needs) refl (c .before .before .run-step .ensures .0) (c .before .before .run-step .ensures .1) (c .before .before .before .before .before .before .before .loop .inv)
 
 same-length : tie.Need-same-length Inv-loop μ-loop
 same-length c = c .before .loop .inv .long

@@ -1,5 +1,6 @@
 -- The tests are asked in `faultOf`'s order; past the last of them the search over the entries
--- answers. Assumes nothing.
+-- answers. Where the rows end and where the directory ends are rewritten first, because both are said
+-- by the header's length. Assumes nothing.
 use borrow.Author.Needs.{needs}
 use borrow.Author.Tests.{eq-eqb, ne-eqb, lt-ltb, le-ltb}
 use Rattle.faults.specs.Faults.{faultOf}
@@ -12,9 +13,17 @@ read32-requires c κs = search needs
 wide-requires : tie.Need-wide-requires
 wide-requires c κs = search needs
 
+form-of-requires : tie.Need-form-of-requires
+form-of-requires c κs = search needs
+
+header-of-requires : tie.Need-header-of-requires
+header-of-requires c κs = search needs
+
 returns : tie.Need-returns
 unfolding faultOf
-returns c = (rw (← c .before .before .read32 .ensures, ← c .before .wide .ensures .0, ne-eqb _ _ (c .if1 .taken)), search needs)
+returns c =
+    let w = c .before .before .before in
+    (rw (← w .before .read32 .ensures, ← w .wide .ensures .0, ← c .before .before .form-of .ensures, ← c .before .header-of .ensures .0, ne-eqb _ _ (c .if1 .taken)), search needs)
 
 step-count-requires : tie.Need-step-count-requires
 step-count-requires c κs = search needs
@@ -22,10 +31,13 @@ step-count-requires c κs = search needs
 returns-2 : tie.Need-returns-2
 unfolding faultOf
 returns-2 c =
-    let o = c .before .before in (
+    let o = c .before .before in
+    let w = o .before .before .before in (
       rw (
-        ← o .before .before .read32 .ensures,
-        ← o .before .wide .ensures .0,
+        ← w .before .read32 .ensures,
+        ← w .wide .ensures .0,
+        ← o .before .before .form-of .ensures,
+        ← o .before .header-of .ensures .0,
         eq-eqb _ _ (o .if1 .left),
         ← c .before .step-count .ensures .0,
         lt-ltb _ _ (c .if2 .taken),
@@ -33,27 +45,51 @@ returns-2 c =
       search needs,
     )
 
-read32-requires-2 : tie.Need-read32-requires-2
-read32-requires-2 c κs = search needs
-
-directory-end-requires : tie.Need-directory-end-requires
-directory-end-requires c κs = search needs
+table-at-requires : tie.Need-table-at-requires
+table-at-requires c κs = search needs
 
 returns-3 : tie.Need-returns-3
 unfolding faultOf
 returns-3 c =
-    let n = c .before .before .before in
-    let o = n .before .before in (
+    let n = c .before .before in
+    let o = n .before .before in
+    let w = o .before .before .before in (
       rw (
-        ← o .before .before .read32 .ensures,
-        ← o .before .wide .ensures .0,
+        ← c .before .table-at .ensures .0,
+        lt-ltb _ _ (c .if3 .taken),
+        ← w .before .read32 .ensures,
+        ← w .wide .ensures .0,
+        ← o .before .before .form-of .ensures,
+        ← o .before .header-of .ensures .0,
         eq-eqb _ _ (o .if1 .left),
         ← n .before .step-count .ensures .0,
         le-ltb _ _ (n .if2 .left),
-        n .before .step-count .ensures .0,
-        ← c .before .before .read322 .ensures,
-        ← c .before .directory-end .ensures .0,
-        lt-ltb _ _ (c .if3 .taken),
+      ),
+      search needs,
+    )
+
+bodies-at-requires : tie.Need-bodies-at-requires
+bodies-at-requires c κs = search needs
+
+returns-4 : tie.Need-returns-4
+unfolding faultOf
+returns-4 c =
+    let t = c .before .before in
+    let n = t .before .before in
+    let o = n .before .before in
+    let w = o .before .before .before in (
+      rw (
+        ← c .before .bodies-at .ensures .0,
+        lt-ltb _ _ (c .if4 .taken),
+        ← t .before .table-at .ensures .0,
+        le-ltb _ _ (t .if3 .left),
+        ← w .before .read32 .ensures,
+        ← w .wide .ensures .0,
+        ← o .before .before .form-of .ensures,
+        ← o .before .header-of .ensures .0,
+        eq-eqb _ _ (o .if1 .left),
+        ← n .before .step-count .ensures .0,
+        le-ltb _ _ (n .if2 .left),
       ),
       search needs,
     )
@@ -61,24 +97,26 @@ returns-3 c =
 first-fault-requires : tie.Need-first-fault-requires
 first-fault-requires c κs = search needs
 
-returns-4 : tie.Need-returns-4
+returns-5 : tie.Need-returns-5
 unfolding faultOf
-returns-4 c =
-    let d = c .before in
-    let n = d .before .before .before in
-    let o = n .before .before in (
+returns-5 c =
+    let b = c .before in
+    let t = b .before .before in
+    let n = t .before .before in
+    let o = n .before .before in
+    let w = o .before .before .before in (
       rw (
-        ← o .before .before .read32 .ensures,
-        ← o .before .wide .ensures .0,
+        ← b .before .bodies-at .ensures .0,
+        le-ltb _ _ (b .if4 .left),
+        ← t .before .table-at .ensures .0,
+        le-ltb _ _ (t .if3 .left),
+        ← w .before .read32 .ensures,
+        ← w .wide .ensures .0,
+        ← o .before .before .form-of .ensures,
+        ← o .before .header-of .ensures .0,
         eq-eqb _ _ (o .if1 .left),
         ← n .before .step-count .ensures .0,
         le-ltb _ _ (n .if2 .left),
-        n .before .step-count .ensures .0,
-        ← d .before .before .read322 .ensures,
-        ← d .before .directory-end .ensures .0,
-        le-ltb _ _ (d .if3 .left),
-        d .before .before .read322 .ensures,
-        ← n .before .step-count .ensures .0,
       )
           (c .first-fault .ensures .0),
       c .first-fault .ensures .1,
@@ -90,11 +128,14 @@ fault-spec =
     (tie.spec
     read32-requires
     wide-requires
+    form-of-requires
+    header-of-requires
     returns
     step-count-requires
     returns-2
-    read32-requires-2
-    directory-end-requires
+    table-at-requires
     returns-3
+    bodies-at-requires
+    returns-4
     first-fault-requires
-    returns-4)
+    returns-5)

@@ -10,7 +10,7 @@ use Prim.Native.Nat.{suc, _+_, _-_, _≤_}
 use native.Mathlib.Nat.{sub-zero}
 use Rattle.sheet.specs.Rules.{endBefore}
 use Rattle.faults.specs.Faults.{firstFault}
-use Rattle.faults.proofs.Search.{fault-here, fault-later, fault-none}
+use Rattle.faults.proofs.Search.{fault-here, fault-later, fault-none, header-most}
 use Rattle.faults.proofs.first_fault.Statement.{statement}
 use Rattle.faults.proofs.first_fault.Tie as tie
 
@@ -20,18 +20,18 @@ Inv-loop s n end₀ i₀ end i = (i ≤ n) × (end ≡ endBefore s i) × (firstF
 abbrev μ-loop : tie.MeasureT-loop
 μ-loop s n end₀ i₀ end i = n - i
 
-read32-requires : tie.Need-read32-requires Inv-loop μ-loop
-read32-requires c κs = search needs
-
-directory-end-requires : tie.Need-directory-end-requires Inv-loop μ-loop
-directory-end-requires c κs = search needs
+bodies-at-requires : tie.Need-bodies-at-requires Inv-loop μ-loop
+bodies-at-requires c κs = search needs
 
 loop-holds : tie.Need-loop-holds Inv-loop μ-loop
 unfolding endBefore
-loop-holds c = (omega arith, rw (← c .before .read32 .ensures) (c .directory-end .ensures .0), rw sub-zero)
+loop-holds c = (omega arith, c .bodies-at .ensures .0, rw sub-zero)
 
 entry-fault-requires : tie.Need-entry-fault-requires Inv-loop μ-loop
 entry-fault-requires c κs = search needs
+
+form-of-requires : tie.Need-form-of-requires Inv-loop μ-loop
+form-of-requires c κs = search needs
 
 cast-entry-offset : tie.Need-cast-entry-offset Inv-loop μ-loop
 cast-entry-offset c = search needs
@@ -44,12 +44,13 @@ add-result c = search needs
 
 returns : tie.Need-returns Inv-loop μ-loop
 returns c =
-    let l = c .before .before .before .before in
-    let a = l .before .before .before .before .args in
-    let e = c .before .before .entry-fault .ensures in
+    let form = c .before .form-of .ensures in
+    let l = c .before .before .before .before .before in
+    let a = l .before .before .before .args in
+    let e = c .before .before .before .entry-fault .ensures in
     let left : a .n - l .loop .i ≡ suc (a .n - (l .loop .i + 1)) = omega arith in (
-      rw (c .entry-offset .ensures .0, e .0) (sym (l .loop .inv .2 ∙ fault-here _ _ _ _ left (λ z. c .before .if1 .taken (e .0 ∙ z)))),
-      omega (arith, e .1),
+      rw (c .entry-offset .ensures .0, form, e .0) (sym (l .loop .inv .2 ∙ fault-here _ _ _ _ left (λ z. c .before .before .if1 .taken (e .0 ∙ z)))),
+      omega (arith, e .1, c .entry-offset .ensures .0, header-most (c .before .form-of .result)),
     )
 
 end-at-requires : tie.Need-end-at-requires Inv-loop μ-loop
@@ -64,7 +65,7 @@ loop-less c = search needs
 loop-again : tie.Need-loop-again Inv-loop μ-loop
 loop-again c =
     let l = c .before .before .before .before in
-    let a = l .before .before .before .before .args in
+    let a = l .before .before .before .args in
     let e = c .before .before .entry-fault .ensures in
     let left : a .n - l .loop .i ≡ suc (a .n - (l .loop .i + 1)) = omega arith in
     (omega arith, c .end-at .ensures, l .loop .inv .2 ∙ fault-later _ _ _ _ left (sym (e .0) ∙ c .before .if1 .left))
@@ -78,10 +79,10 @@ first-fault-spec =
     (tie.spec
     Inv-loop
     μ-loop
-    read32-requires
-    directory-end-requires
+    bodies-at-requires
     loop-holds
     entry-fault-requires
+    form-of-requires
     cast-entry-offset
     entry-offset-requires
     add-result

@@ -10,8 +10,8 @@ step-given-requires c κs = search needs
 directed-requires : tie.Need-directed-requires
 directed-requires c κs = search needs
 
-new-requires : tie.Need-new-requires
-new-requires c κs = search needs
+motion-of-requires : tie.Need-motion-of-requires
+motion-of-requires c κs = search needs
 
 deformation-requires : tie.Need-deformation-requires
 deformation-requires c κs = search needs
@@ -29,7 +29,7 @@ same-length-4 : tie.Need-same-length-4
 same-length-4 c = search needs
 
 returns : tie.Need-returns
-returns c = rw (c .before .before .before .before .before .before .before .before .before .new .ensures, c .before .before .before .before .before .before .before .before .before .before .before .before .before .before .directed .ensures, c .before .before .before .before .before .before .before .before .before .before .before .before .before .before .before .step-given .ensures) at (c .before .before .before .before .before .before .before .before .deformation .ensures)
+returns c = rw (c .before .before .before .before .before .before .before .before .before .motion-of .ensures, c .before .before .before .before .before .before .before .before .before .before .before .before .before .before .directed .ensures, c .before .before .before .before .before .before .before .before .before .before .before .before .before .before .before .step-given .ensures) at (c .before .before .before .before .before .before .before .before .deformation .ensures)
 
 pub grid-deformation-spec : {M : Type 1} → statement M
 grid-deformation-spec =
@@ -37,7 +37,7 @@ grid-deformation-spec =
     (tie.spec
     step-given-requires
     directed-requires
-    new-requires
+    motion-of-requires
     deformation-requires
     same-length
     same-length-2

@@ -10,8 +10,8 @@ step-given-requires c κs = search needs
 directed-requires : tie.Need-directed-requires
 directed-requires c κs = search needs
 
-new-requires : tie.Need-new-requires
-new-requires c κs = search needs
+motion-of-requires : tie.Need-motion-of-requires
+motion-of-requires c κs = search needs
 
 deformation-requires : tie.Need-deformation-requires
 deformation-requires c κs = search needs
@@ -30,7 +30,7 @@ same-length-4 c = search needs
 
 returns : tie.Need-returns
 returns c =
-    let e = rw (c .before .before .before .before .before .before .before .before .before .new .ensures, c .before .before .before .before .before .before .before .before .before .before .before .before .before .before .directed .ensures, c .before .before .before .before .before .before .before .before .before .before .before .before .before .before .before .step-given .ensures) at (c .before .before .before .before .before .before .before .before .deformation .ensures) in
+    let e = rw (c .before .before .before .before .before .before .before .before .before .motion-of .ensures, c .before .before .before .before .before .before .before .before .before .before .before .before .before .before .directed .ensures, c .before .before .before .before .before .before .before .before .before .before .before .before .before .before .before .step-given .ensures) at (c .before .before .before .before .before .before .before .before .deformation .ensures) in
     (e .0, e .1)
 
 pub lent-deformation-spec : {M : Type 1} → statement M
@@ -39,7 +39,7 @@ lent-deformation-spec =
     (tie.spec
     step-given-requires
     directed-requires
-    new-requires
+    motion-of-requires
     deformation-requires
     same-length
     same-length-2

@@ -15,8 +15,8 @@ mul-entries c = search needs
 array-set-from-entries : tie.Need-array-set-from-entries
 array-set-from-entries c = search needs
 
-add-t12 : tie.Need-add-t12
-add-t12 c = search needs
+add-count : tie.Need-add-count
+add-count c = search needs
 
 returns : tie.Need-returns
 unfolding withStepOf
@@ -24,4 +24,4 @@ returns c = ⊎-elim (λ w. rw (w .1, lt-ltb _ _ (w .0 .taken))) (λ w. rw (w .1
 
 pub with-step-spec : {M : Type 1} → statement M
 with-step-spec =
-    tie.close (tie.spec cast-entries mul-entries array-set-from-entries add-t12 returns)
+    tie.close (tie.spec cast-entries mul-entries array-set-from-entries add-count returns)

@@ -8,25 +8,34 @@ use Rattle.plans.proofs.plan_of_step.Tie as tie
 enum-known-step : tie.Need-enum-known-step
 enum-known-step c = search needs
 
+among-requires : tie.Need-among-requires
+among-requires c κs = search needs
+
 cart-plan-requires : tie.Need-cart-plan-requires
 cart-plan-requires c κs = search needs
 
 returns : tie.Need-returns
 unfolding planOf
-returns c = rw (c .before .before .step .given .1) (c .cart-plan .ensures)
+returns c = rw (c .before .before .before .step .given .1, ← c .before .among .ensures) (c .cart-plan .ensures)
 
 enum-known-step-2 : tie.Need-enum-known-step-2
 enum-known-step-2 c = search needs
+
+among-requires-2 : tie.Need-among-requires-2
+among-requires-2 c κs = search needs
 
 new-requires : tie.Need-new-requires
 new-requires c κs = search needs
 
 returns-2 : tie.Need-returns-2
 unfolding planOf
-returns-2 c = rw (c .before .before .step2 .given .1, c .new .ensures)
+returns-2 c = rw (c .before .before .before .step2 .given .1, c .new .ensures, c .before .among2 .ensures)
 
 enum-known-step-3 : tie.Need-enum-known-step-3
 enum-known-step-3 c = search needs
+
+among-requires-3 : tie.Need-among-requires-3
+among-requires-3 c κs = search needs
 
 new-requires-2 : tie.Need-new-requires-2
 new-requires-2 c κs = search needs
@@ -36,17 +45,24 @@ directed-requires c κs = search needs
 
 returns-3 : tie.Need-returns-3
 unfolding planOf
-returns-3 c = rw (c .before .before .before .step3 .given .1, c .directed .ensures, c .before .new2 .ensures)
+returns-3 c = rw (c .before .before .before .before .step3 .given .1, c .directed .ensures, c .before .new2 .ensures, c .before .before .among3 .ensures)
 
 enum-known-step-4 : tie.Need-enum-known-step-4
 enum-known-step-4 c = search needs
+
+among-requires-4 : tie.Need-among-requires-4
+among-requires-4 c κs = search needs
+
+among-requires-5 : tie.Need-among-requires-5
+among-requires-5 c κs = search needs
 
 new-requires-3 : tie.Need-new-requires-3
 new-requires-3 c κs = search needs
 
 returns-4 : tie.Need-returns-4
 unfolding planOf
-returns-4 c = rw (c .before .before .step4 .given .1, c .new3 .ensures)
+returns-4 c =
+    rw (c .before .before .before .before .step4 .given .1, c .new3 .ensures, c .before .among5 .ensures, c .before .before .among4 .ensures)
 
 enum-known-step-5 : tie.Need-enum-known-step-5
 enum-known-step-5 c = search needs
@@ -73,16 +89,21 @@ plan-of-step-spec =
     tie.close
     (tie.spec
     enum-known-step
+    among-requires
     cart-plan-requires
     returns
     enum-known-step-2
+    among-requires-2
     new-requires
     returns-2
     enum-known-step-3
+    among-requires-3
     new-requires-2
     directed-requires
     returns-3
     enum-known-step-4
+    among-requires-4
+    among-requires-5
     new-requires-3
     returns-4
     enum-known-step-5

@@ -14,16 +14,16 @@ use Rattle.sheet.proofs.check_bodies.Statement.{statement}
 use Rattle.sheet.proofs.check_bodies.Tie as tie
 
 abbrev Inv-loop : tie.InvT-loop
-Inv-loop s n i₀ i = (i ≤ n) × (firstBroken (fiveToEight (refusal5At s) (stepAt s) n 0) ≡ firstBroken (fiveToEight (refusal5At s) (stepAt s) (n - i) i))
+Inv-loop s head n known i₀ i = (i ≤ n) × (firstBroken (fiveToEight (refusal5At s) (stepAt s) n 0) ≡ firstBroken (fiveToEight (refusal5At s) (stepAt s) (n - i) i))
 
 abbrev μ-loop : tie.MeasureT-loop
-μ-loop s n i₀ i = n - i
+μ-loop s head n known i₀ i = n - i
 
 loop-holds : tie.Need-loop-holds Inv-loop μ-loop
 loop-holds c = (omega arith, rw sub-zero)
 
 check-body-requires : tie.Need-check-body-requires Inv-loop μ-loop
-check-body-requires c κs = search needs
+check-body-requires c κs = let p = c .before .before .before .pre in (omega arith, p .1)
 
 returns : tie.Need-returns Inv-loop μ-loop
 returns c = let l = c .before .before .before .before in

@@ -16,17 +16,17 @@ use Rattle.sheet.proofs.check_kinds.Statement.{statement}
 use Rattle.sheet.proofs.check_kinds.Tie as tie
 
 abbrev Inv-loop : tie.InvT-loop
-Inv-loop s n before₀ i₀ before i = (i ≤ n) × ((before ≡ hasDeformation (kindAt s) i) × (firstBroken (elevens (kindAt s) n 0) ≡ firstBroken (elevens (kindAt s) (n - i) i)))
+Inv-loop s head n before₀ i₀ before i = (i ≤ n) × ((before ≡ hasDeformation (kindAt s) i) × (firstBroken (elevens (kindAt s) n 0) ≡ firstBroken (elevens (kindAt s) (n - i) i)))
 
 abbrev μ-loop : tie.MeasureT-loop
-μ-loop s n before₀ i₀ before i = n - i
+μ-loop s head n before₀ i₀ before i = n - i
 
 loop-holds : tie.Need-loop-holds Inv-loop μ-loop
 unfolding hasDeformation
 loop-holds c = (omega arith, (refl, rw sub-zero))
 
-kind-at-requires : tie.Need-kind-at-requires Inv-loop μ-loop
-kind-at-requires c κs = search needs
+kind-from-requires : tie.Need-kind-from-requires Inv-loop μ-loop
+kind-from-requires c κs = c .before .before .before .pre .1
 
 of-step-requires : tie.Need-of-step-requires Inv-loop μ-loop
 of-step-requires c κs = search needs
@@ -36,7 +36,7 @@ unfolding refusal11
 returns c = let l = c .before .before .before .before in
     let a = l .before .before .args in
     let left : a .n - l .loop .i ≡ suc (a .n - (l .loop .i + 1)) = omega arith in
-    let second : refusal11 (kindAt (a .s .now)) (l .loop .i) ≡ true = rw (← c .before .before .kind-at .ensures, ← l .loop .inv .1 .0) (c .before .if1 .taken) in
+    let second : refusal11 (kindAt (a .s .now)) (l .loop .i) ≡ true = rw (← c .before .before .kind-from .ensures, ← l .loop .inv .1 .0) (c .before .if1 .taken) in
     c .of-step .ensures ∙ of-index _ _ (omega arith) ∙ sym (l .loop .inv .1 .1 ∙ elevens-off _ _ _ _ left second)
 
 add-i : tie.Need-add-i Inv-loop μ-loop
@@ -50,8 +50,8 @@ unfolding refusal11
 loop-again c = let l = c .before .before .before in
     let a = l .before .before .args in
     let left : a .n - l .loop .i ≡ suc (a .n - (l .loop .i + 1)) = omega arith in
-    let alone : refusal11 (kindAt (a .s .now)) (l .loop .i) ≡ false = rw (← c .before .kind-at .ensures, ← l .loop .inv .1 .0) (c .if1 .left) in
-    (omega arith, (rw (before-next, ← c .before .kind-at .ensures, ← l .loop .inv .1 .0), l .loop .inv .1 .1 ∙ elevens-on _ _ _ _ left alone))
+    let alone : refusal11 (kindAt (a .s .now)) (l .loop .i) ≡ false = rw (← c .before .kind-from .ensures, ← l .loop .inv .1 .0) (c .if1 .left) in
+    (omega arith, (rw (before-next, ← c .before .kind-from .ensures, ← l .loop .inv .1 .0), l .loop .inv .1 .1 ∙ elevens-on _ _ _ _ left alone))
 
 none-requires : tie.Need-none-requires Inv-loop μ-loop
 none-requires c κs = search needs
@@ -66,7 +66,7 @@ check-kinds-spec =
     Inv-loop
     μ-loop
     loop-holds
-    kind-at-requires
+    kind-from-requires
     of-step-requires
     returns
     add-i

@@ -1,34 +1,16 @@
--- The sum of the entry's offset and length is where the next body starts. Assumes nothing.
-use Rattle.sheet.proofs.Order.{end-next}
+-- Behind the header that the sheet has. Assumes nothing.
 use borrow.Author.Needs.{needs}
 use Rattle.sheet.proofs.end_at.Statement.{statement}
 use Rattle.sheet.proofs.end_at.Tie as tie
 
-offset-at-requires : tie.Need-offset-at-requires
-offset-at-requires c κs = search needs
+header-requires : tie.Need-header-requires
+header-requires c κs = search needs
 
-wide-requires : tie.Need-wide-requires
-wide-requires c κs = search needs
-
-length-at-requires : tie.Need-length-at-requires
-length-at-requires c κs = search needs
-
-wide-requires-2 : tie.Need-wide-requires-2
-wide-requires-2 c κs = search needs
-
-add-result : tie.Need-add-result
-add-result c = search needs
+end-from-requires : tie.Need-end-from-requires
+end-from-requires c κs = c .header .ensures
 
 returns : tie.Need-returns
-returns c = rw (end-next, c .wide2 .ensures .0, c .before .length-at .ensures, c .before .before .wide .ensures .0, c .before .before .before .offset-at .ensures)
+returns c = c .end-from .ensures
 
 pub end-at-spec : {M : Type 1} → statement M
-end-at-spec =
-    tie.close
-    (tie.spec
-    offset-at-requires
-    wide-requires
-    length-at-requires
-    wide-requires-2
-    add-result
-    returns)
+end-at-spec = tie.close (tie.spec header-requires end-from-requires returns)

@@ -1,14 +1,16 @@
--- The entry's first word. Assumes nothing.
-use native.Mathlib.Nat.{add-zero}
+-- Behind the header that the sheet has. Assumes nothing.
 use borrow.Author.Needs.{needs}
 use Rattle.sheet.proofs.kind_at.Statement.{statement}
 use Rattle.sheet.proofs.kind_at.Tie as tie
 
-entry-word-requires : tie.Need-entry-word-requires
-entry-word-requires c κs = search needs
+header-requires : tie.Need-header-requires
+header-requires c κs = search needs
+
+kind-from-requires : tie.Need-kind-from-requires
+kind-from-requires c κs = c .header .ensures
 
 returns : tie.Need-returns
-returns c = rw add-zero at (c .entry-word .ensures)
+returns c = c .kind-from .ensures
 
 pub kind-at-spec : {M : Type 1} → statement M
-kind-at-spec = tie.close (tie.spec entry-word-requires returns)
+kind-at-spec = tie.close (tie.spec header-requires kind-from-requires returns)

@@ -7,22 +7,22 @@ use native.Mathlib.Omega.{arith}
 use mathlib.Core.Path.{_≡_, refl, sym, ap, _∙_}
 use Prim.Native.Nat.{suc, _+_, _*_, _-_, _≤_, _<_}
 use native.Mathlib.Nat.{sub-zero}
-use Rattle.sheet.specs.Layout.{entriesFrom, recordOf, entryAt}
-use Rattle.sheet.proofs.Entries.{filled, filled-next, filled-all}
+use Rattle.sheet.specs.Layout.{listFrom, blankEntry, recordOf, entryAt}
+use Rattle.sheet.proofs.Entries.{filled, filled-next, filled-all, entry-past}
 use Rattle.sheet.proofs.record.Statement.{statement}
 use Rattle.sheet.proofs.record.Tie as tie
 
 abbrev Inv-loop : tie.InvT-loop
-Inv-loop s n entries₀ i₀ entries i = (i ≤ n) × (entries ≡ filled s i)
+Inv-loop s n own entries₀ i₀ entries i = (i ≤ n) × (entries ≡ filled s i)
 
 abbrev μ-loop : tie.MeasureT-loop
-μ-loop s n entries₀ i₀ entries i = n - i
+μ-loop s n own entries₀ i₀ entries i = n - i
 
 blank-requires : tie.Need-blank-requires Inv-loop μ-loop
 blank-requires c κs = search needs
 
 loop-holds : tie.Need-loop-holds Inv-loop μ-loop
-unfolding entriesFrom
+unfolding listFrom
 loop-holds c = (omega arith, rw (c .blank .ensures))
 
 entry-at-requires : tie.Need-entry-at-requires Inv-loop μ-loop
@@ -42,17 +42,34 @@ loop-less c = search needs
 
 loop-again : tie.Need-loop-again Inv-loop μ-loop
 loop-again c = let l = c .before .before in
-    (omega arith, rw (l .loop .inv .1, c .entry-at .ensures) (filled-next _ _ (omega arith)))
+    (omega arith, rw (l .loop .inv .1, c .entry-at .ensures) (filled-next (entryAt _) blankEntry 16 _ (omega arith)))
+
+rows-requires : tie.Need-rows-requires Inv-loop μ-loop
+rows-requires c κs = c .before .before .before .before .pre .1 .1
 
 read32-requires : tie.Need-read32-requires Inv-loop μ-loop
 read32-requires c κs = search needs
 
+read32-requires-2 : tie.Need-read32-requires-2 Inv-loop μ-loop
+read32-requires-2 c κs = search needs
+
+cast-t16 : tie.Need-cast-t16 Inv-loop μ-loop
+cast-t16 c = search needs
+
 returns : tie.Need-returns Inv-loop μ-loop
 unfolding recordOf
-returns c = let l = c .before .before in
+returns c = let l = c .before .before .before .before in
     let p = l .before .before .before in
     let all : l .loop .i ≡ p .args .n = omega arith in
-    rw (c .read32 .ensures, l .loop .inv .1, all, ← filled-all (p .args .s .now) (p .args .n) (p .pre .0) (sym (p .pre .1)))
+    rw (
+      c .read322 .ensures,
+      c .before .read32 .ensures,
+      c .before .before .rows .ensures,
+      l .loop .inv .1,
+      all,
+      ← filled-all (entryAt (p .args .s .now)) blankEntry (p .args .n) (λ i h. entry-past _ i (rw (← p .pre .1 .0) h)) 16 (p .pre .0),
+      p .pre .1 .1 .1,
+    )
 
 pub record-spec : {M : Type 1} → statement M
 record-spec =
@@ -68,5 +85,8 @@ record-spec =
     add-i
     loop-less
     loop-again
+    rows-requires
     read32-requires
+    read32-requires-2
+    cast-t16
     returns)

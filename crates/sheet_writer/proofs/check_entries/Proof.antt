@@ -16,16 +16,16 @@ use Rattle.sheet_writer.proofs.check_entries.Statement.{statement}
 use Rattle.sheet_writer.proofs.check_entries.Tie as tie
 
 abbrev Inv-loop : tie.InvT-loop
-Inv-loop sheet n i₀ i = (i ≤ n) × (firstBroken (fiveToEight (recordRefusal5 sheet) (stepIn sheet) n 0) ≡ firstBroken (fiveToEight (recordRefusal5 sheet) (stepIn sheet) (n - i) i))
+Inv-loop sheet known n i₀ i = (i ≤ n) × (firstBroken (fiveToEight (recordRefusal5 sheet) (stepIn sheet) n 0) ≡ firstBroken (fiveToEight (recordRefusal5 sheet) (stepIn sheet) (n - i) i))
 
 abbrev μ-loop : tie.MeasureT-loop
-μ-loop sheet n i₀ i = n - i
+μ-loop sheet known n i₀ i = n - i
 
 loop-holds : tie.Need-loop-holds Inv-loop μ-loop
 loop-holds c = (omega arith, rw sub-zero)
 
 check-entry-requires : tie.Need-check-entry-requires Inv-loop μ-loop
-check-entry-requires c κs = search needs
+check-entry-requires c κs = (omega arith, c .before .before .pre .1)
 
 returns : tie.Need-returns Inv-loop μ-loop
 returns c = let l = c .before .before .before .before in

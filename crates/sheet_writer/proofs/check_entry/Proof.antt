@@ -15,7 +15,7 @@ check-step-requires c κs = search needs
 
 returns : tie.Need-returns
 unfolding recordRefusal5
-returns c = rw (c .check-step .ensures, c .before .step-in-rule .ensures, c .before .before .entry-in .ensures)
+returns c = rw (c .check-step .ensures, c .before .step-in-rule .ensures, c .before .before .entry-in .ensures, c .before .before .before .pre .1)
 
 pub check-entry-spec : {M : Type 1} → statement M
 check-entry-spec =

@@ -1,6 +1,6 @@
--- Invariant: the room is the one at the start with the first i bodies put where the directory ends
+-- Invariant: the room is the one at the start with the first i bodies put where the rows end
 -- (`bodiesBytes`), and as long as that; `start` is where body i starts (`bodyStart`), at most 248
--- bytes a body past the directory. A turn puts body i there, which ends within the room
+-- bytes a body past the rows. A turn puts body i there, which ends within the room
 -- (`ends-within`) and is one body more (`bodies-next`), and moves `start` past it (`start-next`).
 -- At i = n all bodies are put. The measure is n - i. Assumes nothing.
 use borrow.Author.Needs.{needs}
@@ -17,17 +17,18 @@ use Rattle.sheet_writer.proofs.put_bodies.Statement.{statement}
 use Rattle.sheet_writer.proofs.put_bodies.Tie as tie
 
 abbrev Inv-loop : tie.InvT-loop
-Inv-loop room₀ sheet n start₀ i₀ room start i = (i ≤ n) × ((start ≡ bodyStart sheet i) × ((start ≤ 16 + 16 * n + 248 * i) × ((length room ≡ length room₀) × (room ≡ put room₀ (16 + 16 * n) (bodiesBytes sheet i)))))
+Inv-loop room₀ sheet n own start₀ i₀ room start i =
+    (i ≤ n) × ((start ≡ bodyStart sheet i) × ((start ≤ 408 + 248 * i) × ((length room ≡ length room₀) × (room ≡ put room₀ (bodyStart sheet 0) (bodiesBytes sheet i)))))
 
 abbrev μ-loop : tie.MeasureT-loop
-μ-loop room₀ sheet n start₀ i₀ room start i = n - i
+μ-loop room₀ sheet n own start₀ i₀ room start i = n - i
 
-directory-end-requires : tie.Need-directory-end-requires Inv-loop μ-loop
-directory-end-requires c κs = search needs
+bodies-start-requires : tie.Need-bodies-start-requires Inv-loop μ-loop
+bodies-start-requires c κs = let p = c .before .pre in (p .0, (p .1 .0, p .1 .1 .0))
 
 loop-holds : tie.Need-loop-holds Inv-loop μ-loop
-unfolding bodyStart bodiesBytes
-loop-holds c = (omega arith, (omega arith, (omega arith, (refl, sym (put-none _ _)))))
+unfolding bodiesBytes
+loop-holds c = (omega arith, (c .bodies-start .ensures .0, (omega arith, (refl, sym (put-none _ _)))))
 
 put-body-requires : tie.Need-put-body-requires Inv-loop μ-loop
 put-body-requires c κs =
@@ -54,7 +55,7 @@ loop-again c =
     let a = o .args in
     let p = c .before .before .before .put-body in
     let fits : bodyStart (a .sheet) (l .loop .i) ≤ length (a .room .now) = omega (arith, ends-within (a .sheet) (l .loop .i) (a .sheet .count) (omega arith)) in
-    (omega arith, (omega (arith, start-next (a .sheet) (l .loop .i)), (omega arith, (omega arith, rw (p .ensures, l .loop .inv .1 .1 .1 .1, l .loop .inv .1 .0, o .pre .1 .0) (bodies-next _ _ _ (fits))))))
+    (omega arith, (omega (arith, start-next (a .sheet) (l .loop .i)), (omega arith, (omega arith, rw (p .ensures, l .loop .inv .1 .1 .1 .1, l .loop .inv .1 .0) (bodies-next _ _ _ (fits))))))
 
 same-length : tie.Need-same-length Inv-loop μ-loop
 same-length c = search needs
@@ -64,7 +65,7 @@ returns c =
     let l = c .before in
     let a = l .before .before .before .args in
     let all : l .loop .i ≡ a .n = omega arith in
-    l .loop .inv .1 .1 .1 .1 ∙ ap (λ (k : ℕ). put (a .room .now) (16 + 16 * a .n) (bodiesBytes (a .sheet) k)) all
+    l .loop .inv .1 .1 .1 .1 ∙ ap (λ (k : ℕ). put (a .room .now) (bodyStart (a .sheet) 0) (bodiesBytes (a .sheet) k)) all
 
 pub put-bodies-spec : {M : Type 1} → statement M
 put-bodies-spec =
@@ -72,7 +73,7 @@ put-bodies-spec =
     (tie.spec
     Inv-loop
     μ-loop
-    directory-end-requires
+    bodies-start-requires
     loop-holds
     put-body-requires
     length-in-requires

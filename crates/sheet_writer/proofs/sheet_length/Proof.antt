@@ -1,6 +1,6 @@
 -- Invariant: `end` is where body i starts (`bodyStart`), at most 248 bytes a body past the
--- directory. A turn adds the length of body i (`start-next`), which is at most 248. At i = n `end`
--- is where the last body ends, which is the sheet's length, and with sixteen steps at most 4,240.
+-- rows. A turn adds the length of body i (`start-next`), which is at most 248. At i = n `end`
+-- is where the last body ends, which is the sheet's length, and with sixteen steps and eight rows at most 4,376.
 -- The measure is n - i. Assumes nothing.
 use borrow.Author.Needs.{needs}
 use native.Mathlib.Omega.{arith}
@@ -13,17 +13,16 @@ use Rattle.sheet_writer.proofs.sheet_length.Statement.{statement}
 use Rattle.sheet_writer.proofs.sheet_length.Tie as tie
 
 abbrev Inv-loop : tie.InvT-loop
-Inv-loop sheet n end₀ i₀ end i = (i ≤ n) × ((end ≡ bodyStart sheet i) × (end ≤ 16 + 16 * n + 248 * i))
+Inv-loop sheet n own end₀ i₀ end i = (i ≤ n) × ((end ≡ bodyStart sheet i) × (end ≤ 408 + 248 * i))
 
 abbrev μ-loop : tie.MeasureT-loop
-μ-loop sheet n end₀ i₀ end i = n - i
+μ-loop sheet n own end₀ i₀ end i = n - i
 
-directory-end-requires : tie.Need-directory-end-requires Inv-loop μ-loop
-directory-end-requires c κs = search needs
+bodies-start-requires : tie.Need-bodies-start-requires Inv-loop μ-loop
+bodies-start-requires c κs = c .pre
 
 loop-holds : tie.Need-loop-holds Inv-loop μ-loop
-unfolding bodyStart
-loop-holds c = (omega arith, (c .directory-end .ensures .0, omega arith))
+loop-holds c = (omega arith, (c .bodies-start .ensures .0, omega arith))
 
 length-in-requires : tie.Need-length-in-requires Inv-loop μ-loop
 length-in-requires c κs = search needs
@@ -52,7 +51,7 @@ sheet-length-spec =
     (tie.spec
     Inv-loop
     μ-loop
-    directory-end-requires
+    bodies-start-requires
     loop-holds
     length-in-requires
     add-end

@@ -1,4 +1,4 @@
--- The header's four words, one after another. Assumes nothing.
+-- The header's four words, one after another, and what form 2 has more. Assumes nothing.
 use Rattle.text.proofs.Laws.{then}
 use Rattle.show.specs.Show.{headText}
 use borrow.Author.Needs.{needs}
@@ -29,6 +29,9 @@ slice-aggregate-put-head-word-4 c = search needs
 put-head-word-requires-4 : tie.Need-put-head-word-requires-4
 put-head-word-requires-4 c κs = search needs
 
+put-more-requires : tie.Need-put-more-requires
+put-more-requires c κs = search needs
+
 same-length : tie.Need-same-length
 same-length c = search needs
 
@@ -37,9 +40,11 @@ unfolding headText
 returns c =
     then _ _ _
     (then _ _ _
-    (then _ _ _ (c .before .before .before .before .before .before .before .before .before .before .before .before .before .before .before .before .before .put-head-word .ensures) (c .before .before .before .before .before .before .before .before .before .before .before .before .put-head-word2 .ensures))
-    (c .before .before .before .before .before .before .before .put-head-word3 .ensures))
-    (c .before .before .put-head-word4 .ensures)
+    (then _ _ _
+    (then _ _ _ (c .before .before .before .before .before .before .before .before .before .before .before .before .before .before .before .before .before .before .before .before .before .put-head-word .ensures) (c .before .before .before .before .before .before .before .before .before .before .before .before .before .before .before .before .put-head-word2 .ensures))
+    (c .before .before .before .before .before .before .before .before .before .before .before .put-head-word3 .ensures))
+    (c .before .before .before .before .before .before .put-head-word4 .ensures))
+    (c .before .before .put-more .ensures)
 
 pub put-head-spec : {M : Type 1} → statement M
 put-head-spec =
@@ -53,5 +58,6 @@ put-head-spec =
     put-head-word-requires-3
     slice-aggregate-put-head-word-4
     put-head-word-requires-4
+    put-more-requires
     same-length
     returns)

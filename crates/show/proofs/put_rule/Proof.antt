@@ -121,7 +121,20 @@ same-length-9 c = search needs
 
 returns-9 : tie.Need-returns-9
 unfolding ruleText
-returns-9 c = rw (ne-eqb _ _ (c .before .before .before .before .before .before .before .before .before .before .before .before .if1 .left), ne-eqb _ _ (c .before .before .before .before .before .before .before .before .before .before .before .if2 .left), ne-eqb _ _ (c .before .before .before .before .before .before .before .before .before .before .if3 .left), ne-eqb _ _ (c .before .before .before .before .before .before .before .before .before .if4 .left), ne-eqb _ _ (c .before .before .before .before .before .before .before .before .if5 .left), ne-eqb _ _ (c .before .before .before .before .before .before .before .if6 .left), ne-eqb _ _ (c .before .before .before .before .before .before .if7 .left), ne-eqb _ _ (c .before .before .before .before .before .if8 .left)) (c .before .before .put-bytes9 .ensures)
+returns-9 c = rw (ne-eqb _ _ (c .before .before .before .before .before .before .before .before .before .before .before .before .before .if1 .left), ne-eqb _ _ (c .before .before .before .before .before .before .before .before .before .before .before .before .if2 .left), ne-eqb _ _ (c .before .before .before .before .before .before .before .before .before .before .before .if3 .left), ne-eqb _ _ (c .before .before .before .before .before .before .before .before .before .before .if4 .left), ne-eqb _ _ (c .before .before .before .before .before .before .before .before .before .if5 .left), ne-eqb _ _ (c .before .before .before .before .before .before .before .before .if6 .left), ne-eqb _ _ (c .before .before .before .before .before .before .before .if7 .left), ne-eqb _ _ (c .before .before .before .before .before .before .if8 .left), c .before .before .before .before .before .if9 .taken) (c .before .before .put-bytes9 .ensures)
+
+slice-aggregate-put-bytes-10 : tie.Need-slice-aggregate-put-bytes-10
+slice-aggregate-put-bytes-10 c = search needs
+
+put-bytes-requires-10 : tie.Need-put-bytes-requires-10
+put-bytes-requires-10 c κs = search needs
+
+same-length-10 : tie.Need-same-length-10
+same-length-10 c = search needs
+
+returns-10 : tie.Need-returns-10
+unfolding ruleText
+returns-10 c = rw (ne-eqb _ _ (c .before .before .before .before .before .before .before .before .before .before .before .before .before .if1 .left), ne-eqb _ _ (c .before .before .before .before .before .before .before .before .before .before .before .before .if2 .left), ne-eqb _ _ (c .before .before .before .before .before .before .before .before .before .before .before .if3 .left), ne-eqb _ _ (c .before .before .before .before .before .before .before .before .before .before .if4 .left), ne-eqb _ _ (c .before .before .before .before .before .before .before .before .before .if5 .left), ne-eqb _ _ (c .before .before .before .before .before .before .before .before .if6 .left), ne-eqb _ _ (c .before .before .before .before .before .before .before .if7 .left), ne-eqb _ _ (c .before .before .before .before .before .before .if8 .left), ne-eqb _ _ (c .before .before .before .before .before .if9 .left)) (c .before .before .put-bytes10 .ensures)
 
 pub put-rule-spec : {M : Type 1} → statement M
 put-rule-spec =
@@ -162,4 +175,8 @@ put-rule-spec =
     slice-aggregate-put-bytes-9
     put-bytes-requires-9
     same-length-9
-    returns-9)
+    returns-9
+    slice-aggregate-put-bytes-10
+    put-bytes-requires-10
+    same-length-10
+    returns-10)

@@ -8,6 +8,9 @@ use Rattle.show.proofs.put_step_place.Tie as tie
 wide-requires : tie.Need-wide-requires
 wide-requires c κs = search needs
 
+form-of-requires : tie.Need-form-of-requires
+form-of-requires c κs = search needs
+
 entry-offset-requires : tie.Need-entry-offset-requires
 entry-offset-requires c κs = search needs
 
@@ -36,9 +39,9 @@ returns : tie.Need-returns
 unfolding stepPlace
 returns c =
     let o = c .before .before .before .before .before .before .before .before .before .before .before .before .before .before in
-    let index = o .before .before .wide .ensures .0 in
+    let index = o .before .before .before .wide .ensures .0 in
     let body = rw index at (o .offset-at .ensures) in
-    rw (← body, ← o .before .entry-offset .ensures .0, ← index)
+    rw (← body, ← o .before .before .form-of .ensures, ← o .before .entry-offset .ensures .0, ← index)
     (then _ _ _ (then _ _ _ (c .before .before .before .before .before .before .before .before .before .before .before .put-line .ensures) (c .before .before .before .before .before .before .put-word .ensures))
     (c .before .before .put-step .ensures))
 
@@ -47,6 +50,7 @@ put-step-place-spec =
     tie.close
     (tie.spec
     wide-requires
+    form-of-requires
     entry-offset-requires
     offset-at-requires
     slice-aggregate-put-line

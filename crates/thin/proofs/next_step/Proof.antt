@@ -7,15 +7,12 @@ use Rattle.thin.proofs.next_step.Tie as tie
 place-of-requires : tie.Need-place-of-requires
 place-of-requires c κs = search needs
 
-entry-at-requires : tie.Need-entry-at-requires
-entry-at-requires c κs = search needs
-
-reversed-requires : tie.Need-reversed-requires
-reversed-requires c κs = search needs
+plan-at-requires : tie.Need-plan-at-requires
+plan-at-requires c κs = search needs
 
 returns : tie.Need-returns
 unfolding todoOf
-returns c = rw (c .reversed .ensures, c .before .entry-at .ensures, c .before .before .place-of .ensures)
+returns c = rw (c .plan-at .ensures, c .before .place-of .ensures)
 
 pub next-step-spec : {M : Type 1} → statement M
-next-step-spec = tie.close (tie.spec place-of-requires entry-at-requires reversed-requires returns)
+next-step-spec = tie.close (tie.spec place-of-requires plan-at-requires returns)

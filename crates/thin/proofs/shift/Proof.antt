@@ -53,10 +53,12 @@ use denote.Exit.{yes}
 use denote.Signature.{plain}
 use Rattle.tuple.specs.declared.Tuple.{Tuple}
 use Rattle.tuple.proofs.Tuple as T
-use Rattle.bodies.specs.declared.Step.{Step}
-use Rattle.bodies.proofs.Step as S
-use Rattle.bodies.proofs.Step.Laws as S′
+use Rattle.plans.specs.declared.Plan.{Plan}
+use Rattle.plans.specs.Plans.{planTurnsOf, planPassOf, planStartOf}
+use Rattle.plans.proofs.Plan as P
+use Rattle.plans.proofs.Plan.Laws as P′
 use Rattle.sheet.specs.declared.Refusal.{Refusal}
+use Rattle.sheet.specs.Layout.{stepCountOf}
 use Rattle.sheet.proofs.Refusal as Rf
 use Rattle.sheet.proofs.Refusal.Laws as Rf′
 use Rattle.tally.specs.declared.Tally.{Tally}
@@ -64,7 +66,6 @@ use Rattle.tally.proofs.Tally as Ta
 use Rattle.tally.proofs.Tally.Laws as Ta′
 use Rattle.plans.specs.Lent.{lentOf}
 use Rattle.chain.specs.declared.Answer.{Answer}
-use Rattle.chain.specs.Chain.{turnsOf, passOf, stateOf}
 use Rattle.chain.specs.Rules.{refusedAnswer, outcome, shiftOf}
 use Rattle.chain.proofs.Answer as An
 use Rattle.chain.proofs.Answer.Laws as An′
@@ -73,7 +74,7 @@ use Rattle.thin.specs.Tuples.{tuplesOf, tuplesTallyOf, flatOf}
 use Rattle.thin.specs.Sheets.{todoOf, thinRefusalOf, stepsOf, notedOf}
 use Rattle.thin.proofs.Answers.{holds, fails, either, answers}
 use Rattle.thin.proofs.Again.{LentAgain, lends-at, comes-at}
-use Rattle.thin.proofs.Laws.{place-below, todo-place, Going, going-few, going-start, going-again, going-end}
+use Rattle.thin.proofs.Laws.{place-below, todo-place, Going, going-few, going-counted, going-start, going-again, going-end}
 use Rattle.thin.proofs.Todo as Td
 use Rattle.thin.proofs.Todo.Laws as Td′
 use Rattle.thin.proofs.refusal_of as refusal-of
@@ -126,8 +127,8 @@ stayed = (
 
 -- ---- types and machine values, shut but for what the code reads of them: a walk compares them at every step
 
-unfoldable τS : Ty
-τS = spell code-mir.table (pointee (S.the-row .written))
+unfoldable τP : Ty
+τP = spell code-mir.table (pointee (P.the-row .written))
 
 unfoldable τA : Ty
 τA = spell code-mir.table (pointee (An.the-row .written))
@@ -157,13 +158,13 @@ abbrev τG : Ty
 τG = sliceTy (tyRef erased mut (pointee (T.the-row .written)))
 
 abbrev τD : Ty
-τD = tyStruct (Td.struct .name) (tcons (tyInt w64) (tcons tyBool (tcons τS tnil)))
+τD = tyStruct (Td.struct .name) (tcons (tyInt w64) (tcons τP tnil))
 
-unfoldable step-val : Step → Val
-step-val = S′.lowered
+unfoldable plan-val : Plan → Val
+plan-val = P′.lowered
 
 abbrev todo-val : Todo → Val
-todo-val d = vstruct (vcons (vint w64 (d .place)) (vcons (vbool (d .inverse)) (vcons (step-val (d .step)) vnil)))
+todo-val d = vstruct (vcons (vint w64 (d .place)) (vcons (plan-val (d .plan)) vnil))
 
 -- the function's MIR with its locals' types by those names
 abbrev its : Ty → Local
@@ -179,30 +180,27 @@ function = record {
 }
 
 function-is : code.function ≡ function
-unfolding τS τA τF τTa
+unfolding τP τA τF τTa
 function-is = refl
 
 -- where the fields lie
-inverse-at : fieldAt 0 (tcons (tyInt w64) (tcons tyBool (tcons τS tnil))) 1 ≡ present (tyBool, 8)
-inverse-at = refl
-
-step-at : fieldAt 0 (tcons (tyInt w64) (tcons tyBool (tcons τS tnil))) 2 ≡ present (τS, 16)
-unfolding τS
-step-at = refl
+plan-at : fieldAt 0 (tcons (tyInt w64) (tcons τP tnil)) 1 ≡ present (τP, 8)
+unfolding τP
+plan-at = refl
 
 -- whoever holds a record knows its machine value, and its fields' relations
 todo-told : (d : Todo) (v : Val) → Is Td.the-row d (v ∷ []) → v ≡ todo-val d
-unfolding step-val
+unfolding plan-val
 todo-told d v is = ap only (Td′.lowers .val-is d (v ∷ []) is)
 
-step-told : (step : Step) (v : Val) → Is S.the-row step (v ∷ []) → v ≡ step-val step
-unfolding step-val
-step-told step v is = ap only (S′.lowers .val-is step (v ∷ []) is)
+plan-told : (plan : Plan) (v : Val) → Is P.the-row plan (v ∷ []) → v ≡ plan-val plan
+unfolding plan-val
+plan-told plan v is = ap only (P′.lowers .val-is plan (v ∷ []) is)
 
-step-of : (d : Todo) (v : Val) → Is Td.the-row d (v ∷ []) → Is S.the-row (d .step) (step-val (d .step) ∷ [])
-step-of d v is =
-    let own : Is S.the-row (d .step) (EL.val S.the-type S′.the-laws (d .step) ∷ []) = LL.owed Td.the-type Td′.the-laws d (v ∷ []) is .1 .1 .0 in
-    subst (λ (w : Val). Is S.the-row (d .step) (w ∷ [])) (step-told (d .step) _ own) own
+plan-of : (d : Todo) (v : Val) → Is Td.the-row d (v ∷ []) → Is P.the-row (d .plan) (plan-val (d .plan) ∷ [])
+plan-of d v is =
+    let own : Is P.the-row (d .plan) (EL.val P.the-type P′.the-laws (d .plan) ∷ []) = LL.owed Td.the-type Td′.the-laws d (v ∷ []) is .1 .0 in
+    subst (λ (w : Val). Is P.the-row (d .plan) (w ∷ [])) (plan-told (d .plan) _ own) own
 
 place-fits : (d : Todo) (v : Val) → Is Td.the-row d (v ∷ []) → d .place < 2 ^ 64
 place-fits d v is = LL.owed Td.the-type Td′.the-laws d (v ∷ []) is .0 .1
@@ -221,7 +219,7 @@ module _ {M : Type 1} (𝓤 : URA M) (H : Heap 𝓤) (A : Atoms 𝓤) (W : Given
   answer-typed r v is = LL.lawful An.the-type An′.the-laws 𝓤 H A W .typed r _ is .0
 
   todo-typed : (d : Todo) (v : Val) → Is Td.the-row d (v ∷ []) → T (hasTy τD v) × WT v
-  unfolding τS
+  unfolding τP
   todo-typed d v is = LL.lawful Td.the-type Td′.the-laws 𝓤 H A W .typed d _ is .0
 
 -- ---- the contracts that the proof cites
@@ -394,19 +392,19 @@ module _ {M : Type 1} (𝓤 : URA M) (H : Heap 𝓤) (A : Atoms 𝓤) (W : Given
     OwnAgain = MutSlice (named 0) (ν ∷ []) T.the-row .own lent (sl ∷ [])
 
     abbrev to-run : RunStep 𝓤 H A mem run .Ghost
-    to-run = (((ν ∷ [], (κ₂, (κ₃, tt))), (fullShare, (q₂, (q₃, tt))), tt, (lent, (d .inverse, (d .step, (velocities, (marks, tt))))), (sl ∷ [], (vbool (d .inverse) ∷ [], (step-val (d .step) ∷ [], (vv ∷ [], (mv ∷ [], tt)))))), tt)
+    to-run = (((ν ∷ [], (κ₂, (κ₃, tt))), (fullShare, (q₂, (q₃, tt))), tt, (lent, (d .plan, (velocities, (marks, tt)))), (sl ∷ [], (plan-val (d .plan) ∷ [], (vv ∷ [], (mv ∷ [], tt))))), tt)
 
     abbrev With : Item 𝓤
     With = ‵ (flft (ν ∷ []) fullShare) ⊛ Two
 
-    passes-run : Is S.the-row (d .step) (step-val (d .step) ∷ []) → ent 𝓤 (mean 𝓤 H A (With ⊛ ‵ OwnAgain ⊛ ‵ OwnV ⊛ ‵ OwnM)) (RunStep 𝓤 H A mem run .pre to-run)
+    passes-run : Is P.the-row (d .plan) (plan-val (d .plan) ∷ []) → ent 𝓤 (mean 𝓤 H A (With ⊛ ‵ OwnAgain ⊛ ‵ OwnV ⊛ ‵ OwnM)) (RunStep 𝓤 H A mem run .pre to-run)
     passes-run is =
         qed W ((With ⊛ ‵ OwnAgain ⊛ ‵ OwnV ⊛ ‵ OwnM) ∷ []) ∵ split ! $ move ! (1 ∷ []) $ split ! $ move ! (1 ∷ []) $ split ! $
         -- [velocities; marks; the list; the tokens]
-        nothing ! $ move ! (2 ∷ 0 ∷ []) $ fjoin ! $ move ! (1 ∷ 0 ∷ []) $ fjoin ! $ owned ! S.the-row (Is S.the-row) (EL.makes S.the-type S′.the-plain 𝓤 H A) (d .step) _ is $ fjoin ! $
-        owned ! bool (Is bool) (bool-makes 𝓤 H A W) (d .inverse) _ refl $ fjoin ! $ move ! (1 ∷ 0 ∷ []) $ fjoin ! $ move ! (1 ∷ 0 ∷ []) $ join ! $ frame ! $ done !
+        nothing ! $ move ! (2 ∷ 0 ∷ []) $ fjoin ! $ move ! (1 ∷ 0 ∷ []) $ fjoin ! $ owned ! P.the-row (Is P.the-row) (EL.makes P.the-type P′.the-plain 𝓤 H A) (d .plan) _ is $ fjoin ! $
+        move ! (1 ∷ 0 ∷ []) $ fjoin ! $ move ! (1 ∷ 0 ∷ []) $ join ! $ frame ! $ done !
 
-    asks-run : Is S.the-row (d .step) (step-val (d .step) ∷ [])
+    asks-run : Is P.the-row (d .plan) (plan-val (d .plan) ∷ [])
         → ent 𝓤 (sep 𝓤 (A .lft (ν ∷ []) fullShare) (sep 𝓤 (sem 𝓤 H A OwnAgain) (mean 𝓤 H A Others))) (sep 𝓤 (RunStep 𝓤 H A mem run .pre to-run) (mean 𝓤 H A (‵ OwnV ⊛ ‵ OwnM)))
     asks-run is =
         qed W (‵ (flft (ν ∷ []) fullShare) ∷ ‵ OwnAgain ∷ Others ∷ []) ∵ move ! (2 ∷ []) $ split ! $ move ! (1 ∷ []) $ split ! $
@@ -416,16 +414,16 @@ module _ {M : Type 1} (𝓤 : URA M) (H : Heap 𝓤) (A : Atoms 𝓤) (W : Given
         move ! (5 ∷ 4 ∷ []) $ join ! $ move ! (0 ∷ 5 ∷ 3 ∷ 1 ∷ []) $ group ! 4 $ use1 W (raw (RunStep 𝓤 H A mem run .pre to-run)) (passes-run is) $ frame ! $ move ! (1 ∷ 0 ∷ []) $ done !
 
     abbrev Ran : List Tuple → Tally → Type 0
-    Ran zs′ tally = (zs′ ≡ tuplesOf (turnsOf (d .inverse) (lentOf (velocities .now) (marks .now) []) (d .step)) 0 (stateOf (d .step)) zs) × (tally ≡ tuplesTallyOf (passOf (d .inverse) (lentOf (velocities .now) (marks .now) []) (d .step)) 0 (stateOf (d .step)) zs)
+    Ran zs′ tally = (zs′ ≡ tuplesOf (planTurnsOf (lentOf (velocities .now) (marks .now) []) (d .plan)) 0 (planStartOf (d .plan)) zs) × (tally ≡ tuplesTallyOf (planPassOf (lentOf (velocities .now) (marks .now) []) (d .plan)) 0 (planStartOf (d .plan)) zs)
 
     abbrev Run-ensured : Tally → SProp 𝓤
-    Run-ensured r = ensured 𝓤 H A run-step.ended (run-step.clauses 𝓤 H A mem run) (ν ∷ [], (κ₂, (κ₃, tt))) (lent, (d .inverse, (d .step, (velocities, (marks, tt))))) tt r
+    Run-ensured r = ensured 𝓤 H A run-step.ended (run-step.clauses 𝓤 H A mem run) (ν ∷ [], (κ₂, (κ₃, tt))) (lent, (d .plan, (velocities, (marks, tt)))) tt r
 
     abbrev Last : Type 0
-    Last = List Tuple × (Unit {0} × (Unit {0} × (Unit {0} × (Unit {0} × Unit {0}))))
+    Last = List Tuple × (Unit {0} × (Unit {0} × (Unit {0} × Unit {0})))
 
     abbrev Run-last : Last → Fml
-    Run-last ws = lasts run-step.ended (ν ∷ [], (κ₂, (κ₃, tt))) (lent, (d .inverse, (d .step, (velocities, (marks, tt))))) ws
+    Run-last ws = lasts run-step.ended (ν ∷ [], (κ₂, (κ₃, tt))) (lent, (d .plan, (velocities, (marks, tt)))) ws
 
 -- ---- the walk
 
@@ -502,6 +500,9 @@ module _ {M : Type 1} (𝓤 : URA M) (H : Heap 𝓤) (A : Atoms 𝓤) (W : Given
     most : n ≤ 16
     most = going-few (s .now) (velocities .now) (marks .now) ys refusal n er en
 
+    counted : n ≤ stepCountOf (s .now)
+    counted = going-counted (s .now) refusal n en
+
     -- the loop at its test: the index, the list, the answer so far
     record Turn : Type 0 where
       i : ℕ
@@ -567,11 +568,11 @@ module _ {M : Type 1} (𝓤 : URA M) (H : Heap 𝓤) (A : Atoms 𝓤) (W : Given
           (lends-at T.the-row κ (ν ∷ []) q γ b o 𝓤 H A W (named 1) (named 0) (t .zs) m (t .inv .long)) $ await ! tt $ pick ! (λ δ. split ! $
           -- [the list lent again; what is kept of it; ν's token; the sheet; the others; _15 at 5;
           -- ..]
-          move ! (2 ∷ 0 ∷ 4 ∷ []) $ use3 W (raw (RunStep 𝓤 H A mem run .pre (to-run 𝓤 H A W mem run κ₀ κ₂ κ₃ q₀ q₂ q₃ s velocities marks b o m ν δ (t .zs) d)) ⊛ (‵ (OwnV 𝓤 H A W mem run κ₀ κ₂ κ₃ q₀ q₂ q₃ s velocities marks) ⊛ ‵ (OwnM 𝓤 H A W mem run κ₀ κ₂ κ₃ q₀ q₂ q₃ s velocities marks))) (asks-run 𝓤 H A W mem run κ₀ κ₂ κ₃ q₀ q₂ q₃ s velocities marks b o m ν δ (t .zs) d (step-of d dv d-is)) $ split ! $
+          move ! (2 ∷ 0 ∷ 4 ∷ []) $ use3 W (raw (RunStep 𝓤 H A mem run .pre (to-run 𝓤 H A W mem run κ₀ κ₂ κ₃ q₀ q₂ q₃ s velocities marks b o m ν δ (t .zs) d)) ⊛ (‵ (OwnV 𝓤 H A W mem run κ₀ κ₂ κ₃ q₀ q₂ q₃ s velocities marks) ⊛ ‵ (OwnM 𝓤 H A W mem run κ₀ κ₂ κ₃ q₀ q₂ q₃ s velocities marks))) (asks-run 𝓤 H A W mem run κ₀ κ₂ κ₃ q₀ q₂ q₃ s velocities marks b o m ν δ (t .zs) d (plan-of d dv d-is)) $ split ! $
           -- [what `run_step` asks; velocities and marks; what is kept of the list; the sheet; _15
           -- at 4; ..]
-          calls-at ! fm (RunStep 𝓤 H A mem run) known-run (to-run 𝓤 H A W mem run κ₀ κ₂ κ₃ q₀ q₂ q₃ s velocities marks b o m ν δ (t .zs) d) (and-then ! (load ! (from ! (stop !)) (look ! 4 refl)) (and-then ! (load ! (from ! (fld ! inverse-at (stop !))) (look-in ! 14 (sub ! 1 inverse-at (whole !))))
-          (and-then ! (load ! (from ! (fld ! step-at (stop !))) (look-in ! 14 (sub ! 2 step-at (whole !)))) (and-then ! (load ! (from ! (stop !)) (look ! 26 refl)) (and-then ! (load ! (from ! (stop !)) (look ! 24 refl)) (no-more !)))))) (λ v.
+          calls-at ! fm (RunStep 𝓤 H A mem run) known-run (to-run 𝓤 H A W mem run κ₀ κ₂ κ₃ q₀ q₂ q₃ s velocities marks b o m ν δ (t .zs) d) (and-then ! (load ! (from ! (stop !)) (look ! 4 refl)) (and-then ! (load ! (from ! (fld ! plan-at (stop !))) (look-in ! 14 (sub ! 1 plan-at (whole !))))
+          (and-then ! (load ! (from ! (stop !)) (look ! 26 refl)) (and-then ! (load ! (from ! (stop !)) (look ! 24 refl)) (no-more !))))) (λ v.
           use1 W (later (some (λ (r : Tally). (With 𝓤 H A W mem run κ₀ κ₂ κ₃ q₀ q₂ q₃ s velocities marks b o m ν δ (t .zs) d ⊛ ‵ (Ta.the-row .own r (v ∷ []))) ⊛ raw (Run-ensured 𝓤 H A W mem run κ₀ κ₂ κ₃ q₀ q₂ q₃ s velocities marks b o m ν δ (t .zs) d r)))) (id⊢ 𝓤 _) $ await ! tt $ pick ! (λ tally. split ! $ move ! (1 ∷ []) $
           use1 W (some (λ (ws : Last 𝓤 H A W mem run κ₀ κ₂ κ₃ q₀ q₂ q₃ s velocities marks b o m ν δ (t .zs) d). ‵ (Run-last 𝓤 H A W mem run κ₀ κ₂ κ₃ q₀ q₂ q₃ s velocities marks b o m ν δ (t .zs) d ws) ⊛ raw (fact 𝓤 (Ran 𝓤 H A W mem run κ₀ κ₂ κ₃ q₀ q₂ q₃ s velocities marks b o m ν δ (t .zs) d (ws .0) tally)))) (id⊢ 𝓤 _) $ pick ! (λ ws. split ! $ move ! (1 ∷ []) $ heard ! (Ran 𝓤 H A W mem run κ₀ κ₂ κ₃ q₀ q₂ q₃ s velocities marks b o m ν δ (t .zs) d (ws .0) tally) (λ ran.
           fsplit ! $ fsplit ! $ move ! (1 ∷ []) $ feqL ! (λ el.
@@ -593,7 +594,7 @@ module _ {M : Type 1} (𝓤 : URA M) (H : Heap 𝓤) (A : Atoms 𝓤) (W : Given
           assigns-last ! (bin ! (load ! (from ! (stop !)) (look ! 15 refl)) (lit ! tt) (record { fits = next-fits })) (from ! (stop !)) (store ! 15 refl (tt, record { fits = next-fits })) $
           forget ! 3 refl $ forget ! 5 refl $ forget ! 7 refl $ forget ! 11 refl $ forget ! 13 refl $
           again ! Nearer At t
-          (record { i = t .i + 1; zs = ws .0; answer = answer; av = av′; is = a-is; inv = going-again inverse (s .now) (velocities .now) (marks .now) ys refusal n most (t .i) (t .zs) (ws .0) (t .answer) answer d tally below et el ran ea (t .inv) })
+          (record { i = t .i + 1; zs = ws .0; answer = answer; av = av′; is = a-is; inv = going-again inverse (s .now) (velocities .now) (marks .now) ys refusal n most counted (t .i) (t .zs) (ws .0) (t .answer) answer d tally below et el ran ea (t .inv) })
           (let h = below in omega arith)))))))))))))
         where
           below : t .i < n
@@ -639,7 +640,7 @@ module _ {M : Type 1} (𝓤 : URA M) (H : Heap 𝓤) (A : Atoms 𝓤) (W : Given
       land ! (from ! (stop !)) (init ! 18 refl (answer-typed 𝓤 H A W answer _ a-is)) $ drop ! $ move ! (2 ∷ 0 ∷ 1 ∷ []) $
       assigns ! (of-opd ! (lit ! tt)) (from ! (stop !)) (init ! 15 refl (tt, record { fits = lit< tt })) $
       by ! (looped refusal rv er n (n-is .1) en 𝓣 fm known-next known-run known-noted l₀ l₁ l₂ l₃ l₄ l₅ l₆ l₇ l₈ l₉ l₁₀ l₁₁ l₁₂ l₁₃ l₁₄ l₁₅
-      (record { i = 0; zs = ys; answer = answer; av = av; is = a-is; inv = going-start inverse (s .now) (velocities .now) (marks .now) ys refusal n (going-few (s .now) (velocities .now) (marks .now) ys refusal n er en) answer ea }))))))))))))))))))))))))
+      (record { i = 0; zs = ys; answer = answer; av = av; is = a-is; inv = going-start inverse (s .now) (velocities .now) (marks .now) ys refusal n (going-few (s .now) (velocities .now) (marks .now) ys refusal n er en) (going-counted (s .now) refusal n en) answer ea }))))))))))))))))))))))))
     where
       fm : FmC 𝓤 H (W .laws) (𝓣 .C)
       fm = fmOf 𝓤 H (W .laws) 𝓣

@@ -37,37 +37,35 @@ returns-2 c = rw (c .before .before .before .plan2 .given .1, c .carried-on2 .en
 enum-known-plan-3 : tie.Need-enum-known-plan-3
 enum-known-plan-3 c = search needs
 
-fwd-requires : tie.Need-fwd-requires
-fwd-requires c κs = search needs
-
 out-of-reach-requires : tie.Need-out-of-reach-requires
 out-of-reach-requires c κs = search needs
+
+inv-requires : tie.Need-inv-requires
+inv-requires c κs = search needs
 
 carried-on-requires-3 : tie.Need-carried-on-requires-3
 carried-on-requires-3 c κs = search needs
 
 returns-3 : tie.Need-returns-3
 unfolding turnOf
-returns-3 c = rw (c .before .before .before .before .plan3 .given .1, c .carried-on3 .ensures, c .before .out-of-reach .ensures, c .before .before .fwd .ensures)
+returns-3 c =
+    let o = c .before .before in
+    rw (o .before .before .before .plan3 .given .1, c .carried-on3 .ensures, c .before .inv .ensures, o .before .out-of-reach .ensures, o .if1 .taken)
 
-enum-known-plan-4 : tie.Need-enum-known-plan-4
-enum-known-plan-4 c = search needs
-
-inv-requires : tie.Need-inv-requires
-inv-requires c κs = search needs
-
-out-of-reach-requires-2 : tie.Need-out-of-reach-requires-2
-out-of-reach-requires-2 c κs = search needs
+fwd-requires : tie.Need-fwd-requires
+fwd-requires c κs = search needs
 
 carried-on-requires-4 : tie.Need-carried-on-requires-4
 carried-on-requires-4 c κs = search needs
 
 returns-4 : tie.Need-returns-4
 unfolding turnOf
-returns-4 c = rw (c .before .before .before .before .plan4 .given .1, c .carried-on4 .ensures, c .before .out-of-reach2 .ensures, c .before .before .inv .ensures)
+returns-4 c =
+    let o = c .before .before in
+    rw (o .before .before .before .plan3 .given .1, c .carried-on4 .ensures, c .before .fwd .ensures, o .before .out-of-reach .ensures, o .if1 .left)
 
-enum-known-plan-5 : tie.Need-enum-known-plan-5
-enum-known-plan-5 c = search needs
+enum-known-plan-4 : tie.Need-enum-known-plan-4
+enum-known-plan-4 c = search needs
 
 common-requires : tie.Need-common-requires
 common-requires c κs = search needs
@@ -80,10 +78,10 @@ carried-on-requires-5 c κs = search needs
 
 returns-5 : tie.Need-returns-5
 unfolding turnOf
-returns-5 c = rw (c .before .before .before .before .plan5 .given .1, c .carried-on5 .ensures, c .before .offsets-out .ensures, c .before .before .common .ensures)
+returns-5 c = rw (c .before .before .before .before .plan4 .given .1, c .carried-on5 .ensures, c .before .offsets-out .ensures, c .before .before .common .ensures)
 
-enum-known-plan-6 : tie.Need-enum-known-plan-6
-enum-known-plan-6 c = search needs
+enum-known-plan-5 : tie.Need-enum-known-plan-5
+enum-known-plan-5 c = search needs
 
 velocity-at-requires : tie.Need-velocity-at-requires
 velocity-at-requires c κs = search needs
@@ -102,10 +100,10 @@ carried-on-requires-6 c κs = search needs
 
 returns-6 : tie.Need-returns-6
 unfolding turnOf
-returns-6 c = rw (c .before .before .before .before .before .before .plan6 .given .1, c .carried-on6 .ensures, c .before .moved-met .ensures, c .before .before .common2 .ensures, c .before .before .before .mark-at .ensures, c .before .before .before .before .velocity-at .ensures)
+returns-6 c = rw (c .before .before .before .before .before .before .plan5 .given .1, c .carried-on6 .ensures, c .before .moved-met .ensures, c .before .before .common2 .ensures, c .before .before .before .mark-at .ensures, c .before .before .before .before .velocity-at .ensures)
 
-enum-known-plan-7 : tie.Need-enum-known-plan-7
-enum-known-plan-7 c = search needs
+enum-known-plan-6 : tie.Need-enum-known-plan-6
+enum-known-plan-6 c = search needs
 
 step-requires : tie.Need-step-requires
 step-requires c κs = search needs
@@ -121,7 +119,7 @@ carried-on-requires-7 c κs = search needs
 
 returns-7 : tie.Need-returns-7
 unfolding turnOf
-returns-7 c = rw (c .before .before .before .before .before .plan7 .given .1, c .carried-on7 .ensures, c .before .helmert-met .ensures, c .before .before .counted .ensures, c .before .before .before .step .ensures)
+returns-7 c = rw (c .before .before .before .before .before .plan6 .given .1, c .carried-on7 .ensures, c .before .helmert-met .ensures, c .before .before .counted .ensures, c .before .before .before .step .ensures)
 
 pub turn-spec : {M : Type 1} → statement M
 turn-spec =
@@ -137,28 +135,26 @@ turn-spec =
     carried-on-requires-2
     returns-2
     enum-known-plan-3
-    fwd-requires
     out-of-reach-requires
+    inv-requires
     carried-on-requires-3
     returns-3
-    enum-known-plan-4
-    inv-requires
-    out-of-reach-requires-2
+    fwd-requires
     carried-on-requires-4
     returns-4
-    enum-known-plan-5
+    enum-known-plan-4
     common-requires
     offsets-out-requires
     carried-on-requires-5
     returns-5
-    enum-known-plan-6
+    enum-known-plan-5
     velocity-at-requires
     mark-at-requires
     common-requires-2
     moved-met-requires
     carried-on-requires-6
     returns-6
-    enum-known-plan-7
+    enum-known-plan-6
     step-requires
     counted-requires
     helmert-met-requires

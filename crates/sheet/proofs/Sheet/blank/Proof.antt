@@ -6,8 +6,11 @@ use Rattle.sheet.proofs.Sheet.blank.Tie as tie
 blank-requires : tie.Need-blank-requires
 blank-requires c κs = search needs
 
+blank-row-requires : tie.Need-blank-row-requires
+blank-row-requires c κs = search needs
+
 returns : tie.Need-returns
-returns c = rw (c .blank .ensures)
+returns c = rw (c .blank-row .ensures, c .before .blank .ensures)
 
 pub blank-spec : {M : Type 1} → statement M
-blank-spec = tie.close (tie.spec blank-requires returns)
+blank-spec = tie.close (tie.spec blank-requires blank-row-requires returns)
