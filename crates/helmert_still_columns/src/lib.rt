@@ -7,7 +7,7 @@
 // `helmert_exact_columns`, `helmert_running_columns` and `helmert_columns`.
 ghost use Prim.Native.Nat.{ℕ, _*_, _≤_, _<_};
 ghost use mathlib.Core.Path.{_≡_};
-ghost use mathlib.Core.Bool.{false};
+ghost use mathlib.Core.Bool.{true, false};
 ghost use lib.ListN.{length};
 ghost use lib.Ieee.{ne};
 ghost use Rattle.blocks.specs.Each.{at};
@@ -158,7 +158,9 @@ pub fn run_still(
 // From an index on, where the time stops being the last one.
 pub fn run_end(t: &[f64], i: usize, last: f64) -> usize
     ensures { λ r. ⌜ (i ≤ r) × (i ≤ length (now (t .entry)) → r ≤ length (now (t .entry)))
-        × ((k : ℕ) → i ≤ k → k < r → ne (at (now (t .entry)) k) last ≡ false) ⌝ }
+        × ((k : ℕ) → i ≤ k → k < r → ne (at (now (t .entry)) k) last ≡ false)
+        × (r < length (now (t .entry)) → ne (at (now (t .entry)) r) last ≡ true)
+        × (length (now (t .entry)) ≤ i → r ≡ i) ⌝ }
 {
     let mut end = i;
     while end < t.len() {

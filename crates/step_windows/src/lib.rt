@@ -6,7 +6,9 @@
 // (plans, specs/Plans.antt); a rest shorter than a tuple stays as it is. No rounding but the step's
 // own. Used by the chain's flat entry for sheets of one step, and its room by `windows`.
 ghost use mathlib.Core.Path.{_≡_};
+ghost use mathlib.Core.Bool.{cond};
 ghost use Prim.Native.Nat.{_+_, _*_, _≤_, _<_};
+ghost use lib.Dec.{ltb};
 ghost use lib.ListN.{length};
 ghost use Rattle.lists.specs.Run.{ranOf, countOf, stateAfterOf};
 ghost use Rattle.columns.specs.Columns.{Level};
@@ -31,7 +33,7 @@ pub fn room() -> [f64; ROWS]
 
 // How many rows the next window has, of those that are left.
 pub fn rows_of(left: usize) -> usize
-    ensures { λ r. ⌜ (r ≤ left) × (r ≤ 128) × (0 < left → 0 < r) ⌝ }
+    ensures { λ r. ⌜ (r ≤ left) × (r ≤ 128) × (0 < left → 0 < r) × (r ≡ cond (ltb left 128) left 128) ⌝ }
 {
     if left < ROWS {
         return left;
