@@ -104,7 +104,7 @@ fn helmert_fields(b: &[u8]) -> Helmert
     Helmert {
         flags: words::read32(body, 0),
         convention: words::read32(body, 4),
-        translation: read_vec3(body, 8),
+        translation: read_vec3(body, 8), // Helmert's
         xyz: read_vec3(body, 32),
         translation_rate: read_vec3(body, 56),
         dxyz: read_vec3(body, 80),
@@ -359,7 +359,7 @@ fn broken_helmert(b: &[u8]) -> u32
         return 5;
     }
     if h.lacks_convention() {
-        return 6;
+        return 6; // Helmert's
     }
     if h.lacks_epoch() {
         return 7;
