@@ -5,6 +5,8 @@
 // a room of any length; the longest text has 35,419 bytes. A bad job is 16, before all others. A job
 // with a velocity grid is a job with the grid's bytes behind it. No rounding but the steps' own.
 // Used by the programs `shift` and shift_grid.
+#![tactic(auto)]
+
 ghost use Rattle.std.specs.Prelude.{◌≡◌, ◌*◌, ◌≤◌, length};
 ghost use Rattle.text.specs.Text.{text, appended};
 ghost use Rattle.job.specs.Job.{head_of, marks_at};

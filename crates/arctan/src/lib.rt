@@ -9,6 +9,8 @@
 // within 2^-51.84 (measure/atan2_hypot.c; docs/KERNELS.md).
 // Longitude and latitude in `cart`, `geocart` and the geocentric latitude are taken by it;
 // `arctan_block` is the same for sixteen points at once, by the tables and the cut angle here.
+#![tactic(auto)]
+
 ghost use Rattle.std.specs.Prelude.{◌≡◌, ◌-◌, cond};
 ghost use Rattle.arctan.specs.Table.{cell_at, octant_at};
 ghost use Rattle.arctan.specs.Arctan.{tail_of, head_of, small_angle_of, cut_angle_of, cell_index_of, small, quotient_angle_of, moderate, scale_of, extreme_angle_of, within_of, octant_index_of, inside_of, along_of, diagonal_of, angle_of, atan2_of};
@@ -48,7 +50,7 @@ const UP: f64 = 2.037035976334486e90;
 
 const DOWN: f64 = 4.909093465297727e-91;
 
-#[derive(Drop)]
+#[derive(Clone, Copy)]
 pub struct Cell {
     pub coarse: f64,
     pub fine: f64,
@@ -56,7 +58,7 @@ pub struct Cell {
     pub rest: f64,
 }
 
-#[derive(Drop)]
+#[derive(Clone, Copy)]
 pub struct Octant {
     pub base: f64,
     pub rest: f64,

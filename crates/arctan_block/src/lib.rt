@@ -5,6 +5,8 @@
 // near 0 are mended afterwards; any other block goes one point after the other. Proved: each number
 // is atan2's, so that its exactness is atan2's too. Longitude and latitude in `cart` and
 // `geocart_block` and the geocentric latitude in `permtide` are taken by it.
+#![tactic(auto)]
+
 ghost use Rattle.std.specs.Prelude.{◌≡◌, ℕ, min, cond, length};
 ghost use Rattle.blocks.specs.Each.{at, Each};
 ghost use Rattle.arctan.specs.Arctan.{atan2_of};
@@ -48,7 +50,7 @@ fn odd_if(usual: bool, quarters: u64) -> u64
 // the quarters of a halving from the one to the other; its octant; and how odd it is: the quarters,
 // and 8192 if a magnitude was held. Points that are less than 256 odd together are moderate, each
 // of them, and mostly away from the axes.
-#[derive(Drop)]
+#[derive(Clone, Copy)]
 struct Point {
     larger: f64,
     smaller: f64,

@@ -4,6 +4,8 @@
 // specs/Arrays.antt has a line a field with its place in the array; a Helmert step's 30 numbers
 // come in the order of its body. Exact: no number changes. Used by the library that C and Rust
 // link.
+#![tactic(auto)]
+
 ghost use Rattle.std.specs.Prelude.{◌≡◌, ◌≤◌};
 ghost use Rattle.arrays.specs.Arrays.{tuple_of, three_at, helmert_of, molodensky_of, badekas_of};
 

@@ -10,6 +10,8 @@
 // and with a pivot of three +0 it is the static Helmert step of the same numbers, under the
 // request's premise and under the weakest one (proofs/Asked.antt, proofs/Records.antt). The bodies
 // and the plans of a sheet use this crate.
+#![tactic(auto)]
+
 ghost use Rattle.std.specs.Prelude.{◌≡◌};
 ghost use Rattle.badekas.specs.Record.{blank_badekas, helmert_of};
 ghost use Rattle.badekas.specs.Rules.{fields_in_rule_of, lacks_convention_of};
@@ -21,7 +23,7 @@ use rotation::Vec3;
 // The record as the sheet carries it.
 // flags: 1 exact, 2 uas, 4 mm. convention: 0 none, 1 position vector, 2 coordinate frame. The pivot
 // is in metres, with flag 4 too.
-#[derive(Drop)]
+#[derive(Clone, Copy)]
 pub struct Badekas {
     pub flags: u32,
     pub convention: u32,

@@ -4,6 +4,8 @@
 // 0 is done; otherwise it is the refusal's number plus 65536 times the step, and room and length are
 // as they were. include/sillfeather.h says what it reads, writes, refuses and leaves alone. Nothing
 // is computed here.
+#![tactic(auto)]
+
 ghost use Rattle.std.specs.Prelude.{◌≡◌};
 ghost use Rattle.making.specs.Adding.{added_of};
 ghost use Rattle.arrays.specs.Arrays.{badekas_of};

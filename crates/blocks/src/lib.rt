@@ -5,6 +5,8 @@
 // numbers at once, each in short loops over arrays that a compiler turns into vector instructions.
 // Such a form is proved place by place against the same definition as the first: the two give the
 // same numbers.
+#![tactic(auto)]
+
 ghost use Rattle.std.specs.Prelude.{◌≡◌, cond, ℕ, ◌≤◌};
 ghost use Rattle.floats.specs.Binary64.{◌⊗◌};
 ghost use Rattle.blocks.specs.Each.{at, Each};

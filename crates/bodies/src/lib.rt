@@ -8,6 +8,8 @@
 // fields may be is said in the crate of its kind. Exact: every bit of every number comes back,
 // zeros by sign, and "not given" is 7ff8000000000000 and no other NaN. Used by the sheet, and by
 // who reads a body of a known kind.
+#![tactic(auto)]
+
 ghost use Rattle.std.specs.Prelude.{◌≡◌, ◌+◌, ◌≤◌, length};
 ghost use Rattle.bodies.specs.Kinds.{kind_of, length_of};
 ghost use Rattle.bodies.specs.Read.{vec3_at, helmert_of, cart_of, molodensky_of, permtide_of, deformation_of, badekas_of, helmert_in, cart_in, molodensky_in, permtide_in, deformation_in, badekas_in, blank_step, step_of};
@@ -22,7 +24,7 @@ use permtide::Permtide;
 use rotation::Vec3;
 
 // A step's record, of any kind. The smallest stands first.
-#[derive(Drop)]
+#[derive(Clone, Copy)]
 pub enum Step {
     Cart(Cart),
     Permtide(Permtide),

@@ -7,6 +7,8 @@
 // against 1e-12). On the axis the tuple is written and not counted; a NaN Z gives a NaN latitude
 // there, a listed difference. Elsewhere a tuple counts where no number of the result is NaN.
 // Sixteen tuples at a time: the crate cart_block.
+#![tactic(auto)]
+
 ghost use Rattle.std.specs.Prelude.{◌≡◌};
 ghost use Rattle.cart.specs.Record.{blank_of, in_rule_of};
 ghost use Rattle.cart.specs.Step.{counted_of, cart_fwd_of, inverse_figures_of, latitude_legs_of, height_with, height_of, off_axis_of, on_axis_of, cart_inv_of};
@@ -15,7 +17,7 @@ use ellipsoid::Ellipsoid;
 use tuple::{Shifted, Tuple};
 
 // The record that a sheet carries.
-#[derive(Drop)]
+#[derive(Clone, Copy)]
 pub struct Cart {
     pub ellipsoid: u32,
 }
@@ -37,7 +39,7 @@ impl Cart {
 }
 
 // What the inverse needs of an ellipsoid, worked out once for a list.
-#[derive(Drop)]
+#[derive(Clone, Copy)]
 pub struct Inverse {
     pub ellps: Ellipsoid,
     pub ra: f64,
@@ -46,7 +48,7 @@ pub struct Inverse {
     pub cutoff: f64,
 }
 
-#[derive(Drop)]
+#[derive(Clone, Copy)]
 pub struct Legs {
     pub s1: f64,
     pub cc: f64,

@@ -6,6 +6,8 @@
 // blocks, and between them are short loops of arithmetic alone, which a compiler turns into vector
 // instructions. For every point both the on_axis and the off-axis result are computed and one is
 // selected, so the loops have no branch. Used by the loops over a list.
+#![tactic(auto)]
+
 ghost use Rattle.std.specs.Prelude.{◌≡◌, not, ℕ};
 ghost use Rattle.blocks.specs.Each.{at, Each, count_to};
 ghost use Rattle.tuple.specs.Columns.{row_of};

@@ -6,6 +6,8 @@
 // out by the caller, once a list. Each direction is proved equal, list and count, to the step's own
 // definition from tuple to tuple, over the flat list that the columns stand for. Exact: no rounding
 // but the step's own. Used by whatever runs a step over columns.
+#![tactic(auto)]
+
 ghost use Rattle.std.specs.Prelude.{◌≡◌, ◌+◌, ◌≤◌, ◌<◌, length};
 ghost use Rattle.cart.specs.Step.{cart_fwd_of, cart_inv_of};
 ghost use Rattle.lists.specs.Run.{ran_of, count_of};

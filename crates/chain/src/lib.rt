@@ -9,6 +9,8 @@
 // specs/Rules.antt and specs/Columns.antt over specs/Chain.antt, which is made of the steps' own
 // definitions; nothing is written before the last test has passed. No rounding but the steps' own.
 // Used by the program and by callers that keep lists.
+#![tactic(auto)]
+
 ghost use Rattle.std.specs.Prelude.{◌≡◌, true, false, [], ◌*◌, ◌%◌, ◌≤◌, ◌<◌, length};
 ghost use Rattle.columns.specs.Columns.{columns, Level, flat_of};
 ghost use Rattle.sheet.specs.Layout.{step_count_of, kind_at, entry_at};
@@ -24,7 +26,7 @@ use tally::Tally;
 
 // What a call answers: no refusal and each step's tally in the sheet's order, how many tuples it
 // counted and how many met an angle out of reach, zeros in the other places; or a refusal and zeros.
-#[derive(Drop)]
+#[derive(Clone, Copy)]
 pub struct Answer {
     pub refusal: Refusal,
     pub tallies: [Tally; 16],

@@ -5,6 +5,8 @@
 // is accepted (proofs/Agree.antt). A record's own rules are the writer's, in a room that any sheet fits. The
 // answer, the tallies and the list are fixed for every input by specs/Record.antt over chain's
 // definitions. No rounding but the steps' own. For callers that hold a sheet as a record.
+#![tactic(auto)]
+
 ghost use Rattle.std.specs.Prelude.{◌≡◌, [], ◌≤◌};
 ghost use Rattle.sheet.specs.Layout.{entry_of, kind_in};
 ghost use Rattle.sheet.specs.Rules.{has_deformation};

@@ -6,6 +6,8 @@
 // read and written, and nothing else. The room for the job holds more bytes than the longest job
 // has, so that a longer input is told from it; the room for the page is longer than any page. A
 // word of more than 16 letters is no profile's: its first ones are not compared.
+#![tactic(auto)]
+
 fn main() {
     let mut word = [0u8; 16];
     let w = os::arg(1, &mut word);

@@ -5,6 +5,8 @@
 // empty report, forward and then inverse, whichever direction the job asks for. A word asks for a
 // profile. The page is fixed for every job and word by specs/Answer.antt, in a room of any length
 // (proved). A bad job is 16, before all others. Used by the program closure.
+#![tactic(auto)]
+
 ghost use Rattle.std.specs.Prelude.{◌≡◌, ◌*◌, ◌≤◌, length, replicate};
 ghost use Rattle.floats.specs.Binary64.{bits};
 ghost use Rattle.text.specs.Text.{text, appended};

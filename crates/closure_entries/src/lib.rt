@@ -4,6 +4,8 @@
 // refuses and leaves alone. A result of 0 is done; otherwise it is the refusal's number plus 65536
 // times the step. Nothing is computed here: the work is closure_run's and profile's, and the
 // contracts say what their definitions say, in the numbers that C passes.
+#![tactic(auto)]
+
 ghost use Rattle.std.specs.Prelude.{◌≡◌};
 ghost use Rattle.codes.specs.Codes.{code_of};
 ghost use Rattle.profile.specs.Profile.{profile_refusal_of};

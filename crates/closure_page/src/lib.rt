@@ -6,6 +6,8 @@
 // modulo a prime. Or the refusal in words. Every byte is fixed by specs/Page.antt, for every report
 // and a room of any length (proved). The figure is for the eye; the bits are what is compared. Used
 // by the program closure.
+#![tactic(auto)]
+
 ghost use Rattle.std.specs.Prelude.{◌≡◌, ◌<◌, ◌≤◌, ◌^◌};
 ghost use Rattle.floats.specs.Binary64.{◌⊗◌};
 ghost use Rattle.text.specs.Text.{text, appended};
@@ -26,7 +28,7 @@ fn whole(p: f64) -> u64
 }
 
 // x with so many decimal places that it has four digits, at most 22.
-#[derive(Drop)]
+#[derive(Clone, Copy)]
 struct Four {
     digits: u64,
     places: usize,

@@ -10,20 +10,22 @@
 // zeros tells what each sentence says (specs/Sentences.antt, which has no running report), and that
 // any split into calls gives the same report. One rounding a coordinate, the difference. Used by
 // the closure's entry and by who prints a report.
+#![tactic(auto)]
+
 ghost use Rattle.std.specs.Prelude.{◌≡◌};
 ghost use Rattle.closure_report.specs.Report.{one_more, closing, lost_of, restored_of, difference_of, some_left, larger_of, lost_in, restored_in, left_in, seen_of, list_done, added_of, empty_report, numbers_of, report_of, largest_at};
 
 use tuple::Tuple;
 
 // The largest difference of a coordinate, as the bits of its absolute value, and where it stands.
-#[derive(Drop)]
+#[derive(Clone, Copy)]
 pub struct Largest {
     pub bits: u64,
     pub list: u64,
     pub index: u64,
 }
 
-#[derive(Drop)]
+#[derive(Clone, Copy)]
 pub struct Report {
     pub lists: u64,
     pub tuples: u64,

@@ -10,6 +10,8 @@
 // has passed. proofs/Laws.antt has which refusal is given when, and that many calls give the report
 // of all their lists. No rounding but the steps' own and the report's differences. Used by the
 // exported library and the program closure.
+#![tactic(auto)]
+
 ghost use Rattle.std.specs.Prelude.{◌≡◌, false, ◌≤◌, length};
 ghost use Rattle.sheet.specs.Layout.{step_count_of, kind_at};
 ghost use Rattle.sheet.specs.Rules.{has_deformation, refusal_of};
@@ -24,7 +26,7 @@ use closure_report::Report;
 use sheet::Refusal;
 
 // No refusal and the report with the list, or a refusal and the report as it was.
-#[derive(Drop)]
+#[derive(Clone, Copy)]
 pub struct Closed {
     pub refusal: Refusal,
     pub report: Report,

@@ -3,6 +3,8 @@
 // A result of 0 is done; otherwise it is the refusal's number plus 65536 times the step. Counts go
 // out as 32 bits each; none that the chain gives is over 2,048, so that none loses a bit
 // (proofs/Counts.antt). Exact: nothing is rounded. Used by the crates of entries.
+#![tactic(auto)]
+
 ghost use Rattle.std.specs.Prelude.{◌≡◌};
 ghost use Rattle.codes.specs.Codes.{code_of, narrow_of};
 

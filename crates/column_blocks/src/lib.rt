@@ -4,6 +4,8 @@
 // the columns stand for, at four times the index. So a block step's form over sixteen tuples is
 // carried over to columns by the same laws. Exact: numbers are moved, never rounded. Used by every
 // loop over columns that takes sixteen rows at a turn.
+#![tactic(auto)]
+
 ghost use Rattle.std.specs.Prelude.{◌≡◌, ◌&&◌, ℕ, ◌+◌, ◌*◌, ◌≤◌, leb, length};
 ghost use Rattle.blocks.specs.Each.{Each};
 ghost use Rattle.lists.specs.Sixteen.{row_at, put_block};

@@ -8,6 +8,8 @@
 // there and back over lent room. specs/Passed.antt says what a part of a loop has done, and
 // proofs/Passed.antt has the laws that every loop over columns is proved by. Exact: numbers are
 // moved, never rounded. Used by every loop over a list.
+#![tactic(auto)]
+
 ghost use Rattle.std.specs.Prelude.{◌≡◌, cond, ◌+◌, ◌*◌, ◌≤◌, ◌<◌, length};
 ghost use Rattle.blocks.specs.Each.{at};
 ghost use Rattle.lists.specs.Flat.{four_of, tuple_at, put_at};

@@ -8,6 +8,8 @@
 // and the count with the stretch that the document's words define on the two tracks: from the index
 // up to the first fix after which the new track equals the old one, else to the end. Prints a line
 // a mode, and how many comparisons parted.
+#![tactic(auto)]
+
 ghost use Rattle.std.specs.Prelude.{◌<◌, ◌≤◌};
 ghost use Rattle.corrections.specs.Room.{Roomy};
 
@@ -247,7 +249,7 @@ fn stretch(new: &[f64], old: &[f64], index: usize) -> usize {
 
 // The chance to go on with, and what was seen: corrections taken, refused, fixes redone, stretches
 // longer than one fix, comparisons that parted.
-#[derive(Drop)]
+#[derive(Clone, Copy)]
 struct Tally {
     seed: usize,
     taken: usize,

@@ -7,6 +7,8 @@
 // refusal, the count and every number of list, results and track are compared bit for bit. Prints
 // what was corrected, and how many comparisons parted. The program `corrections` holds the flat
 // entries beside fresh runs.
+#![tactic(auto)]
+
 ghost use Rattle.std.specs.Prelude.{◌<◌, ◌≤◌};
 
 use kept::Corrected;
@@ -127,7 +129,7 @@ fn put_sheet(s: &mut [u8], mode: usize, exact: bool) {
 
 // ----- columns --------------------------------------------------------------------------------
 
-#[derive(Drop)]
+#[derive(Clone, Copy)]
 struct Columns {
     x: [f64; 72],
     y: [f64; 72],
@@ -189,7 +191,7 @@ fn parted(c: Columns, list: &[f64]) -> usize {
 // ----- through columns ------------------------------------------------------------------------
 
 // A fresh run's answer and what it writes.
-#[derive(Drop)]
+#[derive(Clone, Copy)]
 struct Fresh {
     refusal: Refusal,
     results: Columns,
@@ -233,7 +235,7 @@ fn keep(inverse: bool, s: &[u8], list: Columns) -> Fresh {
 }
 
 // A correction's answer and what it leaves.
-#[derive(Drop)]
+#[derive(Clone, Copy)]
 struct After {
     answer: Corrected,
     list: Columns,
@@ -296,7 +298,7 @@ fn correct(
 
 // The chance to go on with, and what was seen: corrections taken, refused, fixes redone, comparisons
 // that parted.
-#[derive(Drop)]
+#[derive(Clone, Copy)]
 struct Tally {
     seed: usize,
     taken: usize,

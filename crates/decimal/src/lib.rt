@@ -7,11 +7,13 @@
 // (`fewest_places`). Every decimal of up to 15 digits with no more than 22 places is found
 // (`short_decimals_are_found`); NaN, infinities and numbers that need more are answered `Nothing`.
 // Used by whoever prints a number for people.
+#![tactic(auto)]
+
 ghost use Rattle.std.specs.Prelude.{◌≡◌, ◌^◌, ◌<◌};
 ghost use Rattle.decimal.specs.Places.{ten_to, whole_of, passes_of, decimal_of};
 
 // D / 10^places, with its sign, or no such decimal.
-#[derive(Drop)]
+#[derive(Clone, Copy)]
 pub enum Decimal {
     Found {
         negative: bool,

@@ -7,6 +7,8 @@
 // Rust's file subtracts it: the code decides, and the difference is listed. With flag 2 the comment
 // decides. The sum works on all four coordinates, the fourth addend 0.0, so a time of -0 becomes
 // +0. Sixteen tuples at a time: `deformation_block`.
+#![tactic(auto)]
+
 ghost use Rattle.std.specs.Prelude.{◌≡◌};
 ghost use Rattle.deformation.specs.Record.{blank_of, raw_of, by_comment_of, directed_of, finite_or_not, in_rule_of, neither_of};
 ghost use Rattle.deformation.specs.Step.{motion_of, lasting_of, duration_of, scale_of, metre_of, metres_of, east_north_up_of, integrated_of, with_length_of, deformed_of, common_of};
@@ -17,7 +19,7 @@ use tuple::{Shifted, Tuple};
 
 // The record that a sheet carries. Flags: 1 raw, 2 the comment's sign. dt and epoch are NaN where not
 // given.
-#[derive(Drop)]
+#[derive(Clone, Copy)]
 pub struct Deformation {
     pub flags: u32,
     pub ellipsoid: u32,
@@ -26,7 +28,7 @@ pub struct Deformation {
 }
 
 // What a list needs of a record, worked out once.
-#[derive(Drop)]
+#[derive(Clone, Copy)]
 pub struct Motion {
     pub ellps: Ellipsoid,
     pub dt: f64,
@@ -34,7 +36,7 @@ pub struct Motion {
     pub raw: bool,
 }
 
-#[derive(Drop)]
+#[derive(Clone, Copy)]
 pub struct Velocity {
     pub east: f64,
     pub north: f64,

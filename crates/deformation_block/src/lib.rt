@@ -6,6 +6,8 @@
 // the others, and NaN is written in the end. The columns that the results go to serve for the parts
 // before. Every number is `deformation::common`'s in every bit: proved place by place against the
 // same definition. Used by `deformation_columns`.
+#![tactic(auto)]
+
 ghost use Rattle.std.specs.Prelude.{◌≡◌, ℕ, eqb, length};
 ghost use Rattle.floats.specs.Binary64.{◌⊕◌, bits};
 ghost use Rattle.blocks.specs.Each.{at, whole_at, Each, count_to};

@@ -11,6 +11,8 @@
 // list and both numbers, to the step's own definition from tuple to tuple, over the flat list that
 // the columns stand for. Exact: no rounding but the step's own. Used by whatever runs a step over
 // columns.
+#![tactic(auto)]
+
 ghost use Rattle.std.specs.Prelude.{◌≡◌, cond, ◌&&◌, ℕ, ◌+◌, ◌*◌, ◌^◌, ◌≤◌, ◌<◌, eqb, ltb, length};
 ghost use Rattle.blocks.specs.Each.{at, whole_at, Each, EachWhole, count_to};
 ghost use Rattle.tuple.specs.Columns.{row_of};
@@ -84,7 +86,7 @@ fn mark_block(marks: &[u8], k: usize, m: &mut [u8; WIDTH])
 // ----- what meets an angle out of reach --------------------------------------------------------
 
 // How many of a list's fixes count, and how many met an angle out of reach.
-#[derive(Drop)]
+#[derive(Clone, Copy)]
 pub struct Moved {
     pub count: usize,
     pub met: usize,

@@ -7,6 +7,8 @@
 // grid is a run with lent velocities and marks that are what the lookup finds
 // (`grid-run-is-lent-run`). Exact: no rounding but the lookup's and the step's own. The loops over
 // columns take their last rows through `common`, and a thin list takes all of them.
+#![tactic(auto)]
+
 ghost use Rattle.std.specs.Prelude.{◌≡◌};
 ghost use Rattle.deformation_grid.specs.Gridded.{gridded_in};
 

@@ -8,6 +8,8 @@
 // deformation step's own definition, fed by what the lookup finds at each tuple's place. Exact: no
 // rounding but the lookup's and the step's own. Used by whatever runs a step over columns with a
 // grid.
+#![tactic(auto)]
+
 ghost use Rattle.std.specs.Prelude.{◌≡◌, ℕ, ◌+◌, ◌*◌, ◌≤◌, ◌<◌, length};
 ghost use Rattle.blocks.specs.Each.{Each};
 ghost use Rattle.tuple.specs.Columns.{row_of};

@@ -7,6 +7,8 @@
 // of its column. A place that is not finite is not drawn. A refused job is told as the program
 // `shift` tells it. An example of the columns entry: what is proved of it is that it ends, and that
 // it reads and writes nothing out of place.
+#![tactic(auto)]
+
 ghost use Rattle.std.specs.Prelude.{◌≡◌, ◌<◌, ◌≤◌, length};
 ghost use Rattle.job.specs.Job.{marks_at};
 
@@ -32,7 +34,7 @@ fn column(tuples: &[u8], k: usize) -> [f64; 512]
 // ----- the scale of an axis -------------------------------------------------------------------
 
 // The numbers at the axis's beginning and end.
-#[derive(Drop)]
+#[derive(Clone, Copy)]
 struct Axis {
     begin: f64,
     end: f64,

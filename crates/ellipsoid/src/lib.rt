@@ -6,13 +6,15 @@
 // the sine (and cosine) of the latitude, not the latitude: a step that has the pair already does
 // not work it out again, and the numbers are those that the latitude itself would give. Used by
 // geocart, cart, Molodensky, permtide and deformation.
+#![tactic(auto)]
+
 ghost use Rattle.std.specs.Prelude.{◌≡◌, ℕ};
 ghost use Rattle.blocks.specs.Each.{at, Each};
 ghost use Rattle.ellipsoid.specs.Figure.{ellipsoid_of, named_of, exists_of, w_of, prime_vertical_of, radii_with, radii_of, geocentric_of};
 
 use blocks::WIDTH;
 
-#[derive(Drop)]
+#[derive(Clone, Copy)]
 pub struct Ellipsoid {
     pub a: f64,
     pub f: f64,
@@ -22,7 +24,7 @@ pub struct Ellipsoid {
 }
 
 // Both radii of curvature at one latitude.
-#[derive(Drop)]
+#[derive(Clone, Copy)]
 pub struct Radii {
     pub n: f64,
     pub m: f64,

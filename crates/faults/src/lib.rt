@@ -6,6 +6,8 @@
 // last the total length at which the bodies do not end. Proved of every sheet that breaks rule 4
 // and keeps those before it: the byte named is that of the first word outside its rule, and the
 // sheet has that word (`fault_in_the_directory`). Used by `show`.
+#![tactic(auto)]
+
 ghost use Rattle.std.specs.Prelude.{◌≡◌, ◌+◌, ◌<◌, ◌≤◌};
 ghost use Rattle.sheet.specs.Layout.{step_count_of};
 ghost use Rattle.sheet.specs.Rules.{end_before};

@@ -6,6 +6,8 @@
 // nothing is tested here, so that a field outside its rule is shown as it is: a word with `outside
 // its rule`, a number that is no number by its bits. Every byte is fixed for every input and a room
 // of any length. Used by `show`.
+#![tactic(auto)]
+
 ghost use Rattle.std.specs.Prelude.{◌≡◌};
 ghost use Rattle.text.specs.Text.{text, appended};
 ghost use Rattle.text.specs.Digits.{decimal_of};

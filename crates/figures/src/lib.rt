@@ -6,6 +6,8 @@
 // its 16 hexadecimal digits stand, after `bits 0x`. So a number that came from a data sheet is
 // written as the data sheet has it, and no two numbers are written alike. A time that is "not
 // given" says so. Used by the lines of a sheet that is shown.
+#![tactic(auto)]
+
 ghost use Rattle.std.specs.Prelude.{◌≡◌, ◌/◌, ◌^◌, ◌<◌};
 ghost use Rattle.text.specs.Text.{text, appended};
 ghost use Rattle.text.specs.Digits.{digits_of, digit as Digits·digit};

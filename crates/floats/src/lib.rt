@@ -4,6 +4,8 @@
 // Every function takes every number, NaN, infinities and both zeros among them. In the logic there
 // is one NaN, with no sign: it counts as positive, its magnitude is itself, and its bits are
 // written 7ff8000000000000. Nothing here rounds but `square` and `cube`.
+#![tactic(auto)]
+
 ghost use Rattle.std.specs.Prelude.{◌≡◌};
 ghost use Rattle.std.specs.Float.{binary64};
 ghost use Rattle.std.specs.Float.Ieee.{of_bits, to_bits, is_nan};

@@ -7,6 +7,8 @@
 // happens to name. `cartesian` is cart's forward step; `place`, `geographic` without the height, is
 // what deformation asks for a place by. cart's own inverse is another method, in the crate cart.
 // `geocart_block` is the same for sixteen tuples at once.
+#![tactic(auto)]
+
 ghost use Rattle.std.specs.Prelude.{◌≡◌};
 ghost use Rattle.geocart.specs.Geocart.{point_of, cartesian_of, pole_of, pole_height_of, tangent_of, legs_of, bowring_of, bowring_height_of, geographic_of, place_of};
 
@@ -19,7 +21,7 @@ const FRAC_PI_2: f64 = 1.5707963267948966;
 pub const CUTOFF: f64 = 1.0e-12;
 
 // A point in cartesian coordinates, without its time.
-#[derive(Drop)]
+#[derive(Clone, Copy)]
 pub struct Point {
     pub x: f64,
     pub y: f64,
@@ -27,14 +29,14 @@ pub struct Point {
 }
 
 // The legs of the latitude's angle: phi_num and phi_denom of the Rust.
-#[derive(Drop)]
+#[derive(Clone, Copy)]
 pub struct Legs {
     pub num: f64,
     pub denom: f64,
 }
 
 // Longitude and latitude.
-#[derive(Drop)]
+#[derive(Clone, Copy)]
 pub struct Position {
     pub lam: f64,
     pub phi: f64,

@@ -6,6 +6,8 @@
 // the pole's and the other, are computed and one is selected, so the loops have no branch. Proved:
 // each number is geocart's. `cartesian_block` is cart's forward step, `latitude_block` ends its
 // inverse, and `place_block` is what deformation asks for places by.
+#![tactic(auto)]
+
 ghost use Rattle.std.specs.Prelude.{◌≡◌, ℕ};
 ghost use Rattle.blocks.specs.Each.{at, Each};
 ghost use Rattle.tuple.specs.Columns.{row_of};

@@ -7,6 +7,8 @@
 // that begins west of ±π finds nothing east of it. The bytes' layout and rules stand in
 // `grid_rules`; nothing of them is asked again here but that the counts are in rule. The
 // deformation step takes its velocities from here, sixteen at once by `found_block`.
+#![tactic(auto)]
+
 ghost use Rattle.std.specs.Prelude.{◌≡◌, ℕ, ◌-◌, ◌<◌, ◌≤◌};
 ghost use Rattle.std.specs.Float.Ieee.{to_unsigned};
 ghost use Rattle.blocks.specs.Each.{at, Each, EachWhole};
@@ -16,7 +18,7 @@ ghost use Rattle.grid.specs.Lookup.{rows_of, columns_of, far_of, last_of, within
 use blocks::WIDTH;
 
 // The rows by latitude, or the columns by longitude: radians.
-#[derive(Drop)]
+#[derive(Clone, Copy)]
 pub struct Axis {
     pub start: f64,
     pub step: f64,
@@ -24,7 +26,7 @@ pub struct Axis {
 }
 
 // A node's velocity, mm a year.
-#[derive(Drop)]
+#[derive(Clone, Copy)]
 pub struct Node {
     pub east: f64,
     pub north: f64,
@@ -32,21 +34,21 @@ pub struct Node {
 }
 
 // Two nodes of a row, side by side.
-#[derive(Drop)]
+#[derive(Clone, Copy)]
 pub struct Pair {
     pub west: Node,
     pub east: Node,
 }
 
 // The four nodes about a place: two of its southern row, two of its northern.
-#[derive(Drop)]
+#[derive(Clone, Copy)]
 pub struct Four {
     pub south: Pair,
     pub north: Pair,
 }
 
 // What each node of a cell counts for.
-#[derive(Drop)]
+#[derive(Clone, Copy)]
 pub struct Weights {
     pub sw: f64,
     pub se: f64,
@@ -55,7 +57,7 @@ pub struct Weights {
 }
 
 // What is found: the mark is 1 where the place lies inside the grid, else 0.
-#[derive(Drop)]
+#[derive(Clone, Copy)]
 pub struct Marked {
     pub mark: u8,
     pub east: f64,

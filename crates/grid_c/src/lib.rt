@@ -3,6 +3,8 @@
 //
 // The library's own entries with a grid are others; these hand over to the proved functions that
 // those will use, so that each can be compared and timed alone. Nothing is computed here.
+#![tactic(auto)]
+
 ghost use Rattle.std.specs.Prelude.{◌≡◌, Bool, not, ℕ, eqb};
 ghost use Rattle.blocks.specs.Each.{at, Each, EachWhole};
 ghost use Rattle.lists.specs.Run.{ran_of, count_of};

@@ -6,6 +6,8 @@
 // where numbers are asked for. include/sillfeather.h says to C what the contracts say here; its
 // `out_of_reach` is called `met`, because a name with an underscore reads badly in a contract.
 // Nothing is computed here.
+#![tactic(auto)]
+
 ghost use Rattle.std.specs.Prelude.{◌≡◌};
 ghost use Rattle.grid_rules.specs.Rules.{check_grid_of};
 ghost use Rattle.chain.specs.Grid.{shift_grid_of};

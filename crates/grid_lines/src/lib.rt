@@ -5,6 +5,8 @@
 // length. A number is written by the fewest places that read back as the same number (`figures`).
 // A whole grid of 64 by 64 fills more than one room, so a node is a text of its own. Used by the
 // program grid_show.
+#![tactic(auto)]
+
 ghost use Rattle.std.specs.Prelude.{◌≡◌, ◌<◌, ◌≤◌};
 ghost use Rattle.text.specs.Text.{text, appended};
 ghost use Rattle.grid_rules.specs.Layout.{numbers_of};

@@ -5,6 +5,8 @@
 // whether it is finite: eight a turn, by the largest of their bit patterns and of the patterns with
 // the sign turned, so that no turn has a branch. A grid of 64 by 64 has 12,292 numbers. The lookup
 // stands in `grid`.
+#![tactic(auto)]
+
 ghost use Rattle.std.specs.Prelude.{◌≡◌, ◌≤◌, not};
 ghost use Rattle.std.specs.Float.Ieee.Scale.{finite};
 ghost use Rattle.words.specs.Words.{number_at};

@@ -4,6 +4,8 @@
 // All that is said of the text is proved in `grid_lines`; here the bytes are read and written, and
 // nothing else. The room for the grid holds one byte more than the longest grid has, so that a
 // longer input is told from it; the rooms for the texts are longer than any of them.
+#![tactic(auto)]
+
 fn main() {
     let mut bytes = [0u8; 98345];
     let n = io::read_full(0, &mut bytes);

@@ -18,6 +18,8 @@
 // A prepared shift may have a pivot, about which a static or fixed step rotates and scales: request
 // A4's ten-parameter shift, whose record stands in the crate badekas. A Helmert record's shift has
 // none.
+#![tactic(auto)]
+
 ghost use Rattle.std.specs.Prelude.{◌≡◌};
 ghost use Rattle.helmert.specs.Record.{exact_of, uas_of, mm_of, own_epoch_of, zeros_with, blank_helmert, zero_helmert};
 ghost use Rattle.helmert.specs.Units.{linear_scale_of, angular_scale_of, winner_of, lengths_of, angles_of, parameters_of};
@@ -36,7 +38,7 @@ const PI: f64 = 3.141592653589793;
 // NaN where they are not given.
 // flags: 1 exact, 2 uas, 4 mm, 8 own_epoch. convention: 0 none, 1 position vector, 2 coordinate
 // frame.
-#[derive(Drop)]
+#[derive(Clone, Copy)]
 pub struct Helmert {
     pub flags: u32,
     pub convention: u32,
@@ -57,7 +59,7 @@ pub struct Helmert {
 }
 
 // Translation, rotation, scale, and their time evolution, in metres, radians and years.
-#[derive(Drop)]
+#[derive(Clone, Copy)]
 pub struct Parameters {
     pub t: Vec3,
     pub r: Vec3,
@@ -289,7 +291,7 @@ fn time(x: f64) -> bool
 
 // A record made ready to be applied to any number of tuples. The pivot, in metres, counts only where
 // `pivoted` says so.
-#[derive(Drop)]
+#[derive(Clone, Copy)]
 pub struct Shift {
     pub parameters: Parameters,
     pub epoch: f64,
@@ -511,13 +513,13 @@ pub fn apply_about(
 // ----- modes -------------------------------------------------------------------------------------
 
 // What a run carries from one tuple to the next: the last time, NaN at first, and T.
-#[derive(Drop)]
+#[derive(Clone, Copy)]
 pub struct State {
     pub last: f64,
     pub t: Vec3,
 }
 
-#[derive(Drop)]
+#[derive(Clone, Copy)]
 pub struct Stepped {
     pub state: State,
     pub tuple: Tuple,

@@ -6,6 +6,8 @@
 // parts. Proved equal, list, state and count, on the flat list that the columns stand for, to the
 // step's own definition from tuple to tuple. Exact: no rounding but the step's own. The loops:
 // `helmert_still_columns`, `helmert_running_columns`, `helmert_exact_columns`.
+#![tactic(auto)]
+
 ghost use Rattle.std.specs.Prelude.{◌≡◌, false, not, cond, ◌&&◌, ◌*◌, ◌<◌, length};
 ghost use Rattle.std.specs.Float.Ieee.{is_nan};
 ghost use Rattle.lists.specs.Flat.{tuple_at, put_at};
@@ -128,7 +130,7 @@ fn run_own_epoch(
 // ----- the mode --------------------------------------------------------------------------------
 
 // What a step over a list leaves: how many tuples counted, and the state after the last.
-#[derive(Drop)]
+#[derive(Clone, Copy)]
 pub struct Went {
     pub count: usize,
     pub state: State,

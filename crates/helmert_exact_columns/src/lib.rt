@@ -9,6 +9,8 @@
 // from tuple to tuple (helmert/specs/Turns.antt), for any shift; what is sent here is rotated and
 // exact. Exact: no rounding but the step's own. Used by `helmert_running_columns` and
 // `helmert_columns`.
+#![tactic(auto)]
+
 ghost use Rattle.std.specs.Prelude.{◌≡◌, true, false, ℕ, ◌+◌, ◌-◌, ◌*◌, ◌≤◌, ◌<◌, length};
 ghost use Rattle.std.specs.Float.Ieee.{ne};
 ghost use Rattle.floats.specs.Binary64.{◌⊕◌, ◌⊗◌};
@@ -234,7 +236,7 @@ fn run_end(own: bool, t: &[f64], i: usize, last: f64) -> usize
     helmert_still_columns::run_end(t, i, last)
 }
 
-#[derive(Drop)]
+#[derive(Clone, Copy)]
 struct Went {
     at: usize,
     state: State,

@@ -7,6 +7,8 @@
 // goes after row. Exact rotations are handed on to `helmert_exact_columns`. Proved equal, list and
 // state, on the flat list that the columns stand for, to the step's own definition from tuple to
 // tuple. Exact: no rounding but the step's own. Used by `helmert_columns`.
+#![tactic(auto)]
+
 ghost use Rattle.std.specs.Prelude.{◌+◌, ◌-◌, ◌*◌, ◌≤◌, ◌<◌, ◌≡◌, false, ◌&&◌, length};
 ghost use Rattle.lists.specs.Flat.{tuple_at, put_at};
 ghost use Rattle.lists.specs.Run.{ran_of, state_after_of};
@@ -55,7 +57,7 @@ fn row(
 }
 
 // How far a piece came: the index of the next row, and the state there.
-#[derive(Drop)]
+#[derive(Clone, Copy)]
 pub struct Reached {
     pub at: usize,
     pub state: State,

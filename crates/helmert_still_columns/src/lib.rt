@@ -5,6 +5,8 @@
 // to the step's own definition from tuple to tuple. Exact: no rounding but the step's own. Also here, because the loops of the other modes need them too: where a run of rows of
 // one time ends, and the laws about a row and about the end of a loop. Used by
 // `helmert_exact_columns`, `helmert_running_columns` and `helmert_columns`.
+#![tactic(auto)]
+
 ghost use Rattle.std.specs.Prelude.{ℕ, ◌*◌, ◌≤◌, ◌<◌, ◌≡◌, false, length};
 ghost use Rattle.std.specs.Float.Ieee.{ne};
 ghost use Rattle.blocks.specs.Each.{at};

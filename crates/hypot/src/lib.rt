@@ -11,6 +11,8 @@
 // units in the last place (measure/atan2_hypot.c; docs/KERNELS.md).
 // The distance from the axis in `cart` and `geocart` is taken by it; `hypot_block` is the same for
 // sixteen points at once, by the usual case here.
+#![tactic(auto)]
+
 ghost use Rattle.std.specs.Prelude.{◌≡◌, true, false};
 ghost use Rattle.std.specs.Float.Ieee.{is_nan};
 ghost use Rattle.floats.specs.Number.{abs_of};
@@ -169,7 +171,7 @@ pub fn hypot(x: f64, y: f64) -> f64
 }
 
 // A length as far as the usual case gives it.
-#[derive(Drop)]
+#[derive(Clone, Copy)]
 pub struct Usual {
     pub length: f64,
     pub ordinary: bool,

@@ -5,6 +5,8 @@
 // instructions; any other block goes one point after the other. Proved: each number is hypot's, so
 // that its exactness is hypot's too. The distances from the axis in `cart` and `geocart_block` are
 // taken by it.
+#![tactic(auto)]
+
 ghost use Rattle.std.specs.Prelude.{ℕ};
 ghost use Rattle.blocks.specs.Each.{at, Each};
 ghost use Rattle.hypot.specs.Hypot.{hypot_of};

@@ -5,11 +5,13 @@
 // byte by byte. Any other bytes are 16, and no other rule is looked at before that. Every function
 // answers for every input: past the end a byte reads as 0. Exact: a number's bits become the
 // number, every NaN the one NaN. Used by `answer`.
+#![tactic(auto)]
+
 ghost use Rattle.std.specs.Prelude.{◌≡◌, ◌+◌, ◌<◌, min, length};
 ghost use Rattle.job.specs.Job.{head_of, tuples_at, velocities_at, marks_at, end_at, refusal16, numbers_of};
 
 // The four words in front.
-#[derive(Drop)]
+#[derive(Clone, Copy)]
 pub struct Head {
     pub direction: u32,
     pub sheet: u32,

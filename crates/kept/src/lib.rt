@@ -12,6 +12,8 @@
 // run of the list as it stands; the count is the stretch's length, one where the mode is not
 // running; nothing outside the stretch is written, whatever the three lists held. Used by callers
 // that correct fixes of a list they keep; the program `corrections` replays some thousands.
+#![tactic(auto)]
+
 ghost use Rattle.std.specs.Prelude.{◌≡◌, []};
 ghost use Rattle.sheet.specs.Rules.{first_broken};
 ghost use Rattle.stretch.specs.Kept.{kept_of};
@@ -138,7 +140,7 @@ pub fn keep(
 }
 
 // A refusal, or none and how many fixes were redone.
-#[derive(Drop)]
+#[derive(Clone, Copy)]
 pub struct Corrected {
     pub refusal: Refusal,
     pub redone: u64,

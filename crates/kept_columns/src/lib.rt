@@ -10,6 +10,8 @@
 // specs/Columns.antt says, column by column; and for columns of one length it is the old answer on
 // the converted lists (proofs/Columns.antt), so what is promised of `kept` holds here. Used by the
 // display's calls.
+#![tactic(auto)]
+
 ghost use Rattle.std.specs.Prelude.{◌≡◌, ◌||◌, []};
 ghost use Rattle.columns.specs.Columns.{columns};
 ghost use Rattle.sheet.specs.Rules.{first_broken};
@@ -55,7 +57,7 @@ fn check_lengths(
 }
 
 // The shift of the sheet's step, and the direction that it runs in.
-#[derive(Drop)]
+#[derive(Clone, Copy)]
 struct Ready {
     shift: Shift,
     reversed: bool,

@@ -7,6 +7,8 @@
 // and columns are kept_columns', and the numbers those of the flat lists that the columns stand for
 // (specs/Reach.antt), zeros on refusal. No rounding but the step's own. For callers that hold
 // columns.
+#![tactic(auto)]
+
 ghost use Rattle.std.specs.Prelude.{◌≡◌, ◌+◌, ◌*◌, ◌≤◌, length};
 ghost use Rattle.columns.specs.Columns.{columns, flat_of};
 ghost use Rattle.plans.specs.Passes.{tally_of};

@@ -8,6 +8,8 @@
 // specs/Reach.antt, zeros on refusal; and the number of a fresh run over a corrected list is the sum
 // of what stands before, in and after the stretch (proofs/Sum.antt). No rounding but the step's own.
 // Used by the entries that C and Rust call.
+#![tactic(auto)]
+
 ghost use Rattle.std.specs.Prelude.{◌≡◌, ◌*◌, ◌≤◌, length};
 ghost use Rattle.plans.specs.Passes.{tally_of};
 ghost use Rattle.stretch.specs.Kept.{kept_of, before_of};
@@ -62,7 +64,7 @@ fn before(shift: Shift, track: &[f64], index: usize) -> State
 // ----- the entries -------------------------------------------------------------------------------
 
 // A refusal and zeros, or none and the step's tally.
-#[derive(Drop)]
+#[derive(Clone, Copy)]
 pub struct KeptTally {
     pub refusal: Refusal,
     pub tally: Tally,
@@ -100,7 +102,7 @@ pub fn keep_reach(
 }
 
 // What a correction answers, and how many of the fixes that it redid met an angle out of reach.
-#[derive(Drop)]
+#[derive(Clone, Copy)]
 pub struct CorrectedReach {
     pub corrected: Corrected,
     pub met: u64,

@@ -6,12 +6,14 @@
 // those of crate ellipsoid. Where a sheet has a single beside its series place, a third line says
 // which of them is in force, by crate helmert's rule. Every byte is fixed by specs/Lines.antt, for
 // every input and a room of any length. Used by `fields`.
+#![tactic(auto)]
+
 ghost use Rattle.std.specs.Prelude.{◌≡◌, ◌+◌, ◌<◌};
 ghost use Rattle.text.specs.Text.{text, appended};
 ghost use Rattle.words.specs.Words.{word32};
 ghost use Rattle.lines.specs.Lines.{unit_text, end_text, word_line, flag_text, one_line, three_line, time_line, winner_text, one_in_force, three_in_force, series_lines, single_lines, ellipsoid_text, ellipsoid_line};
 
-#[derive(Drop)]
+#[derive(Clone, Copy)]
 pub enum Unit {
     Plain,
     Metre,

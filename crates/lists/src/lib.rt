@@ -6,6 +6,8 @@
 // loop over a list is proved by: it turns what one turn reads, makes and writes into the next
 // turn's invariant; proofs/Sixteen.antt has the same for turns of sixteen tuples. Exact: numbers
 // are moved, never rounded. Used by every loop over a list.
+#![tactic(auto)]
+
 ghost use Rattle.std.specs.Prelude.{◌≡◌, ℕ};
 ghost use Rattle.blocks.specs.Each.{Each};
 ghost use Rattle.lists.specs.Flat.{tuple_at, put_at};

@@ -9,6 +9,8 @@
 // that the writer gives for the record of those steps. No rounding:
 // every bit of every number stays. A sheet's record is 4 kB, so this is for whoever makes a sheet,
 // not for whoever runs one. Used by the exported library.
+#![tactic(auto)]
+
 ghost use Rattle.std.specs.Prelude.{◌≡◌, ◌≤◌};
 ghost use Rattle.making.specs.Adding.{reading_as, standing_of, with_step_of, outcome, written_as, added_of};
 
@@ -16,7 +18,7 @@ use bodies::Step;
 use sheet::{Entry, Reading, Refusal, Sheet};
 
 // A refusal and the length as it was, or none and the sheet's new length.
-#[derive(Drop)]
+#[derive(Clone, Copy)]
 pub struct Added {
     pub refusal: Refusal,
     pub length: usize,

@@ -6,6 +6,8 @@
 // Rust does so twice, with equal bits. Where a divisor is zero there are no offsets, and the first
 // three coordinates become NaN, as the Rust's sums with a NaN do. The time stays, and every tuple
 // counts. Sixteen tuples at a time: the crate molodensky_block.
+#![tactic(auto)]
+
 ghost use Rattle.std.specs.Prelude.{◌≡◌};
 ghost use Rattle.molodensky.specs.Record.{blank_of, abridged_of, two_ellipsoids_of, second_in_rule_of, figure_in_rule_of, finite_of, in_rule_of};
 ghost use Rattle.molodensky.specs.Step.{figure_of, moped_of, place_with, figures_at_of, abridged_offsets_of, full_offsets_of, offsets_of, common_of};
@@ -14,7 +16,7 @@ use ellipsoid::{Ellipsoid, Radii};
 use tuple::Tuple;
 
 // The record that a sheet carries. Flags: 1 abridged, 2 two ellipsoids.
-#[derive(Drop)]
+#[derive(Clone, Copy)]
 pub struct Molodensky {
     pub flags: u32,
     pub first: u32,
@@ -27,7 +29,7 @@ pub struct Molodensky {
 }
 
 // What a list needs of a record, worked out once.
-#[derive(Drop)]
+#[derive(Clone, Copy)]
 pub struct Moped {
     pub ellps: Ellipsoid,
     pub dx: f64,
@@ -40,7 +42,7 @@ pub struct Moped {
 }
 
 // What the offsets need of a place.
-#[derive(Drop)]
+#[derive(Clone, Copy)]
 pub struct Place {
     pub slam: f64,
     pub clam: f64,
@@ -52,7 +54,7 @@ pub struct Place {
 }
 
 // Three offsets, or none where a divisor is zero.
-#[derive(Drop)]
+#[derive(Clone, Copy)]
 pub enum Offsets {
     Nothing,
     Three { dlam: f64, dphi: f64, dh: f64 },

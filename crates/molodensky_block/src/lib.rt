@@ -6,6 +6,8 @@
 // compiler turns into vector instructions; the kernels are called between the loops, a block at a
 // time. Where there are no offsets, they are three NaNs, which makes the coordinates NaN as
 // `common` does. Used by the loops over a list.
+#![tactic(auto)]
+
 ghost use Rattle.std.specs.Prelude.{◌≡◌, ℕ, length};
 ghost use Rattle.floats.specs.Binary64.{◌⊕◌, ◌⊖◌, ◌⊗◌};
 ghost use Rattle.trig.specs.Trig.{sin_of};
@@ -20,7 +22,7 @@ use blocks::WIDTH;
 use molodensky::{Moped, Place};
 
 // The offsets as numbers: three NaNs where there are none.
-#[derive(Drop)]
+#[derive(Clone, Copy)]
 struct Shift {
     dlam: f64,
     dphi: f64,

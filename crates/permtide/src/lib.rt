@@ -4,6 +4,8 @@
 // The nine coefficients, the constants and the order of the products are the Rust's; a text
 // parameter there is a code here (mean 1, zero 2, free 3). Every tuple counts. Exact as the Rust's
 // sequence over our sine, cosine and atan2.
+#![tactic(auto)]
+
 ghost use Rattle.std.specs.Prelude.{◌≡◌, ℕ};
 ghost use Rattle.floats.specs.Binary64.{◌⊕◌, ◌⊖◌};
 ghost use Rattle.blocks.specs.Each.{at, Each};
@@ -15,7 +17,7 @@ use ellipsoid::Ellipsoid;
 use tuple::Tuple;
 
 // The record that a sheet carries.
-#[derive(Drop)]
+#[derive(Clone, Copy)]
 pub struct Permtide {
     pub ellipsoid: u32,
     pub to: u32,
@@ -24,7 +26,7 @@ pub struct Permtide {
 }
 
 // What a list needs of a record, worked out once.
-#[derive(Drop)]
+#[derive(Clone, Copy)]
 pub struct Tide {
     pub ellps: Ellipsoid,
     pub coefficient: f64,

@@ -7,6 +7,8 @@
 // once a list. Proved equal to the step's own definition from tuple to tuple, over the flat list
 // that the columns stand for. Exact: no rounding but the step's own. Used by whatever runs a step
 // over columns.
+#![tactic(auto)]
+
 ghost use Rattle.std.specs.Prelude.{◌≡◌, cond, ℕ, ◌+◌, ◌≤◌, ◌<◌, length};
 ghost use Rattle.blocks.specs.Each.{at, Each};
 ghost use Rattle.permtide.specs.Step.{fwd_of, inv_of};

@@ -8,6 +8,8 @@
 // reach of sine and cosine (document 02, A5), and the state that the next part goes on from. That
 // second number is taken from the columns before the step writes them. Exact: no rounding but the
 // steps' own. Used by the chain and by what runs a record.
+#![tactic(auto)]
+
 ghost use Rattle.std.specs.Prelude.{◌≡◌};
 ghost use Rattle.lists.specs.Run.{ran_of, count_of, state_after_of};
 ghost use Rattle.helmert.specs.Turns.{no_state};
@@ -22,7 +24,7 @@ use plans::Plan;
 
 // What a step leaves beside the columns: how many tuples counted, how many met an angle out of
 // reach, and the state after the last.
-#[derive(Drop)]
+#[derive(Clone, Copy)]
 pub struct Part {
     pub count: usize,
     pub met: usize,

@@ -8,6 +8,8 @@
 // list in; specs/Windows.antt says what plans make of a part of a list, each going on from where it
 // stands, and proofs/Windows.antt that a list in parts is the whole list. Exact: no rounding but the
 // records' own. Used by the chain, by what runs a record, and by the windows.
+#![tactic(auto)]
+
 ghost use Rattle.std.specs.Prelude.{◌≡◌, cond, eqb};
 ghost use Rattle.cart.specs.Record.{blank_of};
 ghost use Rattle.helmert.specs.Turns.{no_state};
@@ -24,7 +26,7 @@ use permtide::Tide;
 use rotation::Vec3;
 use tally::Tally;
 
-#[derive(Drop)]
+#[derive(Clone, Copy)]
 pub enum Plan {
     CartForward(Ellipsoid),
     CartInverse(Inverse),
@@ -36,7 +38,7 @@ pub enum Plan {
 
 // Where a step stands between two parts of a list: its state, and how many tuples it has counted and
 // how many have met an angle out of reach.
-#[derive(Drop)]
+#[derive(Clone, Copy)]
 pub struct Standing {
     pub state: State,
     pub tally: Tally,

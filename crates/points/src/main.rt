@@ -3,6 +3,8 @@
 // 2,048 tuples through a sheet of 16 steps, within the default stack; 2,049 tuples; 16 and 17
 // steps; p = 1e-11 by both inverses, which differ there; and deformation up 1000. Numbers are
 // printed by their bits.
+#![tactic(auto)]
+
 ghost use Rattle.std.specs.Prelude.{◌≡◌, ◌<◌, ◌≤◌, length};
 
 use cart::Inverse;

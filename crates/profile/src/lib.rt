@@ -9,6 +9,8 @@
 // before 11, and that without a profile the answer is the reader's. The rules 1 to 8 and 11 are
 // asked through `sheet::check`, so that the reader's code stands once. Used by the closure report
 // and by the exported library.
+#![tactic(auto)]
+
 ghost use Rattle.std.specs.Prelude.{◌≡◌, ◌≤◌};
 ghost use Rattle.sheet.specs.Layout.{step_count_of, step_at};
 ghost use Rattle.sheet.specs.Rules.{first_broken};

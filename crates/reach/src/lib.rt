@@ -7,6 +7,8 @@
 // states; proofs/Modes.antt: the angles named for Helmert are those whose matrix the step uses.
 // Exact: it compares, and takes no sine. Used by the passes over columns, by deformation's loops,
 // by the thin entry and by the kept run.
+#![tactic(auto)]
+
 ghost use Rattle.std.specs.Prelude.{◌≡◌};
 ghost use Rattle.trig.specs.Trig.{out_of_reach};
 ghost use Rattle.reach.specs.Met.{place_out, offsets_out, moved_met, rotation_out, own_out, matrix_out};
@@ -51,7 +53,7 @@ pub fn moved_met(op: Motion, mark: u8, v: Tuple) -> bool
 }
 
 // What deformation makes of a fix, as its own `common`, and whether the fix met it.
-#[derive(Drop)]
+#[derive(Clone, Copy)]
 pub struct Moving {
     pub tuple: Tuple,
     pub counted: bool,

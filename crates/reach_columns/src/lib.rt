@@ -7,6 +7,8 @@
 // rounded but Helmert's angles at a time, as the step itself does, and twice the latitude.
 // Deformation finds its angles from the coordinates and counts in its own loops. Used by whatever
 // runs a step over columns.
+#![tactic(auto)]
+
 ghost use Rattle.std.specs.Prelude.{◌≡◌, true, false, ℕ, ◌<◌, length};
 ghost use Rattle.std.specs.Float.Ieee.{ne};
 ghost use Rattle.blocks.specs.Each.{at};
@@ -124,7 +126,7 @@ fn running_any(
 }
 
 // How many times are equal to the one before, and, where none is, how many rows met it.
-#[derive(Drop)]
+#[derive(Clone, Copy)]
 pub struct Apart {
     pub equal: usize,
     pub met: usize,

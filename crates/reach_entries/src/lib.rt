@@ -7,6 +7,8 @@
 // entries that came before stay as they are, in crate sillfeather. The header's `out_of_reach` is
 // called `met` here, because a name with an underscore reads badly in a contract. Nothing is computed
 // here.
+#![tactic(auto)]
+
 ghost use Rattle.std.specs.Prelude.{◌≡◌};
 ghost use Rattle.columns.specs.Columns.{columns};
 ghost use Rattle.chain.specs.Rules.{shift_of};

@@ -5,6 +5,8 @@
 // tuples met an angle out of reach, only where some did, so that document 01's texts stay. Every byte is fixed by specs/Report.antt, for
 // every input and a room of any length (crate text says what a room that is too short holds). A NaN
 // is printed 7ff8000000000000, whichever bits it came with. Used by `answer`.
+#![tactic(auto)]
+
 ghost use Rattle.std.specs.Prelude.{◌≡◌, [], ◌∷◌, take};
 ghost use Rattle.text.specs.Text.{text, appended};
 ghost use Rattle.report.specs.Report.{line_of, refused_text, head_text, reach_text, count_text, counts_text, met_in, word_of, tuple_text, tuples_text, ran_text};

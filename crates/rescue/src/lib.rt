@@ -10,6 +10,8 @@
 // the list has exactly the words that differ, a whole sheet comes out as it is, and of the reader's
 // refusals only 5 to 8 and 11 can be left. The rebuilt sheet is judged before the room is touched,
 // so a call takes 4 kB of stack for it. Used by the exported library and the program sheet_rescue.
+#![tactic(auto)]
+
 ghost use Rattle.std.specs.Prelude.{◌≡◌, ◌+◌, ◌*◌, ◌<◌, ◌≤◌, false, ◌++◌, length};
 ghost use Rattle.words.specs.Words.{le32, put};
 ghost use Rattle.bodies.specs.Kinds.{length_of};
@@ -20,7 +22,7 @@ ghost use Rattle.rescue.specs.Rules.{entry_broken, refusal19, rescued_as, outcom
 use sheet::Refusal;
 
 // No refusal and how many words were changed, or a refusal and 0.
-#[derive(Drop)]
+#[derive(Clone, Copy)]
 pub struct Rescued {
     pub refusal: Refusal,
     pub changed: usize,

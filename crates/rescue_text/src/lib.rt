@@ -4,6 +4,8 @@
 // The text is fixed byte by byte by specs/RescueText.antt, for every damaged sheet and rooms of any
 // length (proved). Words have the names by which `show` shows them, and the mended sheet is shown
 // by `show` itself. Used by the program sheet_rescue.
+#![tactic(auto)]
+
 ghost use Rattle.std.specs.Prelude.{◌≡◌, cond, eqb, ◌*◌, ◌≤◌, length};
 ghost use Rattle.text.specs.Text.{text, appended};
 ghost use Rattle.text.specs.Digits.{decimal_of};

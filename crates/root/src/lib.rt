@@ -16,6 +16,8 @@
 //
 // 0x10_0000_0000_0000 is 2^52, the weight of the exponent's field and of a significand's leading
 // digit; 0x400_0000 is 2^26, half as many digits.
+#![tactic(auto)]
+
 ghost use Rattle.std.specs.Prelude.{◌≡◌, ℕ, ◌+◌, ◌-◌, ◌*◌, ◌^◌, ◌<◌, ◌≤◌, from_bits};
 ghost use Rattle.std.specs.Float.{binary64};
 ghost use Rattle.blocks.specs.Each.{at, Each};
@@ -25,7 +27,7 @@ ghost use Rattle.root.specs.Sqrt.{RoundedRoot, sqrt_of};
 use blocks::WIDTH;
 
 // A positive number as a whole number a of 53 or 54 digits, scaled by 2^k: as `Significand` says.
-#[derive(Drop)]
+#[derive(Clone, Copy)]
 struct Scaled {
     a: u64,
     k: u64,

@@ -6,10 +6,12 @@
 // letters; the products with a matrix are those of its `helmert_common`. Proved equal to
 // specs/Matrix.antt, rounding by rounding, for every number; how exact the sines and cosines are is
 // the crate trig's to say. A crate of its own because steps other than Helmert turn by it too.
+#![tactic(auto)]
+
 ghost use Rattle.std.specs.Prelude.{◌≡◌};
 ghost use Rattle.rotation.specs.Matrix.{sines_of, first_order_of, second_order_of, rows_of, rotation_matrix_of, rotate_of, rotate_back_of};
 
-#[derive(Drop)]
+#[derive(Clone, Copy)]
 pub struct Vec3 {
     pub x: f64,
     pub y: f64,
@@ -19,7 +21,7 @@ pub struct Vec3 {
 // ----- rotation matrix builder ---------------------------------------------------------------
 
 // The sines and cosines of the three angles, or what stands for them.
-#[derive(Drop)]
+#[derive(Clone, Copy)]
 pub struct Sines {
     pub sx: f64,
     pub cx: f64,
@@ -30,7 +32,7 @@ pub struct Sines {
 }
 
 // The nine entries, by row and column of the coordinate frame's matrix.
-#[derive(Drop)]
+#[derive(Clone, Copy)]
 pub struct Entries {
     pub r11: f64,
     pub r12: f64,

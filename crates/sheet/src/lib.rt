@@ -7,6 +7,8 @@
 // and `entry_at` leave the sheet where it lies and decode one body at a time: whoever runs a sheet
 // uses these. `read` is for whoever makes, keeps or hands on a record; it is 4 kB, so pass it on
 // once.
+#![tactic(auto)]
+
 ghost use Rattle.std.specs.Prelude.{◌≡◌, ◌+◌, ◌*◌, ◌<◌, ◌≤◌, length, take, drop};
 ghost use Rattle.words.specs.Words.{word32};
 ghost use Rattle.sheet.specs.Layout.{step_count_of, entry_offset, directory_end, kind_at, inverted_at, offset_at, length_at, body_at, step_at, blank_entry, blank_sheet, entry_at, record_of};
@@ -17,14 +19,14 @@ use bodies::Step;
 // ----- records ---------------------------------------------------------------------------
 
 // A step and whether it is turned round: 0 or 1.
-#[derive(Drop)]
+#[derive(Clone, Copy)]
 pub struct Entry {
     pub inverted: u32,
     pub step: Step,
 }
 
 // The entries past the count read as blank cart steps and are never compared.
-#[derive(Drop)]
+#[derive(Clone, Copy)]
 pub struct Sheet {
     pub count: u32,
     pub entries: [Entry; 16],
@@ -32,13 +34,13 @@ pub struct Sheet {
 
 // A refusal's number and its step, from 1; step 0 is the call as a whole, and number 0 is no
 // refusal.
-#[derive(Drop)]
+#[derive(Clone, Copy)]
 pub struct Refusal {
     pub number: u32,
     pub step: u32,
 }
 
-#[derive(Drop)]
+#[derive(Clone, Copy)]
 pub struct Reading {
     pub refusal: Refusal,
     pub sheet: Sheet,

@@ -4,6 +4,8 @@
 // plan is made from the bytes where they lie. specs/Sheets.antt says which plan stands for a step;
 // what a plan makes of a tuple is plans' specs/Plans.antt. Exact: no rounding but the records' own.
 // Used by the chain.
+#![tactic(auto)]
+
 ghost use Rattle.std.specs.Prelude.{◌≡◌, not, cond, eqb};
 ghost use Rattle.plans.specs.Plans.{Ready, at_most_sixteen};
 ghost use Rattle.sheet_plans.specs.Sheets.{plan_at};

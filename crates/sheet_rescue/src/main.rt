@@ -7,6 +7,8 @@
 // nothing else. The room for the damaged sheet holds more bytes than the longest sheet has, so that
 // a longer input is told from it; room and list of the rescue are never too short, and the room for
 // the text is longer than any text of a sheet.
+#![tactic(auto)]
+
 fn main() {
     let mut damaged = io::large_buffer();
     let n = io::read_full(0, &mut damaged);

@@ -4,6 +4,8 @@
 // All that is said of the text is proved in `show`; here the bytes are read and written, and
 // nothing else. The room for the sheet holds more bytes than the longest sheet has, so that a
 // longer input is told from it; the room for the text is longer than any text of a sheet.
+#![tactic(auto)]
+
 fn main() {
     let mut sheet = io::large_buffer();
     let n = io::read_full(0, &mut sheet);

@@ -7,6 +7,8 @@
 // is the same record, and no two sheets read alike. Exact: no number changes. A record is 4 kB, so
 // pass it on once. Used by whoever makes a sheet, and by the chain over a record that is already
 // read.
+#![tactic(auto)]
+
 ghost use Rattle.std.specs.Prelude.{◌≡◌, ◌+◌, ◌<◌, ◌≤◌, length, ◌++◌};
 ghost use Rattle.words.specs.Words.{le32, put};
 ghost use Rattle.body_writer.specs.Write.{bytes_of};

@@ -4,6 +4,8 @@
 // `answer`; here the bytes are read and written, and nothing else. The room for the bytes holds one
 // more than the longest job and the longest grid have, so that a longer input is told from them by
 // the grid's length, rule 17; the room for the text is longer than any text.
+#![tactic(auto)]
+
 fn main() {
     let mut bytes = [0u8; 131785];
     let n = io::read_full(0, &mut bytes);

@@ -6,6 +6,8 @@
 // it has the byte of the word that the refusal is about, and the header, as far as the sheet has
 // it. For a step's refusal it has the bytes of the directory entry and of the body, and the whole
 // step as it is. Used by the program sheet_show, and its words of a rule by rescue_text.
+#![tactic(auto)]
+
 ghost use Rattle.std.specs.Prelude.{◌≡◌, ◌+◌, ◌-◌, ◌<◌, ◌≤◌, length};
 ghost use Rattle.text.specs.Text.{text, appended};
 ghost use Rattle.text.specs.Digits.{decimal_of};

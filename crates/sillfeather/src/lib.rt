@@ -7,6 +7,8 @@
 // include/sillfeather.h says of each function what it reads, writes, refuses and leaves alone.
 // The kernels, on any binary64 numbers: nothing is refused, and what each gives for a NaN, an
 // infinity or a zero is its crate's law.
+#![tactic(auto)]
+
 ghost use Rattle.std.specs.Prelude.{◌≡◌, ◌≤◌};
 ghost use Rattle.sheet.specs.Rules.{refusal_of};
 ghost use Rattle.chain.specs.Rules.{shift_of};

@@ -5,6 +5,8 @@
 // Proved for every plan and list: the list and the tally are those of the step over the whole list
 // (plans, specs/Plans.antt); a rest shorter than a tuple stays as it is. No rounding but the step's
 // own. Used by the chain's flat entry for sheets of one step, and its room by `windows`.
+#![tactic(auto)]
+
 ghost use Rattle.std.specs.Prelude.{◌≡◌, ◌+◌, ◌*◌, ◌≤◌, ◌<◌, length};
 ghost use Rattle.lists.specs.Run.{ran_of, count_of, state_after_of};
 ghost use Rattle.columns.specs.Columns.{Level};

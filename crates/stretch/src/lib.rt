@@ -14,6 +14,8 @@
 // list as it stands; the count is the stretch's length, one where the mode is not running; nothing
 // outside the stretch is written, whatever the three lists held. Used by `stretch_columns`, which
 // keeps and corrects over columns, and by `stretch_flat`, which does so for flat lists.
+#![tactic(auto)]
+
 ghost use Rattle.std.specs.Prelude.{◌≡◌};
 ghost use Rattle.stretch.specs.Same.{alike_number_of, alike_of};
 ghost use Rattle.stretch.specs.Kept.{tracked_of, held_of};

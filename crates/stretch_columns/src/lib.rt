@@ -12,6 +12,8 @@
 // by column (`fresh_columns_of`, `put_right_columns_of`; stretch, specs/KeptColumns.antt). Where the
 // twelve columns are not of one length, or no fix stands at the index, nothing is written. Used by
 // `kept_columns`.
+#![tactic(auto)]
+
 ghost use Rattle.std.specs.Prelude.{◌≡◌, ◌&&◌, ◌++◌, ◌+◌, ◌*◌, ◌≤◌, length, take, drop};
 ghost use Rattle.columns.specs.Columns.{columns, Level, flat_of};
 ghost use Rattle.stretch.specs.Kept.{before_of};
@@ -122,7 +124,7 @@ fn before(shift: Shift, kx: &[f64], ky: &[f64], kz: &[f64], kt: &[f64], index: u
 }
 
 // Where a stretch starts: the state before its first fix; and its length.
-#[derive(Drop)]
+#[derive(Clone, Copy)]
 struct Stretch {
     from: State,
     count: usize,

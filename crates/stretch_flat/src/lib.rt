@@ -9,6 +9,8 @@
 // No rounding but the step's own. Proved for all input: what is left is what the words define
 // (`fresh_run_of`, `put_right_of`; stretch, specs/Kept.antt). Where the three lists do not fit together,
 // or no fix stands at the index, nothing is written. Used by `kept`.
+#![tactic(auto)]
+
 ghost use Rattle.std.specs.Prelude.{◌≡◌, ◌+◌, ◌*◌, ◌%◌, ◌≤◌, ◌<◌, length};
 ghost use Rattle.columns.specs.Columns.{Level};
 ghost use Rattle.lists.specs.Run.{ran_of, state_after_of};

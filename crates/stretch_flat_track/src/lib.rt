@@ -9,6 +9,8 @@
 // No rounding but the step's own. Proved equal to the track from tuple to tuple, window or no window.
 // Where the list is not of whole tuples, or the track not as long, nothing is written. Used by
 // `stretch_flat`.
+#![tactic(auto)]
+
 ghost use Rattle.std.specs.Prelude.{◌≡◌, cond, ◌++◌, ◌*◌, ◌%◌, ◌≤◌, ◌<◌, length, take, drop};
 ghost use Rattle.tuple.specs.declared.Tuple.{Tuple};
 ghost use Rattle.columns.specs.Columns.{Level, flat_of, column_of};

@@ -6,6 +6,8 @@
 //
 // No rounding but the step's own. Proved equal to the step's run from tuple to tuple. Where the
 // columns do not fit together, nothing is written. Used by `stretch_columns`.
+#![tactic(auto)]
+
 ghost use Rattle.std.specs.Prelude.{◌≡◌, true, false, ◌++◌, ◌-◌, ◌*◌, ◌≤◌, length, take, drop};
 ghost use Rattle.columns.specs.Columns.{columns, Level, flat_of};
 ghost use Rattle.lists.specs.Run.{ran_of};

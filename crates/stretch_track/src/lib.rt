@@ -8,6 +8,8 @@
 // No rounding but the step's own. Every contract is told by the flat list that the columns stand
 // for (stretch, specs/Track.antt). Where the columns have not one row for each time, nothing is
 // written. Used by `stretch_columns` and, window by window, by `stretch_flat_track`.
+#![tactic(auto)]
+
 ghost use Rattle.std.specs.Prelude.{◌≡◌, true, false, ◌*◌, ◌<◌, length};
 ghost use Rattle.columns.specs.Columns.{columns, Level, flat_of};
 ghost use Rattle.lists.specs.Flat.{tuple_at, put_at};
@@ -118,7 +120,7 @@ fn track_fix(
 
 // How many fixes were tracked anew, whether the state after the last of them is the kept one, and
 // that state.
-#[derive(Drop)]
+#[derive(Clone, Copy)]
 pub struct Retrack {
     pub count: usize,
     pub met: bool,

@@ -6,10 +6,12 @@
 // sheet's sixteen places, is said once for both. Exact: whole numbers. Proved: the two readers give
 // the numbers of each place. Used by the windows, the chain and the thin entries, and by whoever
 // hands the numbers on.
+#![tactic(auto)]
+
 ghost use Rattle.std.specs.Prelude.{◌≡◌};
 ghost use Rattle.tally.specs.Tallies.{no_tally, counts_of, mets_of};
 
-#[derive(Drop)]
+#[derive(Clone, Copy)]
 pub struct Tally {
     pub count: usize,
     pub met: usize,

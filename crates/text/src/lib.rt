@@ -4,6 +4,8 @@
 // it wrote. Past the room's end nothing is written: the place then is the room's end, and stays
 // there. So a text written in pieces is the text written at once, in a room of any length
 // (`appended-twice`). Used by the program's report and by whoever writes a text for people.
+#![tactic(auto)]
+
 ghost use Rattle.std.specs.Prelude.{◌≡◌, [], ◌∷◌, ◌+◌, ◌-◌, ◌/◌, ◌^◌, ◌<◌, ◌≤◌, min};
 ghost use Rattle.text.specs.Text.{text, appended};
 ghost use Rattle.text.specs.Digits.{digit as Digits·digit, digits_of, places_of, decimal_of, hex_of};
@@ -72,7 +74,7 @@ pub fn put_hex(room: &mut [u8], at: usize, n: u64) -> usize
 }
 
 // How many digits a number has, and what the highest is worth.
-#[derive(Drop)]
+#[derive(Clone, Copy)]
 struct Top {
     places: usize,
     worth: u64,

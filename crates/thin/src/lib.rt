@@ -11,6 +11,8 @@
 // and leaves on the same numbers as a flat list (proofs/Flat.antt). No rounding but the steps' own.
 // The two walks are proved by hand; a further kind of step is a case of Plan, with a line each in
 // `plan_of`, `start_of` and `turn`, and no walk. For callers who hold their fixes as records.
+#![tactic(auto)]
+
 ghost use Rattle.std.specs.Prelude.{◌≡◌, true, false, ◌<◌};
 ghost use Rattle.helmert.specs.Turns.{no_state};
 ghost use Rattle.chain.specs.Rules.{refused_answer, outcome, shift_of};
@@ -33,7 +35,7 @@ use tally::Tally;
 use tuple::Tuple;
 
 // A step made ready: what depends on the record alone is worked out once a list.
-#[derive(Drop)]
+#[derive(Clone, Copy)]
 pub enum Plan {
     CartForward(Ellipsoid),
     CartInverse(Inverse),
@@ -46,13 +48,13 @@ pub enum Plan {
 
 // What a loop carries from one tuple to the next: Helmert's state, how many tuples counted and how
 // many met an angle out of reach.
-#[derive(Drop)]
+#[derive(Clone, Copy)]
 pub struct Carried {
     pub state: State,
     pub tally: Tally,
 }
 
-#[derive(Drop)]
+#[derive(Clone, Copy)]
 pub struct Turned {
     pub carried: Carried,
     pub tuple: Tuple,
@@ -234,7 +236,7 @@ pub fn run_step(
 // ----- a sheet over the list -------------------------------------------------------------
 
 // What the loop over the steps takes of a sheet: the step's place, its direction and its record.
-#[derive(Drop)]
+#[derive(Clone, Copy)]
 pub struct Todo {
     pub place: usize,
     pub inverse: bool,

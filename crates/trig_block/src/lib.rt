@@ -7,6 +7,8 @@
 //
 // Proved: place by place the answers are the definitions' of `trig`, so that its laws and its error
 // hold here too. Every step of a shift that meets latitudes by the block uses it.
+#![tactic(auto)]
+
 ghost use Rattle.std.specs.Prelude.{◌≡◌, false, cond, ℕ};
 ghost use Rattle.blocks.specs.Each.{at, whole_at, Each, EachWhole, Tells};
 ghost use Rattle.trig.specs.Table.{row_of};

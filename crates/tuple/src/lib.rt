@@ -5,10 +5,12 @@
 // product, the tuple of NaNs. Those files do not contain these, so their sequences are ours and
 // stand in specs/Sums.antt: all four numbers take part, from the left. Every step reads and gives
 // one Tuple.
+#![tactic(auto)]
+
 ghost use Rattle.std.specs.Prelude.{◌≡◌};
 ghost use Rattle.tuple.specs.Sums.{nan_tuple, any_nan_of, add_of, scale_of, dot_of};
 
-#[derive(Drop)]
+#[derive(Clone, Copy)]
 pub struct Tuple {
     pub x: f64,
     pub y: f64,
@@ -17,7 +19,7 @@ pub struct Tuple {
 }
 
 // What a step makes of a tuple, and whether the step's count takes it in.
-#[derive(Drop)]
+#[derive(Clone, Copy)]
 pub struct Shifted {
     pub tuple: Tuple,
     pub counted: bool,

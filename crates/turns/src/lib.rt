@@ -4,6 +4,8 @@
 // specs/Turns.antt says it once for cart, permtide, Molodensky and deformation, of the steps' own
 // definitions; helmert/specs/Turns.antt does for Helmert. The loops over columns, the chain and the
 // thin walk are all proved against these. Exact: nothing is computed here.
+#![tactic(auto)]
+
 ghost use Rattle.std.specs.Prelude.{◌≡◌};
 ghost use Rattle.turns.specs.Turns.{velocity_at, mark_at};
 

@@ -6,6 +6,8 @@
 // as 7ff8000000000000. A record that differs is told by its number, from 0; then come the totals, a
 // line a kind and direction of the jobs with one step, and one for the longer chains. That the
 // files are read whole is seen by the totals.
+#![tactic(auto)]
+
 mod record;
 
 ghost use Rattle.std.specs.Prelude.{◌<◌, ◌≤◌, length};
@@ -14,7 +16,7 @@ const OUT: i32 = 1;
 
 // What a record was: its line of the report, its tuples, and in how many words it differed; or that
 // the file ended too soon.
-#[derive(Drop)]
+#[derive(Clone, Copy)]
 struct Found {
     whole: bool,
     line: usize,

@@ -7,6 +7,8 @@
 // tallies are those of all steps over the whole list (plans, specs/Windows.antt); a rest shorter
 // than a tuple stays as it is. No rounding but the steps' own. Used by the chain's flat entry and by what
 // runs a record.
+#![tactic(auto)]
+
 ghost use Rattle.std.specs.Prelude.{◌≡◌, true, false, ◌+◌, ◌*◌, ◌≤◌, ◌<◌, length};
 ghost use Rattle.lists.specs.Run.{ran_of};
 ghost use Rattle.columns.specs.Columns.{Level, flat_of};

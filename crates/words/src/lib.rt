@@ -5,6 +5,8 @@
 // 7ff8000000000000. Where the length is known, as in a body whose length was tested, the compiler
 // drops the tests and a word is one load or store. Used by the sheet's bodies, its header and
 // directory.
+#![tactic(auto)]
+
 ghost use Rattle.std.specs.Prelude.{◌≡◌, ◌+◌, ◌<◌, ◌≤◌, length, get_or};
 ghost use Rattle.words.specs.Words.{word32, word64, number_at, one_nan_at, le32, le64, le_number, put_of, put};
 

@@ -4,6 +4,8 @@
 // Lengths are printed to the millimetre, angles in degrees, minutes and seconds to a thousandth.
 // The inputs are the document's own; the last digits of a published figure are its rounding, up to
 // 6 mm where it was worked with rounded parameters.
+#![tactic(auto)]
+
 use badekas::Badekas;
 use ellipsoid::Ellipsoid;
 use helmert::Helmert;
