@@ -1,0 +1,12 @@
+-- Calls are replaced by what they ensure; the definition is left. Assumes nothing.
+use Rattle.arrays.specs.Arrays.{badekas_of}
+use Rattle.arrays.proofs.badekas_of.Goals as goal
+
+pub returns : goal.returns
+unfolding badekas_of
+returns c =
+    rw (
+      c.three_of_ten-3.ensures,
+      c.three_of_ten-2.ensures,
+      c.three_of_ten.ensures,
+    )

@@ -1,0 +1,21 @@
+-- One case for each way through the tests. Calls are replaced by what they ensure; the definition
+-- is left. Assumes nothing.
+use mathlib.Core.Bool.{◌&&◌}
+use lib.Dec.{eqb}
+use borrow.Author.Tests.{ne_eqb, not-true, not-false}
+use Rattle.bodies.specs.Kinds.{length_of}
+use Rattle.bodies.specs.Read.{step_of}
+use Rattle.bodies.specs.Rules.{step_in_rule, written_in_rule, body_in_rule, lacks_convention, lacks_epoch, lacks_duration, lowest_broken}
+use Rattle.bodies.proofs.broken_cart.Goals as goal
+
+pub returns-then-b-ne8 : goal.returns-then-b-ne8
+unfolding lowest_broken body_in_rule written_in_rule step_in_rule step_of length_of lacks_convention lacks_epoch lacks_duration
+returns-then-b-ne8 c = rw (ne_eqb _ 8 c.if-b-ne8.true)
+
+pub returns-then-not-five : goal.returns-then-not-five
+unfolding lowest_broken body_in_rule written_in_rule step_in_rule step_of length_of lacks_convention lacks_epoch lacks_duration
+returns-then-not-five c = rw (c.if-b-ne8.false, ← c.cart_fields.ensures, ← c.read32.ensures, ← c.in_rule.ensures, not-true (eqb c.read32.result 0 && c.in_rule.result) c.if-not-five.true)
+
+pub returns : goal.returns
+unfolding lowest_broken body_in_rule written_in_rule step_in_rule step_of length_of lacks_convention lacks_epoch lacks_duration
+returns c = rw (c.if-b-ne8.false, ← c.cart_fields.ensures, ← c.read32.ensures, ← c.in_rule.ensures, not-false (eqb c.read32.result 0 && c.in_rule.result) c.if-not-five.false)

@@ -1,0 +1,15 @@
+use Prim.Native.Nat.{◌-◌}
+use mathlib.Core.Path.{ap, ◌∙◌}
+use mathlib.Core.Bool.{Bool, not, cond}
+use Rattle.blocks.proofs.Counts.{none_counted, one_counted, all_counted}
+use borrow.Author.Rules.{rules}
+use Rattle.cart_block.proofs.count_block.Goals as goal
+
+pub loop-i-init : goal.loop-i-init
+loop-i-init c = none_counted
+
+pub loop-i-preserved : goal.loop-i-preserved
+loop-i-preserved c = one_counted (search rules) (c.one_if-n.ensures.0 ∙ ap (λ (b : Bool). cond (not b) 1 0) c.any_nan.ensures) c.loop-i.invariant
+
+pub returns : goal.returns
+returns c = all_counted (search rules) c.loop-i.invariant

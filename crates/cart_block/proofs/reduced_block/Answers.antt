@@ -1,0 +1,16 @@
+use Prim.Native.Nat.{◌-◌}
+use mathlib.Core.Path.{refl}
+use Rattle.blocks.proofs.Laws.{none_filled, one_more, all_filled}
+use borrow.Author.Rules.{rules}
+use Rattle.cart_block.proofs.reduced_block.Goals as goal
+
+pub loop-i-init : goal.loop-i-init
+loop-i-init c = (none_filled refl, none_filled refl)
+
+pub loop-i-preserved : goal.loop-i-preserved
+loop-i-preserved c =
+    let l = c.loop-i in
+    (one_more (search rules) refl l.invariant.0, one_more (search rules) refl l.invariant.1)
+
+pub returns : goal.returns
+returns c = (all_filled (search rules) c.loop-i.invariant.0, all_filled (search rules) c.loop-i.invariant.1)

@@ -1,0 +1,23 @@
+-- The row read is the flat list's tuple, its time stays (`inverse_time`), and a tuple put where it
+-- was read is one row passed (`passed-row`). Assumes nothing.
+use Prim.Native.Nat.{◌*◌}
+use mathlib.Core.Path.{ap, ◌∙◌}
+use Rattle.tuple.specs.declared.Shifted.{Shifted}
+use Rattle.lists.specs.Flat.{put_at}
+use Rattle.columns.specs.Columns.{flat_of}
+use Rattle.columns.proofs.Laws.{room, row-time, timed}
+use Rattle.columns.proofs.Passed.{passed-row}
+use Rattle.turns.proofs.Columns.{inverse_time}
+use Rattle.cart_columns.proofs.inverse_row.Goals as goal
+
+pub returns : goal.returns
+returns c =
+    let a = c.args in
+    let e = rw c.read_row.ensures at c.cart_inv-r.ensures in
+    let time =
+    ap (λ (s : Shifted). s.tuple.t) e
+    ∙ inverse_time a.k _
+    ∙ row-time _ _ _ _ c.requires.0 a.i c.requires.1 in
+    rw c.one_if.ensures.0
+    (passed-row a.i (room _ _ _ _ c.requires.0 a.i c.requires.1) (ap (λ (s : Shifted). s.tuple) e) (ap (λ (s : Shifted). s.counted) e)
+    (c.write_point.ensures ∙ ap (put_at (flat_of a.x.now a.y.now a.z.now a.t.now) (4 * a.i)) (timed time)))

@@ -1,0 +1,11 @@
+-- The test is the definition's. Assumes nothing.
+use Rattle.closure_report.specs.Report.{larger_of}
+use Rattle.closure_report.proofs.larger.Goals as goal
+
+pub returns-then-some-before : goal.returns-then-some-before
+unfolding larger_of
+returns-then-some-before c = rw c.if-some-before.true
+
+pub returns : goal.returns
+unfolding larger_of
+returns c = rw c.if-some-before.false

@@ -1,0 +1,28 @@
+-- One case for each way through the tests, in the order of `closure_grid_order`. Assumes nothing.
+use mathlib.Core.Path.{sym, ◌∙◌}
+use borrow.Author.Tests.{lt-ltb, le-ltb}
+use Rattle.closure_run.specs.Closure.{refusal15}
+use Rattle.closure_run.proofs.GridAnswers.{grid-refused-own, grid-refused-9, grid-refused-10, grid-refused, grid-refused-15, grid-not-refused}
+use Rattle.closure_run.proofs.grid_refusal_of.Goals as goal
+
+pub returns-then-own-ne0 : goal.returns-then-own-ne0
+returns-then-own-ne0 c = sym (grid-refused-own _ _ _ _ _ _ _ _ c.check-own.ensures c.if-own-ne0.true)
+
+pub returns-then-list_broken : goal.returns-then-list_broken
+returns-then-list_broken c = c.of_call.ensures ∙ sym (grid-refused-9 _ _ _ _ _ _ _ _ c.check-own.ensures c.if-own-ne0.false (sym c.list_broken.ensures ∙ c.if-list_broken.true))
+
+pub returns-then-lent_broken : goal.returns-then-lent_broken
+returns-then-lent_broken c = c.of_call-then-lent_broken.ensures ∙ sym (grid-refused-10 _ _ _ _ _ _ _ _ c.check-own.ensures c.if-own-ne0.false (sym c.list_broken.ensures ∙ c.if-list_broken.false) (sym c.lent_broken.ensures ∙ c.if-lent_broken.true))
+
+pub returns-then-broken-ne0 : goal.returns-then-broken-ne0
+returns-then-broken-ne0 c =
+    let g = c.check_grid-broken.ensures in
+    c.of_call-then-broken-ne0.ensures ∙ rw g (sym (grid-refused _ _ _ _ _ _ _ _ c.check-own.ensures c.if-own-ne0.false (sym c.list_broken.ensures ∙ c.if-list_broken.false) (sym c.lent_broken.ensures ∙ c.if-lent_broken.false) (λ z. c.if-broken-ne0.true (g ∙ z))))
+
+pub returns-then-room-numbers : goal.returns-then-room-numbers
+unfolding refusal15
+returns-then-room-numbers c = c.of_call-then-room-numbers.ensures ∙ sym (grid-refused-15 _ _ _ _ _ _ _ _ c.check-own.ensures c.if-own-ne0.false (sym c.list_broken.ensures ∙ c.if-list_broken.false) (sym c.lent_broken.ensures ∙ c.if-lent_broken.false) (sym c.check_grid-broken.ensures ∙ c.if-broken-ne0.false) (lt-ltb _ _ c.if-room-numbers.true))
+
+pub returns : goal.returns
+unfolding refusal15
+returns c = c.none.ensures ∙ sym (grid-not-refused _ _ _ _ _ _ _ _ c.check-own.ensures c.if-own-ne0.false (sym c.list_broken.ensures ∙ c.if-list_broken.false) (sym c.lent_broken.ensures ∙ c.if-lent_broken.false) (sym c.check_grid-broken.ensures ∙ c.if-broken-ne0.false) (le-ltb _ _ c.if-room-numbers.false))

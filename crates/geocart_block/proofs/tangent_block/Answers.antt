@@ -1,0 +1,17 @@
+use Prim.Native.Nat.{◌-◌}
+use mathlib.Core.Path.{refl, ap}
+use Rattle.blocks.proofs.Laws.{none_filled, one_more, all_filled}
+use Rattle.geocart.specs.Geocart.{radicand_of}
+use borrow.Author.Rules.{rules}
+use Rattle.geocart_block.proofs.tangent_block.Goals as goal
+
+pub loop-i-init : goal.loop-i-init
+loop-i-init c = (none_filled refl, none_filled refl)
+
+pub loop-i-preserved : goal.loop-i-preserved
+loop-i-preserved c =
+    let l = c.loop-i in
+    (one_more (search rules) c.tangent-v.ensures l.invariant.0, one_more (search rules) (ap radicand_of c.tangent-v.ensures) l.invariant.1)
+
+pub returns : goal.returns
+returns c = (all_filled (search rules) c.loop-i.invariant.0, all_filled (search rules) c.loop-i.invariant.1)

@@ -1,0 +1,34 @@
+use borrow.Author.Rules.{rules}
+use Prim.Native.Nat.{◌-◌, ◌<◌}
+use native.Mathlib.Omega.{arith}
+use mathlib.Core.Path.{refl}
+use lib.ListN.{length}
+use Rattle.columns.proofs.Passed.{passed_none, passed_on}
+use Rattle.helmert_still_columns.proofs.Laws.{passed_through}
+use Rattle.helmert_columns.proofs.OwnEpoch.{own-epoch-row}
+use Rattle.helmert_columns.proofs.own_epoch_rows.Goals as goal
+
+pub loop-i-init : goal.loop-i-init
+loop-i-init c = (c.requires.0, refl, search rules, passed_none _ _ _ _)
+
+pub overflow_add-i : goal.overflow_add-i
+overflow_add-i c = search (rules, c.loop-i-test.true, c.loop-i.invariant.2)
+
+pub loop-i-smaller : goal.loop-i-smaller
+loop-i-smaller c = omega (arith, c.loop-i-test.true, c.loop-i.invariant.1)
+
+pub loop-i-preserved : goal.loop-i-preserved
+loop-i-preserved c =
+    let a = c.args in
+    let l = c.loop-i in
+    let inside : l.i < length l.x = omega (arith, c.loop-i-test.true) in (
+      (search rules, search rules, search rules),
+      search rules,
+      search rules,
+      passed_on l.invariant.3
+          (own-epoch-row a.shift a.inverse c.requires.1 l.x l.y l.z a.t.now l.invariant.0 l.i inside
+          c.grown-by.ensures c.scale_at-s.ensures (rw (← c.rotation_at.ensures) c.rotation_matrix-m.ensures) c.row.ensures),
+    )
+
+pub returns : goal.returns
+returns c = let l = c.loop-i in (passed_through _ _ _ _ c.requires.0 (omega (arith, c.loop-i-test.false, l.invariant.1)) l.invariant.3).0

@@ -1,0 +1,17 @@
+-- Invariant: the rows before i have passed. A turn is one row more (`turned-row`), and with no row
+-- left all have passed (`passed_through`). Assumes nothing.
+use Prim.Native.Nat.{◌-◌}
+use mathlib.Core.Path.{◌≡◌}
+use lib.ListN.{length}
+use Rattle.columns.specs.Columns.{Level, flat_of}
+use Rattle.columns.specs.Passed.{Passed}
+use Rattle.helmert.specs.Apply.{apply_of}
+use Rattle.helmert.specs.Turns.{no_state, all_turns}
+use Rattle.helmert_still_columns.proofs.rows.Given as goal
+
+abbrev pub invariant-loop-i : goal.invariant-loop-i
+invariant-loop-i l =
+    Level l.x l.y l.z l.t × (length l.x ≡ length l.initial.x) × Passed (all_turns (apply_of l.inverse l.by l.s l.rotated l.m)) 0 no_state (flat_of l.initial.x l.initial.y l.initial.z l.t) l.i no_state (flat_of l.x l.y l.z l.t) l.i
+
+abbrev pub decreases-loop-i : goal.decreases-loop-i
+decreases-loop-i l = length l.initial.x - l.i

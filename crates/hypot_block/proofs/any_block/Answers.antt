@@ -1,0 +1,14 @@
+use Prim.Native.Nat.{◌-◌}
+use borrow.Author.Rules.{rules}
+use mathlib.Core.Path.{refl}
+use Rattle.blocks.proofs.Laws.{none_filled, one_more, all_filled}
+use Rattle.hypot_block.proofs.any_block.Goals as goal
+
+pub loop-i-init : goal.loop-i-init
+loop-i-init c = none_filled refl
+
+pub loop-i-preserved : goal.loop-i-preserved
+loop-i-preserved c = one_more (search rules) c.hypot.ensures c.loop-i.invariant
+
+pub returns : goal.returns
+returns c = all_filled (search rules) c.loop-i.invariant

@@ -1,0 +1,50 @@
+-- One case for each way through the test: none of a refused call (`refused-met`), else what the pass
+-- over the stretch tells (`stretch-met`), which lies in the list (`stretch-fits`). Assumes nothing.
+use mathlib.Core.Path.{ap}
+use Rattle.tally.specs.declared.Tally.{Tally}
+use Rattle.stretch.specs.Kept.{kept_of}
+use Rattle.kept_reach.proofs.Stretch.{refused-met, stretch-small, track-reaches, stretch-met}
+use borrow.Author.Rules.{rules}
+use Rattle.kept_reach.proofs.correct_reach.Goals as goal
+
+pub shape_of-list-then-refusal-ne0 : goal.shape_of-list-then-refusal-ne0
+shape_of-list-then-refusal-ne0 c = c.list-1.given
+
+pub shape_of-results-then-refusal-ne0 : goal.shape_of-results-then-refusal-ne0
+shape_of-results-then-refusal-ne0 c = c.results-1.given
+
+pub shape_of-track-then-refusal-ne0 : goal.shape_of-track-then-refusal-ne0
+shape_of-track-then-refusal-ne0 c = c.track-1.given
+
+pub returns-then-refusal-ne0 : goal.returns-then-refusal-ne0
+returns-then-refusal-ne0 c = (c.correct-corrected.ensures, let a = c.args in refused-met a.inverse a.s.now (kept_of a.list.now a.results.now a.track.now) a.index a.fix c.correct-corrected.ensures c.if-refusal-ne0.true)
+
+pub before-from-requires : goal.before-from-requires
+before-from-requires c = let a = c.args in track-reaches a.inverse a.s.now (kept_of a.list.now a.results.now a.track.now) a.index a.fix c.correct-corrected.ensures c.if-refusal-ne0.false
+
+pub overflow_mul-a : goal.overflow_mul-a
+overflow_mul-a c = search (rules, let a = c.args in stretch-small a.inverse a.s.now (kept_of a.list.now a.results.now a.track.now) a.index a.fix c.correct-corrected.ensures c.if-refusal-ne0.false)
+
+pub overflow_add-e : goal.overflow_add-e
+overflow_add-e c = search (rules, let a = c.args in stretch-small a.inverse a.s.now (kept_of a.list.now a.results.now a.track.now) a.index a.fix c.correct-corrected.ensures c.if-refusal-ne0.false)
+
+pub overflow_mul-e : goal.overflow_mul-e
+overflow_mul-e c = search (rules, let a = c.args in stretch-small a.inverse a.s.now (kept_of a.list.now a.results.now a.track.now) a.index a.fix c.correct-corrected.ensures c.if-refusal-ne0.false)
+
+pub offset_bounds-list-a : goal.offset_bounds-list-a
+offset_bounds-list-a c = search (rules, let a = c.args in stretch-small a.inverse a.s.now (kept_of a.list.now a.results.now a.track.now) a.index a.fix c.correct-corrected.ensures c.if-refusal-ne0.false)
+
+pub shape_of-list : goal.shape_of-list
+shape_of-list c = c.list-1.given
+
+pub shape_of-results : goal.shape_of-results
+shape_of-results c = c.results-1.given
+
+pub shape_of-track : goal.shape_of-track
+shape_of-track c = c.track-1.given
+
+pub returns : goal.returns
+returns c =
+    let e = c.correct-corrected.ensures in
+    let told = rw (c.before-from.ensures, c.shift_of-shift.ensures, c.entry_at-entry.ensures) at c.pass-told.ensures in
+    (e, let a = c.args in stretch-met a.inverse a.s.now (kept_of a.list.now a.results.now a.track.now) a.index a.fix c.correct-corrected.ensures c.if-refusal-ne0.false (ap (λ (t : Tally). t.met) told))

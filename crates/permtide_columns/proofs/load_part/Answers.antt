@@ -1,0 +1,14 @@
+use borrow.Author.Rules.{rules}
+use Prim.Native.Nat.{◌-◌}
+use mathlib.Core.Path.{refl}
+use Rattle.blocks.proofs.Laws.{none_filled, one_more, all_filled}
+use Rattle.permtide_columns.proofs.load_part.Goals as goal
+
+pub loop-j-init : goal.loop-j-init
+loop-j-init c = none_filled refl
+
+pub loop-j-preserved : goal.loop-j-preserved
+loop-j-preserved c = one_more (search rules) (search rules) c.loop-j.invariant
+
+pub returns : goal.returns
+returns c = all_filled (search rules) c.loop-j.invariant

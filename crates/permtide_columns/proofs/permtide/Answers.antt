@@ -1,0 +1,14 @@
+-- Columns of one length go through `permtide_level`; others stand for no tuple (`flat-uneven`), so
+-- nothing passes. Assumes nothing.
+use mathlib.Core.Path.{sym, ◌∙◌}
+use Rattle.columns.proofs.Laws.{level_told, flat-uneven}
+use Rattle.permtide_columns.proofs.permtide.Goals as goal
+
+pub permtide_level-requires : goal.permtide_level-requires
+permtide_level-requires c = level_told _ _ _ _ (sym c.level.ensures ∙ c.if-level.true)
+
+pub returns-then-level : goal.returns-then-level
+returns-then-level c = c.permtide_level.ensures
+
+pub returns : goal.returns
+returns c = rw (flat-uneven _ _ _ _ (sym c.level.ensures ∙ c.if-level.false))

@@ -1,0 +1,6 @@
+-- One case for each variant. Calls are replaced by what they ensure; the definition is left.
+-- Assumes nothing.
+use Rattle.plans.proofs.start.Goals as goal
+
+pub returns-in-HelmertEither : goal.returns-in-HelmertEither
+returns-in-HelmertEither c = rw c.plan-1.given.1 c.start.ensures

@@ -1,0 +1,15 @@
+-- One case for each answer of the kernel. Assumes nothing.
+use mathlib.Core.Path.{sym, ap, ◌∙◌}
+use Rattle.trig.specs.declared.Angle.{Angle}
+use Rattle.reach_entries.specs.Codes.{sine_told_of}
+use Rattle.reach_entries.proofs.sillfeather_sin_cos_reach.Goals as goal
+
+pub returns-in-Pair : goal.returns-in-Pair
+returns-in-Pair c =
+    let a = c.args in
+    ap (λ (told : Angle). sine_told_of told a.s.now a.c.now) (sym c.p-1.given.1 ∙ c.sin_cos.ensures)
+
+pub returns-in-OutOfReach : goal.returns-in-OutOfReach
+returns-in-OutOfReach c =
+    let a = c.args in
+    ap (λ (told : Angle). sine_told_of told a.s.now a.c.now) (sym c.enum_told-1.given.1 ∙ c.sin_cos.ensures)

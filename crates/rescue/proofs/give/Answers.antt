@@ -1,0 +1,92 @@
+-- One case for each way through the tests: `gives-15`, `gives-reader` and `gives-sheet`, from what the
+-- calls ensure. Room and list hold what is put there because the second test was kept. Assumes
+-- nothing.
+use native.Mathlib.Omega.{arith}
+use mathlib.Core.Path.{◌≡◌, sym, ap, ◌∙◌}
+use mathlib.Core.Bool.{true, false, ◌||◌}
+use Prim.Native.Nat.{ℕ, ◌+◌, ◌*◌, ◌≤◌}
+use borrow.Author.Tests.{ltb-false}
+use lib.Dec.{ltb}
+use lib.ListN.{length}
+use Rattle.words.specs.Words.{put}
+use Rattle.sheet.specs.declared.Refusal.{Refusal}
+use Rattle.sheet.specs.Rules.{refusal_of}
+use Rattle.sheet.proofs.Order.{neither}
+use Rattle.rescue.specs.Rebuilt.{count_word, rebuilt_of}
+use Rattle.rescue.specs.Changes.{changes_in, changes_of, list_of}
+use Rattle.rescue.specs.Rules.{refusal15}
+use Rattle.rescue.proofs.Rebuildable.{can_be_rebuilt}
+use Rattle.rescue.proofs.Rebuilding.{rebuilt-length}
+use Rattle.rescue.proofs.Listing.{list_length}
+use Rattle.rescue.proofs.Giving.{changes_are, gives-15, gives-reader, gives-sheet}
+use Rattle.rescue.proofs.give.Goals as goal
+
+pub count_changes-changed-requires : goal.count_changes-changed-requires
+count_changes-changed-requires c =
+    let ok = can_be_rebuilt c.args.s.now c.requires.0 in
+    omega (arith, c.wide.ensures.0 ∙ c.read32.ensures, ok.few-steps)
+
+pub returns-then-room-s : goal.returns-then-room-s
+unfolding refusal15
+returns-then-room-s c =
+    let a = c.args in
+    let s = a.s.now in
+    let room = a.room.now in
+    let list = a.list.now in
+    let count : c.wide.result ≡ count_word s = c.wide.ensures.0 ∙ c.read32.ensures in
+    let all : changes_in s a.r.now (4 + 4 * c.wide.result) ≡ changes_of s = changes_are s a.r.now (4 + 4 * c.wide.result) c.requires.1 (ap (λ (c : ℕ). 4 + 4 * c) count) in
+    let same : c.count_changes-changed.result ≡ length (changes_of s) = c.count_changes-changed.ensures.0 ∙ ap length all in
+    let short : refusal15 s (length room) (length list) ≡ true = ap (λ (c : ℕ). ltb (length room) (length s) || ltb (length list) (3 * c)) (sym same) ∙ c.if-room-s.true in
+    rw (c.refused.ensures, c.of_call.ensures) (sym (gives-15 s room list c.requires.0 short))
+
+pub returns-then-refusal-ne0 : goal.returns-then-refusal-ne0
+unfolding refusal15
+returns-then-refusal-ne0 c =
+    let a = c.args in
+    let s = a.s.now in
+    let room = a.room.now in
+    let list = a.list.now in
+    let count : c.wide.result ≡ count_word s = c.wide.ensures.0 ∙ c.read32.ensures in
+    let all : changes_in s a.r.now (4 + 4 * c.wide.result) ≡ changes_of s = changes_are s a.r.now (4 + 4 * c.wide.result) c.requires.1 (ap (λ (c : ℕ). 4 + 4 * c) count) in
+    let same : c.count_changes-changed.result ≡ length (changes_of s) = c.count_changes-changed.ensures.0 ∙ ap length all in
+    let fits : refusal15 s (length room) (length list) ≡ false = ap (λ (c : ℕ). ltb (length room) (length s) || ltb (length list) (3 * c)) (sym same) ∙ c.if-room-s.false in
+    let read : c.check-refusal.result ≡ refusal_of (rebuilt_of s) = c.check-refusal.ensures ∙ ap refusal_of c.requires.1 in
+    let number : (refusal_of (rebuilt_of s)).number ≡ 0 → ⊥ = λ e. c.if-refusal-ne0.true (ap (λ (x : Refusal). x.number) read ∙ e) in
+    rw (c.refused-then-refusal-ne0.ensures, read) (sym (gives-reader s room list c.requires.0 fits number))
+
+pub copy-requires : goal.copy-requires
+copy-requires c =
+    let ok = can_be_rebuilt c.args.s.now c.requires.0 in
+    let long : length c.args.r.now ≡ length c.args.s.now = ap length c.requires.1 ∙ rebuilt-length c.args.s.now ok.inside in
+    let a = c.args in
+    let room : length a.s.now ≤ length a.room.now =
+    ltb-false (length a.room.now) (length a.s.now)
+    (neither (ltb (length a.room.now) (length a.s.now)) (ltb (length a.list.now) (3 * c.count_changes-changed.result)) c.if-room-s.false).0 in
+    omega (arith, long, room)
+
+pub list_changes-requires : goal.list_changes-requires
+list_changes-requires c =
+    let s = c.args.s.now in
+    let ok = can_be_rebuilt s c.requires.0 in
+    let a = c.args in
+    let room : 3 * c.count_changes-changed.result ≤ length a.list.now =
+    ltb-false (length a.list.now) (3 * c.count_changes-changed.result)
+    (neither (ltb (length a.room.now) (length a.s.now)) (ltb (length a.list.now) (3 * c.count_changes-changed.result)) c.if-room-s.false).1 in
+    (omega (arith, c.wide.ensures.0 ∙ c.read32.ensures, ok.few-steps), rw list_length (omega (arith, c.count_changes-changed.ensures.0, room)))
+
+pub returns : goal.returns
+unfolding refusal15
+returns c =
+    let a = c.args in
+    let s = a.s.now in
+    let room = a.room.now in
+    let list = a.list.now in
+    let count : c.wide.result ≡ count_word s = c.wide.ensures.0 ∙ c.read32.ensures in
+    let all : changes_in s a.r.now (4 + 4 * c.wide.result) ≡ changes_of s = changes_are s a.r.now (4 + 4 * c.wide.result) c.requires.1 (ap (λ (c : ℕ). 4 + 4 * c) count) in
+    let same : c.count_changes-changed.result ≡ length (changes_of s) = c.count_changes-changed.ensures.0 ∙ ap length all in
+    let fits : refusal15 s (length room) (length list) ≡ false = ap (λ (c : ℕ). ltb (length room) (length s) || ltb (length list) (3 * c)) (sym same) ∙ c.if-room-s.false in
+    let read : c.check-refusal.result ≡ refusal_of (rebuilt_of s) = c.check-refusal.ensures ∙ ap refusal_of c.requires.1 in
+    let number : (refusal_of (rebuilt_of s)).number ≡ 0 = ap (λ (x : Refusal). x.number) (sym read) ∙ c.if-refusal-ne0.false in
+    let sheet : c.copy.new.0 ≡ put room 0 (rebuilt_of s) = c.copy.ensures ∙ ap (put room 0) c.requires.1 in
+    let changes : c.list_changes.new.0 ≡ put list 0 (list_of (changes_of s)) = c.list_changes.ensures ∙ ap (λ l. put list 0 (list_of l)) all in
+    rw (sheet, changes, read, same) (sym (gives-sheet s room list c.requires.0 fits number))

@@ -1,0 +1,89 @@
+-- A refusal's text is what `put_refused` writes. Accepted, the mended sheet stands at the rescue's room's
+-- start (`sheet-stands`) and its changes at the list's (`changes-stand`), so that what
+-- `put_rescued` reads there are the rebuilt sheet and the lines of its changes (`lines_are`). Assumes
+-- nothing.
+use native.Mathlib.Omega.{arith}
+use mathlib.Core.Path.{◌≡◌, sym, ap, ◌∙◌}
+use mathlib.Core.List.{List}
+use Prim.Native.Nat.{ℕ, ◌*◌}
+use borrow.Author.Tests.{eq-eqb, ne_eqb}
+use lib.ListN.{length, take}
+use lib.Seq.{length-take-le}
+use Rattle.text.specs.Text.{text, appended}
+use Rattle.sheet.specs.declared.Refusal.{Refusal}
+use Rattle.rescue.specs.Rebuilt.{rebuilt_of}
+use Rattle.rescue.specs.Changes.{changes_of, list_of}
+use Rattle.rescue.specs.Rules.{rescue_refusal_of, RescueOutcome}
+use Rattle.rescue.proofs.Laws.{sheet-stands, changes-stand, changes-counted}
+use Rattle.rescue_text.specs.RescueText.{change_lines, lines_from, rescued_around, rescue_text}
+use Rattle.rescue_text.proofs.Lines.{lines_are, room-holds, list-holds, answered}
+use Rattle.rescue_text.proofs.answer.Goals as goal
+
+pub returns-then-refusal-ne0 : goal.returns-then-refusal-ne0
+unfolding rescue_text
+returns-then-refusal-ne0 c =
+    let a = c.args in
+    let s = a.s.now in
+    let sheet = a.sheet.now in
+    let list = a.list.now in
+    let e = c.rescue-rescued.ensures in
+    let refusal : c.rescue-rescued.result.refusal ≡ rescue_refusal_of s (length sheet) (length list) = ap (λ (o : RescueOutcome). o.answer.refusal) e ∙ answered s sheet list in
+    let number : (rescue_refusal_of s (length sheet) (length list)).number ≡ 0 → ⊥ = λ z. c.if-refusal-ne0.true (ap (λ (x : Refusal). x.number) refusal ∙ z) in
+    rw (ne_eqb (rescue_refusal_of s (length sheet) (length list)).number 0 number, ← refusal) c.put_refused.ensures
+
+pub slice_bounds-put_rescued-end : goal.slice_bounds-put_rescued-end
+slice_bounds-put_rescued-end c =
+    let a = c.args in
+    let s = a.s.now in
+    let sheet = a.sheet.now in
+    let list = a.list.now in
+    let e = c.rescue-rescued.ensures in
+    let refusal : c.rescue-rescued.result.refusal ≡ rescue_refusal_of s (length sheet) (length list) = ap (λ (o : RescueOutcome). o.answer.refusal) e ∙ answered s sheet list in
+    let number : (rescue_refusal_of s (length sheet) (length list)).number ≡ 0 = ap (λ (x : Refusal). x.number) (sym refusal) ∙ c.if-refusal-ne0.false in
+    omega (arith, room-holds s (length sheet) (length list) number)
+
+pub slice_bounds-put_rescued-end-2 : goal.slice_bounds-put_rescued-end-2
+slice_bounds-put_rescued-end-2 c =
+    let a = c.args in
+    let s = a.s.now in
+    let sheet = a.sheet.now in
+    let list = a.list.now in
+    let e = c.rescue-rescued.ensures in
+    let refusal : c.rescue-rescued.result.refusal ≡ rescue_refusal_of s (length sheet) (length list) = ap (λ (o : RescueOutcome). o.answer.refusal) e ∙ answered s sheet list in
+    let number : (rescue_refusal_of s (length sheet) (length list)).number ≡ 0 = ap (λ (x : Refusal). x.number) (sym refusal) ∙ c.if-refusal-ne0.false in
+    sym (length-take-le _ _ (omega (arith, room-holds s (length sheet) (length list) number)))
+
+pub put_rescued-requires : goal.put_rescued-requires
+put_rescued-requires c =
+    let a = c.args in
+    let s = a.s.now in
+    let sheet = a.sheet.now in
+    let list = a.list.now in
+    let e = c.rescue-rescued.ensures in
+    let refusal : c.rescue-rescued.result.refusal ≡ rescue_refusal_of s (length sheet) (length list) = ap (λ (o : RescueOutcome). o.answer.refusal) e ∙ answered s sheet list in
+    let number : (rescue_refusal_of s (length sheet) (length list)).number ≡ 0 = ap (λ (x : Refusal). x.number) (sym refusal) ∙ c.if-refusal-ne0.false in
+    let counted : c.rescue-rescued.result.changed ≡ length (changes_of s) = ap (λ (o : RescueOutcome). o.answer.changed) e ∙ changes-counted s sheet list number in
+    omega (arith, counted, list-holds s (length sheet) (length list) number)
+
+pub returns : goal.returns
+unfolding rescue_text
+returns c =
+    let a = c.args in
+    let s = a.s.now in
+    let sheet = a.sheet.now in
+    let list = a.list.now in
+    let e = c.rescue-rescued.ensures in
+    let refusal : c.rescue-rescued.result.refusal ≡ rescue_refusal_of s (length sheet) (length list) = ap (λ (o : RescueOutcome). o.answer.refusal) e ∙ answered s sheet list in
+    let number : (rescue_refusal_of s (length sheet) (length list)).number ≡ 0 = ap (λ (x : Refusal). x.number) (sym refusal) ∙ c.if-refusal-ne0.false in
+    let counted : c.rescue-rescued.result.changed ≡ length (changes_of s) = ap (λ (o : RescueOutcome). o.answer.changed) e ∙ changes-counted s sheet list number in
+    let stands : take (length s) c.rescue-rescued.new.1.0 ≡ rebuilt_of s = ap (λ (o : RescueOutcome). take (length s) o.room) e ∙ sheet-stands s sheet list number in
+    let changes : take (3 * length (changes_of s)) c.rescue-rescued.new.1.1.0 ≡ list_of (changes_of s) =
+    ap (λ (o : RescueOutcome). take (3 * length (changes_of s)) o.list) e ∙ changes-stand s sheet list number in
+    let lines : lines_from c.rescue-rescued.new.1.1.0 c.rescue-rescued.result.changed 0 ≡ change_lines (changes_of s) =
+    ap (λ (k : ℕ). lines_from c.rescue-rescued.new.1.1.0 k 0) counted ∙ lines_are c.rescue-rescued.new.1.1.0 (changes_of s) changes in
+    rw (eq-eqb (rescue_refusal_of s (length sheet) (length list)).number 0 number)
+    (c.put_rescued.ensures
+    ∙ ap (appended (text a.room.now 0))
+    (ap (λ (l : List ℕ). rescued_around c.rescue-rescued.result.changed l (take (length s) c.rescue-rescued.new.1.0)) lines
+    ∙ ap (λ (k : ℕ). rescued_around k (change_lines (changes_of s)) (take (length s) c.rescue-rescued.new.1.0)) counted
+    ∙ ap (rescued_around (length (changes_of s)) (change_lines (changes_of s))) stands))

@@ -1,0 +1,93 @@
+use Prim.Native.Nat.{◌-◌}
+use native.Mathlib.Omega.{arith}
+use mathlib.Core.Path.{refl, sym, ◌∙◌}
+use Rattle.columns.proofs.Passed.{passed_none, passed_on}
+use Rattle.plans.specs.Plans.{plan_pass_of}
+use Rattle.step_windows.proofs.Parts.{room_rows, room_back, fits-list, last_left, part-taken, part_length, part-put, passed-window, passed-met, part-few, passed-list, passed-count}
+use Rattle.plans.specs.Lent.{lent_of}
+use borrow.Author.Rules.{rules}
+use Rattle.step_windows.proofs.over.Goals as goal
+
+pub loop-i-init : goal.loop-i-init
+loop-i-init c = (omega arith, c.room-x.ensures, c.room-y.ensures, c.room-z.ensures, c.room-t.ensures, refl, passed_none _ _ _ _, search rules, passed_none _ _ _ _)
+
+pub slice_bounds-window-end-in-loop-i : goal.slice_bounds-window-end-in-loop-i
+slice_bounds-window-end-in-loop-i c = let l = c.loop-i in sym (room_rows l.x c.rows_of-m.result l.invariant.1 c.rows_of-m.ensures.1)
+
+pub slice_bounds-window-end-in-loop-i-2 : goal.slice_bounds-window-end-in-loop-i-2
+slice_bounds-window-end-in-loop-i-2 c = let l = c.loop-i in sym (room_rows l.y c.rows_of-m.result l.invariant.2 c.rows_of-m.ensures.1)
+
+pub slice_bounds-window-end-in-loop-i-3 : goal.slice_bounds-window-end-in-loop-i-3
+slice_bounds-window-end-in-loop-i-3 c = let l = c.loop-i in sym (room_rows l.z c.rows_of-m.result l.invariant.3 c.rows_of-m.ensures.1)
+
+pub slice_bounds-window-end-in-loop-i-4 : goal.slice_bounds-window-end-in-loop-i-4
+slice_bounds-window-end-in-loop-i-4 c = let l = c.loop-i in sym (room_rows l.t c.rows_of-m.result l.invariant.4 c.rows_of-m.ensures.1)
+
+pub window-part-requires : goal.window-part-requires
+window-part-requires c =
+    let l = c.loop-i in
+    let r = c.rows_of-m.ensures in
+    let m = c.rows_of-m.result in
+    let k = part_length l.list l.i m (fits-list l.i m l.invariant.0 l.invariant.5 r.0 c.loop-i-test.true) in
+    let x = room_rows l.x m l.invariant.1 r.1 in
+    let y = room_rows l.y m l.invariant.2 r.1 in
+    let z = room_rows l.z m l.invariant.3 r.1 in
+    let t = room_rows l.t m l.invariant.4 r.1 in
+    ((y ∙ sym x, z ∙ sym x, t ∙ sym x), omega (arith, x, k), omega (arith, x, l.invariant.0, l.invariant.7, r.0, c.loop-i-test.true))
+
+pub overflow_add-count : goal.overflow_add-count
+overflow_add-count c =
+    let l = c.loop-i in
+    let r = c.rows_of-m.ensures in
+    let m = c.rows_of-m.result in
+    let e = c.window-part.ensures in
+    let more = c.loop-i-test.true in
+    let fits = fits-list l.i m l.invariant.0 l.invariant.5 r.0 more in
+    search (rules, l.invariant.0, l.invariant.7, l.invariant.6.few, part-few _ _ _ l.list l.i m fits e.2, r.0, more)
+
+pub overflow_add-met : goal.overflow_add-met
+overflow_add-met c =
+    let l = c.loop-i in
+    let r = c.rows_of-m.ensures in
+    let m = c.rows_of-m.result in
+    let e = c.window-part.ensures in
+    let more = c.loop-i-test.true in
+    let fits = fits-list l.i m l.invariant.0 l.invariant.5 r.0 more in
+    search (rules, l.invariant.0, l.invariant.7, l.invariant.8.few, part-few _ _ _ l.list l.i m fits e.3, r.0, more)
+
+pub overflow_add-i : goal.overflow_add-i
+overflow_add-i c = search (rules, c.loop-i.invariant.0, c.loop-i.invariant.7, c.rows_of-m.ensures.0, c.loop-i-test.true)
+
+pub loop-i-smaller : goal.loop-i-smaller
+loop-i-smaller c = let l = c.loop-i in let r = c.rows_of-m.ensures in let more = c.loop-i-test.true in omega (arith, l.invariant.0, r.0, r.2 (omega (arith, more)), more)
+
+pub loop-i-preserved : goal.loop-i-preserved
+loop-i-preserved c =
+    let l = c.loop-i in
+    let r = c.rows_of-m.ensures in
+    let m = c.rows_of-m.result in
+    let e = c.window-part.ensures in
+    let more = c.loop-i-test.true in
+    let fits = fits-list l.i m l.invariant.0 l.invariant.5 r.0 more in
+    let a = c.args in
+    let k = part-taken l.list l.i m in
+    let w = c.window-part.new in (
+      omega (arith, l.invariant.0, r.0, more),
+      room_back l.x w.1.1.1.1.0 m l.invariant.1 c.x-in-loop-i-1.given,
+      room_back l.y w.1.1.1.1.1.0 m l.invariant.2 c.y-in-loop-i-1.given,
+      room_back l.z w.1.1.1.1.1.1.0 m l.invariant.3 c.z-in-loop-i-1.given,
+      room_back l.t w.1.1.1.1.1.1.1.0 m l.invariant.4 c.t-in-loop-i-1.given,
+      search (rules, l.invariant.5, c.list-1.given),
+      passed_on l.invariant.6 (passed-window m fits (part-put l.list l.i m _) (rw k at e.0) (rw k at e.1) (rw k at e.2)),
+      l.invariant.7,
+      passed_on l.invariant.8 (passed-met (plan_pass_of (lent_of a.velocities.now a.marks.now a.grid.now) a.plan) m fits (part-put l.list l.i m _) (rw k at e.0) (rw k at e.1) (rw k at e.3)),
+    )
+
+pub returns : goal.returns
+returns c =
+    let l = c.loop-i in
+    let st = c.start-state.ensures in
+    let end = last_left l.i l.invariant.5 c.loop-i-test.false in
+    let counted = passed-count l.i end l.invariant.6 in
+    let met = passed-count l.i end l.invariant.8 in
+    (rw st at (passed-list l.i end l.invariant.6), rw (← st) (λ j. record { count = counted j; met = met j }))

@@ -1,0 +1,32 @@
+use native.Mathlib.Omega.{arith}
+use Prim.Native.Nat.{◌+◌, ◌*◌, ◌-◌, ◌≤◌}
+use mathlib.Core.Path.{refl, sym, ◌∙◌}
+use lib.ListN.{length}
+use Rattle.tuple.specs.declared.Tuple.{Tuple}
+use Rattle.stretch.proofs.Track.{tracking_start, tracking-list}
+use Rattle.stretch_flat_track.proofs.Windows.{column_length, tracking-window}
+use Rattle.stretch_flat_track.proofs.track_by_windows.Goals as goal
+
+pub loop-i-init : goal.loop-i-init
+loop-i-init c =
+    let k = column_length (λ (v : Tuple). v.t) c.args.list.now in
+    (omega (arith, c.requires.0), c.requires.1, tracking_start _ _ _ _ (omega (arith, k, c.requires.0, c.requires.1)))
+
+pub track_part-state-requires : goal.track_part-state-requires
+track_part-state-requires c =
+    let g = c.track_part-arg-1.given.2 in
+    (omega (arith, g), omega (arith, g, c.window-w.ensures.2), c.track_part-arg-in-loop-i-1.given.2 ∙ sym g)
+
+pub loop-i-preserved : goal.loop-i-preserved
+loop-i-preserved c =
+    let l = c.loop-i in
+    let w = c.window-w.result in
+    let made = c.track_part-state.ensures in
+    let fits : 4 * (l.i + w) ≤ length c.args.list.now = omega (arith, l.invariant.0, c.window-w.ensures.1, c.loop-i-test.true) in
+    (l.invariant.0, c.track-1.given.1 ∙ l.invariant.1, tracking-window c.args.list.now l.invariant.2 w c.track_part-state.new.1.1.1.0 fits c.track-1.given.0 made.0 made.1 refl c.track-1.given.1)
+
+pub returns : goal.returns
+returns c =
+    let l = c.loop-i in
+    let k = column_length (λ (v : Tuple). v.t) c.args.list.now in
+    tracking-list l.invariant.2 (omega (arith, k, l.invariant.0, c.loop-i-test.false))

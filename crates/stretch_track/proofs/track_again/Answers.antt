@@ -1,0 +1,29 @@
+-- Where the track has one row for each time (`of_rows_told`), `track_until` writes it; else nothing
+-- is written. Assumes nothing.
+use mathlib.Core.Path.{refl, sym, ◌∙◌}
+use lib.ListN.{length}
+use Rattle.stretch.proofs.Fits.{of_rows_told, where-true, where-false}
+use Rattle.stretch_track.proofs.track_again.Goals as goal
+
+pub track_until-requires : goal.track_until-requires
+track_until-requires c =
+    let a = c.args in
+    of_rows_told (length a.t.now) a.kx.now a.ky.now a.kz.now a.kt.now (sym c.of_rows.ensures ∙ c.if-of_rows.true)
+
+pub shape_of-kx-then-of_rows : goal.shape_of-kx-then-of_rows
+shape_of-kx-then-of_rows c = c.kx-1.given
+
+pub shape_of-ky-then-of_rows : goal.shape_of-ky-then-of_rows
+shape_of-ky-then-of_rows c = c.ky-1.given
+
+pub shape_of-kz-then-of_rows : goal.shape_of-kz-then-of_rows
+shape_of-kz-then-of_rows c = c.kz-1.given
+
+pub shape_of-kt-then-of_rows : goal.shape_of-kt-then-of_rows
+shape_of-kt-then-of_rows c = c.kt-1.given
+
+pub returns-then-of_rows : goal.returns-then-of_rows
+returns-then-of_rows c = where-true (sym c.of_rows.ensures ∙ c.if-of_rows.true) c.track_until.ensures
+
+pub returns : goal.returns
+returns c = where-false (sym c.of_rows.ensures ∙ c.if-of_rows.false) (refl, refl, refl, refl)

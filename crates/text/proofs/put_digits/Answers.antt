@@ -1,0 +1,26 @@
+use native.Mathlib.Omega.{arith}
+use native.Mathlib.Nat.{mod-lt}
+use borrow.Author.Rules.{rules}
+use Prim.Native.Nat.{◌-◌, ◌/◌}
+use Rattle.text.proofs.Powers.{highest_first, next_worth, no_digits}
+use Rattle.text.proofs.Laws.{going_starts, going_on, going_ends}
+use Rattle.text.proofs.put_digits.Goals as goal
+
+pub loop-left-init : goal.loop-left-init
+loop-left-init c = (search rules, rw c.within-place.ensures (going_starts _ _ _))
+
+pub digit-requires : goal.digit-requires
+digit-requires c = let m = mod-lt (c.args.n / c.loop-left.worth) {m = c.args.base} (search rules) in omega arith
+
+pub loop-left-preserved : goal.loop-left-preserved
+loop-left-preserved c =
+    let inv = c.loop-left.invariant in (
+      next_worth _ _ _ (search rules) (search rules) inv.0,
+      going_on _ _ inv.1 c.put_byte-place.ensures (rw c.digit.ensures (highest_first _ _ _ _ (search rules) (search rules) inv.0)),
+    )
+
+pub shape_of-room : goal.shape_of-room
+shape_of-room c = c.loop-left.invariant.1.as_long
+
+pub returns : goal.returns
+returns c = going_ends c.loop-left.invariant.1 (no_digits _ _ _ (search rules))

@@ -1,0 +1,22 @@
+-- The window into columns, the steps over those, and back: three equations joined. Assumes nothing.
+use mathlib.Core.Path.{◌∙◌}
+use borrow.Author.Rules.{rules}
+use Rattle.step_windows.proofs.Back.{to_rows, from_rows}
+use Rattle.windows.proofs.window.Goals as goal
+
+pub all_steps-standings-requires : goal.all_steps-standings-requires
+all_steps-standings-requires c =
+    let p = c.requires in
+    (p.0, (search (rules, c.x-1.given, c.y-1.given, p.1.0), search (rules, c.x-1.given, c.z-1.given, p.1.1), search (rules, c.x-1.given, c.t-1.given, p.1.2)), search (rules, c.x-1.given, p.3), p.4)
+
+pub returns : goal.returns
+returns c =
+    let p = c.requires in
+    let there = to_rows _ _ _ _ _ c.to_columns.ensures p.1 p.2 in
+    let e = c.all_steps-standings.ensures in
+    let back = from_rows _ _ _ _ _ c.to_flat.ensures (
+      search (rules, c.x-1.given, c.x-2-1.given, c.y-1.given, c.y-2-1.given, p.1.0),
+      search (rules, c.x-1.given, c.x-2-1.given, c.z-1.given, c.z-2-1.given, p.1.1),
+      search (rules, c.x-1.given, c.x-2-1.given, c.t-1.given, c.t-2-1.given, p.1.2),
+    ) (search (rules, c.x-1.given, c.x-2-1.given, p.2)) in
+    rw (← there) (back ∙ e.0, e.1)
