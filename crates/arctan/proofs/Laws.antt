@@ -122,6 +122,10 @@ both_infinite_is_the_diagonal false false = refl
 -- what lies strictly between two finite numbers, the lower without sign, is positive and finite
 strictly_between : (low high r : Float) → sign_of low ≡ false → T (finite low) → T (finite high) → lt low r ≡ true → lt r high ≡ true → T (positive r)
 unfolding lt sign_of
+strictly_between nan high r s f g l h = elim f [ ]
+strictly_between (inf _) high r s f g l h = elim f [ ]
+strictly_between (fin false m e) nan r s f g l h = elim g [ ]
+strictly_between (fin false m e) (inf _) r s f g l h = elim g [ ]
 strictly_between (fin true m e) high r s f g l h = absurd (true≢false s)
 strictly_between (fin false m e) (fin t n d) nan s f g l h = absurd (true≢false (sym l))
 strictly_between (fin false m e) (fin t n d) (inf true) s f g l h = absurd (true≢false (sym l))

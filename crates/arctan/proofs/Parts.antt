@@ -4,7 +4,7 @@ use mathlib.Core.Path.{◌≡◌, refl, sym, ap, ◌∙◌}
 use Prim.Native.Nat.{ℕ, zero, suc, ◌*◌, ◌<◌}
 use native.Mathlib.Nat.{zero-mul, mul-pos, zero-lt-suc}
 use native.Mathlib.Omega.{arith}
-use mathlib.Core.Bool.{Bool, true, false, cond, true≢false, and_false}
+use mathlib.Core.Bool.{Bool, true, false, cond, true≢false, and-false}
 use lib.IntN.{ℤ, negsuc}
 use lib.Ieee.{Float, nan, inf, fin, of_bits, is_nan, neg, lt, eq, div, up, down}
 use lib.Ieee.Fits.{up_pos, down_pos}
@@ -67,7 +67,7 @@ zero_is_below n e d = lt-ltb (0 * up e * down d) (suc n * up d * down e) (let z 
 
 zero_is_not_moderate : (a : Float) (e : ℤ) → moderate a (fin false zero e) ≡ false
 unfolding moderate of_bits
-zero_is_not_moderate a e = rw (no_zero_is_above 1 (negsuc 699) e) (and_false (lt a (bits 0x6bb0_0000_0000_0000)))
+zero_is_not_moderate a e = rw (no_zero_is_above 1 (negsuc 699) e) (and-false (lt a (bits 0x6bb0_0000_0000_0000)))
 
 -- moderate magnitudes are neither NaN nor zero nor infinite
 moderate_parts_are_plain : (a b : Float) → sign_of a ≡ false → sign_of b ≡ false → moderate (cond (lt a b) b a) (cond (lt a b) a b) ≡ true → Plain a × Plain b
@@ -78,7 +78,7 @@ moderate_parts_are_plain (inf false) nan p q h = absurd (true≢false (sym h))
 moderate_parts_are_plain (inf false) (inf t) p q h = absurd (true≢false (sym h))
 moderate_parts_are_plain (inf false) (fin t n d) p q h = absurd (true≢false (sym h))
 moderate_parts_are_plain (fin true m e) b p q h = absurd (true≢false p)
-moderate_parts_are_plain (fin false m e) nan p q h = absurd (true≢false (sym h ∙ and_false (lt (fin false m e) (bits 0x6bb0_0000_0000_0000))))
+moderate_parts_are_plain (fin false m e) nan p q h = absurd (true≢false (sym h ∙ and-false (lt (fin false m e) (bits 0x6bb0_0000_0000_0000))))
 moderate_parts_are_plain (fin false m e) (inf true) p q h = absurd (true≢false q)
 moderate_parts_are_plain (fin false m e) (inf false) p q h = absurd (true≢false (sym h))
 moderate_parts_are_plain (fin false m e) (fin true n d) p q h = absurd (true≢false q)

@@ -4,7 +4,7 @@ use mathlib.Core.Path.{◌≡◌, refl, sym, ap, ◌∙◌, subst}
 use Prim.Native.Nat.{ℕ, zero, ◌+◌, ◌*◌}
 use native.Mathlib.Nat.{add-zero, mul-one, zero-mul, mul_assoc, mul_comm, mul-le-mul_right, le-add_right, le_trans, le_of_eq, le_antisymm, mul-pos}
 use native.Mathlib.Omega.{arith}
-use mathlib.Core.Bool.{Bool, true, false, not, cond, ◌&&◌, ◌||◌, true≢false, or_comm, or_true, and_false}
+use mathlib.Core.Bool.{Bool, true, false, not, cond, ◌&&◌, ◌||◌, true≢false, or_comm, or-true, and-false}
 use lib.IntN.{ℤ, pos}
 use lib.Dec.{T}
 use lib.Ieee.{Float, nan, inf, fin, binary64, fits, is_nan, of_bits, neg, add, sum, lt, le, eq, round, up, down}
@@ -203,7 +203,7 @@ nan_beside_no_infinity x y i j =
 -- NaN exactly where a part is NaN and neither is infinite
 pub nan_exactly_if_a_part_is_and_none_infinite : (x y : Float) → is_nan (hypot_of x y) ≡ ((is_nan x || is_nan y) && not (infinite x || infinite y))
 unfolding hypot_of infinite is_nan
-nan_exactly_if_a_part_is_and_none_infinite (inf s) y = sym (and_false (is_nan y))
+nan_exactly_if_a_part_is_and_none_infinite (inf s) y = sym (and-false (is_nan y))
 nan_exactly_if_a_part_is_and_none_infinite nan (inf t) = refl
 nan_exactly_if_a_part_is_and_none_infinite (fin s m e) (inf t) = refl
 nan_exactly_if_a_part_is_and_none_infinite nan nan = nan_beside_no_infinity nan nan refl refl
@@ -247,7 +247,7 @@ pair_symmetric p q fp fq sp sq ip iq = go (lt p q) (lt q p) (is_nan p) (is_nan q
     go true false v w l g np nq = refl
     go false true v w l g np nq = refl
     go true true v w l g np nq = absurd (true≢false (sym g ∙ one_way p q l))
-    go false false true w l g np nq = nan-pair p q sp sq ip iq (rw np) ∙ sym (nan-pair q p sq sp iq ip (rw np (or_true (is_nan q))))
+    go false false true w l g np nq = nan-pair p q sp sq ip iq (rw np) ∙ sym (nan-pair q p sq sp iq ip (rw np (or-true (is_nan q))))
     go false false false true l g np nq = nan-pair p q sp sq ip iq (rw (np, nq)) ∙ sym (nan-pair q p sq sp iq ip (rw nq))
     go false false false false l g np nq = let e = level_magnitudes p q fp fq sp sq ip iq np nq l g in rw e
 
@@ -381,6 +381,12 @@ pair_bounds m n e d f g = go (lt p q)
 pub at_least_the_larger_part : (x y : Float) → T (fits binary64 x) → T (fits binary64 y) → T (finite x) → T (finite y)
     → le (larger (abs_of x) (abs_of y)) (hypot_of x y) ≡ true
 unfolding hypot_of infinite sign_of neg
+at_least_the_larger_part nan y f g i j = elim i [ ]
+at_least_the_larger_part (inf _) y f g i j = elim i [ ]
+at_least_the_larger_part (fin false m e) nan f g i j = elim j [ ]
+at_least_the_larger_part (fin false m e) (inf _) f g i j = elim j [ ]
+at_least_the_larger_part (fin true m e) nan f g i j = elim j [ ]
+at_least_the_larger_part (fin true m e) (inf _) f g i j = elim j [ ]
 at_least_the_larger_part (fin true m e) (fin true n d) f g i j = (pair_bounds m n e d (neg-fits binary64 (fin true m e) f) (neg-fits binary64 (fin true n d) g)).0
 at_least_the_larger_part (fin true m e) (fin false n d) f g i j = (pair_bounds m n e d (neg-fits binary64 (fin true m e) f) g).0
 at_least_the_larger_part (fin false m e) (fin true n d) f g i j = (pair_bounds m n e d f (neg-fits binary64 (fin true n d) g)).0
@@ -389,6 +395,12 @@ at_least_the_larger_part (fin false m e) (fin false n d) f g i j = (pair_bounds 
 pub at_most_the_sum_of_the_parts : (x y : Float) → T (fits binary64 x) → T (fits binary64 y) → T (finite x) → T (finite y)
     → le (hypot_of x y) (abs_of x ⊕ abs_of y) ≡ true
 unfolding hypot_of infinite sign_of neg
+at_most_the_sum_of_the_parts nan y f g i j = elim i [ ]
+at_most_the_sum_of_the_parts (inf _) y f g i j = elim i [ ]
+at_most_the_sum_of_the_parts (fin false m e) nan f g i j = elim j [ ]
+at_most_the_sum_of_the_parts (fin false m e) (inf _) f g i j = elim j [ ]
+at_most_the_sum_of_the_parts (fin true m e) nan f g i j = elim j [ ]
+at_most_the_sum_of_the_parts (fin true m e) (inf _) f g i j = elim j [ ]
 at_most_the_sum_of_the_parts (fin true m e) (fin true n d) f g i j = (pair_bounds m n e d (neg-fits binary64 (fin true m e) f) (neg-fits binary64 (fin true n d) g)).1
 at_most_the_sum_of_the_parts (fin true m e) (fin false n d) f g i j = (pair_bounds m n e d (neg-fits binary64 (fin true m e) f) g).1
 at_most_the_sum_of_the_parts (fin false m e) (fin true n d) f g i j = (pair_bounds m n e d f (neg-fits binary64 (fin true n d) g)).1

@@ -1,6 +1,6 @@
 -- What is true of the square root, for callers. Assumes nothing.
 use Rattle.std.proofs.Common.{◌≡◌, ℕ, zero, suc, ◌+◌, ◌-◌, ◌*◌, ◌/◌, ◌^◌, ◌<◌, Bool, true, false, not, ◌||◌, T, ltb, ℤ, pos, sym, refl, ap, ◌∙◌, subst, le_of_eq, lt_of_lt_of_le, add-zero, zero-lt-suc, mul-pos, zero-mul, mul-one, arith, ltb→lt, lt→ltb}
-use lib.Dec.{not__t}
+use lib.Dec.{not_T}
 use lib.Count.{count_trailing_zeros}
 use lib.Ieee.{Float, nan, inf, fin, binary64, fits, is_nan, lt, odd, size, minus, up, down}
 use lib.Ieee.Bits.{is_true, is_false}
@@ -49,7 +49,7 @@ below_zero m e =
     is_true (ltb 0 (suc m * up e * 1 + 0 * down e)) (lt→ltb 0 (suc m * up e * 1 + 0 * down e) (lt_of_lt_of_le (mul-pos (zero-lt-suc m) (up_pos e)) (le_of_eq (sym sum))))
 
 not_below : (a b : ℕ) → b ≡ 0 → ltb a b ≡ false
-not_below a b e = is_false (ltb a b) (not__t (ltb a b) (λ u. nothing (ltb→lt a b u)))
+not_below a b e = is_false (ltb a b) (not_T (ltb a b) (λ u. nothing (ltb→lt a b u)))
   where
     nothing : a < b → ⊥
     nothing h = omega arith

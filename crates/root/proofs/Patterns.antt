@@ -1,7 +1,7 @@
 -- The bit patterns of binary64: which are NaN's, and what number each of the others stands for.
 -- Assumes nothing.
 use Rattle.std.proofs.Common.{◌≡◌, ℕ, zero, suc, ◌+◌, ◌-◌, ◌*◌, ◌/◌, ◌%◌, ◌^◌, ◌<◌, ◌≤◌, Bool, true, false, cond, not, T, eqb, ltb, leb, ◌⊎◌, ℤ, pos, sym, refl, ap, ◌∙◌, subst, inl, inr, le_of_eq, lt_of_lt_of_le, lt_irrefl, mod-eq_of_lt, eq-or-lt_of_le, mul-pos, zero-mul, mul-one, not-le_of_lt, arith, le→leb, eqb→eq, ltb→lt, leb→le, pow_pos}
-use lib.Dec.{not__t}
+use lib.Dec.{not_T}
 use lib.Ieee.{Float, nan, inf, fin, binary64, odd, of_fields, of_bits, nan_bits, is_nan, lt, ne, up, down}
 use lib.Ieee.Compare.{nan_differs}
 use lib.Ieee.Bits.{is_false, is_true, cond_no, nan_bits_above}
@@ -16,12 +16,12 @@ of_bits_is b = refl
 plain : (b : ℕ) → b < 9223372036854775808 → of_bits binary64 b ≡ of_fields binary64 false (b / 4503599627370496) (b % 4503599627370496)
 plain b h =
     of_bits_is b
-    ∙ ap (λ (s : Bool). of_fields binary64 s (b % 9223372036854775808 / 4503599627370496) (b % 4503599627370496)) (is_false (leb 9223372036854775808 b) (not__t (leb 9223372036854775808 b) (λ u. not-le_of_lt h (leb→le 9223372036854775808 b u))))
+    ∙ ap (λ (s : Bool). of_fields binary64 s (b % 9223372036854775808 / 4503599627370496) (b % 4503599627370496)) (is_false (leb 9223372036854775808 b) (not_T (leb 9223372036854775808 b) (λ u. not-le_of_lt h (leb→le 9223372036854775808 b u))))
     ∙ ap (λ (x : ℕ). of_fields binary64 false (x / 4503599627370496) (b % 4503599627370496)) (mod-eq_of_lt h)
 
 under_ones : (t x : ℕ) → suc x < 2047 → of_fields binary64 false (suc x) t ≡ odd 53 false (4503599627370496 + t) x 1074
 unfolding of_fields
-under_ones t x h = cond_no (eqb (suc x) 2047) (cond (eqb t 0) (inf false) nan) (odd 53 false (4503599627370496 + t) x 1074) (not__t (eqb (suc x) 2047) (λ u. differ (eqb→eq (suc x) 2047 u)))
+under_ones t x h = cond_no (eqb (suc x) 2047) (cond (eqb t 0) (inf false) nan) (odd 53 false (4503599627370496 + t) x 1074) (not_T (eqb (suc x) 2047) (λ u. differ (eqb→eq (suc x) 2047 u)))
   where
     differ : suc x ≡ 2047 → ⊥
     differ e = omega arith
@@ -53,7 +53,7 @@ subnormal_value b h =
 pub no_nan : (b : ℕ) → b < 9218868437227405312 → T (not (nan_bits binary64 b))
 no_nan b h =
     let m : b % 9223372036854775808 ≡ b = mod-eq_of_lt (omega arith) in
-    subst (λ (t : Bool). T (not t)) (sym (nan_bits_above binary64 b)) (not__t (ltb 9218868437227405312 (b % 9223372036854775808)) (λ u. above (ltb→lt 9218868437227405312 (b % 9223372036854775808) u) m))
+    subst (λ (t : Bool). T (not t)) (sym (nan_bits_above binary64 b)) (not_T (ltb 9218868437227405312 (b % 9223372036854775808)) (λ u. above (ltb→lt 9218868437227405312 (b % 9223372036854775808) u) m))
   where
     above : 9218868437227405312 < b % 9223372036854775808 → b % 9223372036854775808 ≡ b → ⊥
     above k e = omega arith

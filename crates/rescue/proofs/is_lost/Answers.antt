@@ -2,7 +2,7 @@ use native.Mathlib.Omega.{arith}
 use mathlib.Core.Path.{◌≡◌, sym, ◌∙◌}
 use Prim.Native.Nat.{suc, ◌+◌, ◌*◌, ◌-◌}
 use native.Mathlib.Nat.{sub-zero}
-use mathlib.Core.Bool.{true, false, or_true}
+use mathlib.Core.Bool.{true, false, or-true}
 use borrow.Author.Tests.{lt-ltb, le-ltb, ltb-false}
 use lib.Dec.{eqb, ltb}
 use lib.ListN.{length}
@@ -21,13 +21,13 @@ pub returns-then-n : goal.returns-then-n
 unfolding refusal19
 returns-then-n c =
     let count = c.wide-n.ensures.0 ∙ c.read32.ensures in
-    simp (← count, c.if-n.true, or_true)
+    simp (← count, c.if-n.true, or-true)
 
 pub returns-then-s-end : goal.returns-then-s-end
 unfolding refusal19
 returns-then-s-end c =
     let count = c.wide-n.ensures.0 ∙ c.read32.ensures in
-    simp (← count, lt-ltb _ _ c.if-s-end.true, or_true)
+    simp (← count, lt-ltb _ _ c.if-s-end.true, or-true)
 
 pub loop-i-init : goal.loop-i-init
 unfolding start_of
@@ -44,7 +44,7 @@ returns-then-entry_broken c =
     let left : n - c.loop-i.i ≡ suc (n - (c.loop-i.i + 1)) = omega arith in
     let at : entry_broken s c.loop-i.i ≡ true = sym c.entry_broken.ensures ∙ c.if-entry_broken.true in
     let some : some_from (entry_broken s) n 0 ≡ true = c.loop-i.invariant.1.1.1.1 ∙ some-off _ _ _ _ left at in
-    rw (← count) (sym (simp (some, or_true)))
+    rw (← count) (sym (simp (some, or-true)))
 
 pub loop-i-preserved : goal.loop-i-preserved
 loop-i-preserved c =

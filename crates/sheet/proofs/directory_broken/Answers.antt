@@ -2,7 +2,7 @@ use native.Mathlib.Omega.{arith}
 use mathlib.Core.Path.{◌≡◌, sym, ◌∙◌}
 use Prim.Native.Nat.{suc, ◌+◌, ◌-◌}
 use native.Mathlib.Nat.{sub-zero}
-use mathlib.Core.Bool.{true, false, or_true}
+use mathlib.Core.Bool.{true, false, or-true}
 use borrow.Author.Tests.{eq-eqb, ne_eqb, lt-ltb, le-ltb}
 use lib.Dec.{ltb}
 use lib.ListN.{length}
@@ -38,7 +38,7 @@ returns-then-place_broken c =
     let left : a.n - c.loop-i.i ≡ suc (a.n - (c.loop-i.i + 1)) = omega arith in
     let at : place_broken a.s.now c.loop-i.i ≡ true = sym c.place_broken.ensures ∙ c.if-place_broken.true in
     let some : some_from (place_broken a.s.now) a.n 0 ≡ true = c.loop-i.invariant.1.1 ∙ some-off _ _ _ _ left at in
-    rw (← c.requires) (sym (simp (some, or_true)))
+    rw (← c.requires) (sym (simp (some, or-true)))
 
 pub loop-i-preserved : goal.loop-i-preserved
 loop-i-preserved c =

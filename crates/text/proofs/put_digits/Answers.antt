@@ -2,12 +2,15 @@ use native.Mathlib.Omega.{arith}
 use native.Mathlib.Nat.{mod-lt}
 use borrow.Author.Rules.{rules}
 use Prim.Native.Nat.{◌-◌, ◌/◌}
-use Rattle.text.proofs.Powers.{highest_first, next_worth, no_digits}
+use Rattle.text.proofs.Powers.{highest_first, next_worth, no_digits, worth_something}
 use Rattle.text.proofs.Laws.{going_starts, going_on, going_ends}
 use Rattle.text.proofs.put_digits.Goals as goal
 
 pub loop-left-init : goal.loop-left-init
 loop-left-init c = (search rules, rw c.within-place.ensures (going_starts _ _ _))
+
+pub nonzero_div-n : goal.nonzero_div-n
+nonzero_div-n c = let w = worth_something _ _ _ (search rules) (search rules) c.loop-left.invariant.0 in omega arith
 
 pub digit-requires : goal.digit-requires
 digit-requires c = let m = mod-lt (c.args.n / c.loop-left.worth) {m = c.args.base} (search rules) in omega arith

@@ -37,10 +37,10 @@ use denote.RattleType.{owns}
 use denote.Shadow.{pure_i}
 use denote.Laws.{Is, shows}
 use denote.Memory.{pointee}
-use denote.Plain.{uint__makes, bool__makes, bool_vals, bool__tells}
+use denote.Plain.{uint_Makes, bool_Makes, bool_vals, bool_Tells}
 use denote.Builtin.{u8, usize, f64, bool}
 use denote.Ref.{Bor, MutBor}
-use denote.Slice.{slice_ty, slice_val, MutSlice, ShrSlice, Room, heres, coded_holeys, mut_slice_at, shr_slice_vals, mut_slice__tells, shr_slice__tells, shr_slice_copy}
+use denote.Slice.{slice_ty, slice_val, MutSlice, ShrSlice, Room, heres, coded_holeys, mut_slice_at, shr_slice_vals, mut_slice_Tells, shr_slice_Tells, shr_slice_copy}
 use denote.Lend.{Held}
 use denote.Index.{row, place_is, elem_out, elem_put, opens_slice, closes_slice}
 use denote.Steps.{only, owned, nothing}
@@ -51,7 +51,7 @@ use denote.Triple.Call.{calls_at}
 use denote.Triple.Entry.{on_entry}
 use denote.Triple.Spec.{Meets, triple_of}
 use denote.Triple.Table.{entered, cited}
-use denote.Triple.Walked.{says, Stays, stay_slice, stay_none, stay_none_slice, walk_of, Goes-slice, Goes-none, Goes-none_slice, Walks, ends_at, walked, walk__meets}
+use denote.Triple.Walked.{says, Stays, stay_slice, stay_none, stay_none_slice, walk_of, Goes-slice, Goes-none, Goes-none_slice, Walks, ends_at, walked, walk_Meets}
 use denote.Triple.Clauses.{ensured, lasts}
 use denote.Exit.{yes}
 use denote.Signature.{plain}
@@ -322,7 +322,7 @@ module _ {M : Type 1} {𝓤 : Ura M} (𝓛 : Logic 𝓤) (mem : Memory → SProp
             qed 𝓛 (Tokens ∷ ‵ OwnV ∷ ‵ OwnM ∷ []) ∵ says ! few $ frame ! $
             nothing ! $ move ! (2 ∷ 0 ∷ []) $ fjoin ! $ move ! (1 ∷ 0 ∷ []) $ fjoin ! $
             owned ! T.the_row (Is T.the_row) (LL.makes T.the_type T'.the_plain 𝓛) u _ u-is $ fjoin ! $
-            owned ! usize (Is usize) (uint__makes 𝓛 w64) i _ (refl, i-fits) $ fjoin ! $
+            owned ! usize (Is usize) (uint_Makes 𝓛 w64) i _ (refl, i-fits) $ fjoin ! $
             owned ! C.the_row (Is C.the_row) (LL.makes C.the_type C'.the_plain 𝓛) at _ c-is $ fjoin ! $
             owned ! P.the_row (Is P.the_row) (EL.makes P.the_type P'.the_plain 𝓛) plan _ p-is $ fjoin ! $ done !
 
@@ -380,7 +380,7 @@ module _ {M : Type 1} {𝓤 : Ura M} (𝓛 : Logic 𝓤) (mem : Memory → SProp
       -- [what velocities and marks own; obs; the borrow]
       split ! $ nothing ! $ move ! (2 ∷ 0 ∷ []) $ fjoin ! $ move ! (1 ∷ 0 ∷ []) $ fjoin ! $
       owned ! S.the_row (Is S.the_row) (EL.makes S.the_type S'.the_plain 𝓛) step _ s-is $ fjoin ! $
-      owned ! bool (Is bool) (bool__makes 𝓛) inverse _ refl $ fjoin ! $ move ! (1 ∷ 2 ∷ []) $ fjoin ! $
+      owned ! bool (Is bool) (bool_Makes 𝓛) inverse _ refl $ fjoin ! $ move ! (1 ∷ 2 ∷ []) $ fjoin ! $
       pure_i ! (mut_slice_at T.the_row (x zs) (sl ∷ [])) (tt, (tt, tt)) (ap (λ (m : ℕ). slice_val (b, o) m ∷ []) (sym e), subst (Room T.the_row) (sym e) room) $ fjoin ! $ fjoin ! $
       owned ! Ta.the_row (Is Ta.the_row) (LL.makes Ta.the_type Ta'.the_plain 𝓛) tally _ t-is $ move ! (1 ∷ 0 ∷ []) $ done !
 
@@ -528,7 +528,7 @@ module _ {M : Type 1} {𝓤 : Ura M} (𝓛 : Logic 𝓤) (mem : Memory → SProp
       pass1 ! (init ! 20 refl (tt, (tt, (record { fits = v-fits }, tt)))) $ pass1 ! (init ! 18 refl (tt, (tt, (record { fits = m-fits }, tt)))) $ pass0 ! $
       -- [_14; _13; _12; _11; _10; _9; _8; _7; _6; _5; _4; _3; _2; _1; _0, two each; the tokens;
       -- what the arguments own]
-      nothing ! $ owned ! S.the_row (Is S.the_row) (EL.makes S.the_type S'.the_plain 𝓛) step _ s-is $ fjoin ! $ owned ! bool (Is bool) (bool__makes 𝓛) inverse _ refl $ fjoin ! $ nothing ! $
+      nothing ! $ owned ! S.the_row (Is S.the_row) (EL.makes S.the_type S'.the_plain 𝓛) step _ s-is $ fjoin ! $ owned ! bool (Is bool) (bool_Makes 𝓛) inverse _ refl $ fjoin ! $ nothing ! $
       use2 𝓛 (raw ((PlanOf 𝓛 mem run).pre (to-plan 𝓛 mem run inverse step sv))) (asks-plan 𝓛 mem run inverse step sv) $
       calls_at ! fm (PlanOf 𝓛 mem run) known-plan (to-plan 𝓛 mem run inverse step sv) (and_then ! (load ! (from ! (stop !)) (look ! 25 refl)) (and_then ! (load ! (from ! (stop !)) (look ! 23 refl)) (no_more !))) (λ pv.
       answers ! tt P.the_row (‵ ftrue) (λ r. ensured 𝓛 plan-of.ended (plan-of.clauses 𝓛 mem run) tt (inverse, (step, tt)) tt r) (λ r. r ≡ plan_of inverse step) (said-plan 𝓛 mem run inverse step) pv (id⊢ 𝓤 _) (λ plan ep p-is.
@@ -557,7 +557,7 @@ module _ {M : Type 1} {𝓤 : Ura M} (𝓛 : Logic 𝓤) (mem : Memory → SProp
   run-step-walks : Walks 𝓛 f.ended stayed (WpFn 𝓤 H 𝓣.C 𝓣.Λ function) (f.clauses 𝓛 mem run)
   run-step-walks = walked 𝓛 f.ended stayed (f.clauses 𝓛 mem run) (WpFn 𝓤 H 𝓣.C 𝓣.Λ function)
       (λ κs. (shr_slice_vals, (bool_vals, (EL.vals S.the_type S'.the_laws, (shr_slice_vals, (shr_slice_vals, tt))))))
-      (λ κs. (mut_slice__tells (named 0) κs.0 T.the_row, (bool__tells, (EL.tells S.the_type S'.the_laws, (shr_slice__tells (named 1) κs.1.0 f64, (shr_slice__tells (named 2) κs.1.1.0 u8, tt))))))
+      (λ κs. (mut_slice_Tells (named 0) κs.0 T.the_row, (bool_Tells, (EL.tells S.the_type S'.the_laws, (shr_slice_Tells (named 1) κs.1.0 f64, (shr_slice_Tells (named 2) κs.1.1.0 u8, tt))))))
       (λ κs qs bounds a g are. via 𝓤 _ (fst∗ 𝓤 _ (emp 𝓤))
       (walk 𝓛 mem run κs.0 κs.1.0 κs.1.1.0 qs.0 qs.1.0 qs.1.1.0 a.0.ref_ptr.0 a.0.ref_ptr.1 a.0.ghost_name a.0.now a.1.0 a.1.1.0 _ are.1.1.0 a.1.1.1.0 a.1.1.1.1.0 are.0.0.1
       are.1.1.1.0.0.1.0 are.1.1.1.1.0.0.1.0 𝓣 known-plan known-begin known-turn))
@@ -565,7 +565,7 @@ module _ {M : Type 1} {𝓤 : Ura M} (𝓛 : Logic 𝓤) (mem : Memory → SProp
   run-step-meets : Meets 𝓛 f.signature (WpFn 𝓤 H 𝓣.C 𝓣.Λ code.function) (f.spec 𝓛 mem run)
   run-step-meets =
       subst (λ (g : Fn). Meets 𝓛 f.signature (WpFn 𝓤 H 𝓣.C 𝓣.Λ g) (f.spec 𝓛 mem run)) (sym function-is)
-      (walk__meets 𝓛 f.ended stayed (
+      (walk_Meets 𝓛 f.ended stayed (
         Goes-slice 𝓛 3 0 tt (plain (λ _. T.the_row)),
         (
           Goes-none 𝓛 3 (λ _. bool) yes (λ κs x f. refl),

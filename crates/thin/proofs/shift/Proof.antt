@@ -36,10 +36,10 @@ use sound.WpLaws.{FmC, fm_of, WpFn-mono}
 use denote.RattleType.{owns}
 use denote.Laws.{Is, shows}
 use denote.Memory.{pointee}
-use denote.Plain.{uint__makes, uint__lawful, bool__makes, bool_vals, bool__tells}
+use denote.Plain.{uint_Makes, uint_Lawful, bool_Makes, bool_vals, bool_Tells}
 use denote.Builtin.{u8, usize, f64, bool}
 use denote.Ref.{Bor, MutBor}
-use denote.Slice.{slice_ty, slice_val, MutSlice, ShrSlice, Room, shr_slice_vals, mut_slice__tells, shr_slice__tells, shr_slice_copy}
+use denote.Slice.{slice_ty, slice_val, MutSlice, ShrSlice, Room, shr_slice_vals, mut_slice_Tells, shr_slice_Tells, shr_slice_copy}
 use denote.Steps.{only, owned, peeks, heard, nothing}
 use denote.Struct.Laws as LL
 use denote.Enum.Laws as EL
@@ -48,7 +48,7 @@ use denote.Triple.Call.{calls_at}
 use denote.Triple.Entry.{on_entry}
 use denote.Triple.Spec.{Meets, triple_of}
 use denote.Triple.Table.{entered, cited}
-use denote.Triple.Walked.{says, Stays, stay_slice, stay_none, stay_none_slice, walk_of, Goes-slice, Goes-none, Goes-none_slice, Walks, ends_at, walked, walk__meets}
+use denote.Triple.Walked.{says, Stays, stay_slice, stay_none, stay_none_slice, walk_of, Goes-slice, Goes-none, Goes-none_slice, Walks, ends_at, walked, walk_Meets}
 use denote.Triple.Clauses.{ensured, lasts}
 use denote.Exit.{yes}
 use denote.Signature.{plain}
@@ -269,7 +269,7 @@ module _ {M : Type 1} {𝓤 : Ura M} (𝓛 : Logic 𝓤) (mem : Memory → SProp
     asks-noted : Is An.the_row answer (av ∷ []) → place < 2 ^ 64 → Is Ta.the_row tally (tv ∷ []) → place < 16 → ent 𝓤 (sem 𝓛 ftrue) ((Noted 𝓛 mem run).pre to-noted)
     asks-noted is p-fits c-fits below =
         qed 𝓛 (‵ ftrue ∷ []) ∵ says ! below $ frame ! $ nothing ! $ owned ! Ta.the_row (Is Ta.the_row) (LL.makes Ta.the_type Ta'.the_plain 𝓛) tally _ c-fits $ fjoin ! $
-        owned ! usize (Is usize) (uint__makes 𝓛 w64) place _ (refl, p-fits) $ fjoin ! $ owned ! An.the_row (Is An.the_row) (LL.makes An.the_type An'.the_plain 𝓛) answer _ is $ fjoin ! $ done !
+        owned ! usize (Is usize) (uint_Makes 𝓛 w64) place _ (refl, p-fits) $ fjoin ! $ owned ! An.the_row (Is An.the_row) (LL.makes An.the_type An'.the_plain 𝓛) answer _ is $ fjoin ! $ done !
 
     abbrev Noted-ensured : Answer → SProp 𝓤
     Noted-ensured r = ensured 𝓛 noted.ended (noted.clauses 𝓛 mem run) tt (answer, (place, (tally, tt))) tt r
@@ -324,7 +324,7 @@ module _ {M : Type 1} {𝓤 : Ura M} (𝓛 : Logic 𝓤) (mem : Memory → SProp
     passes-refusal n-fits =
         qed 𝓛 ((Three ⊛ ‵ OwnS ⊛ ‵ OwnV ⊛ ‵ OwnM) ∷ []) ∵ split ! $ move ! (1 ∷ []) $ split ! $ move ! (1 ∷ []) $ split ! $
         -- [velocities; marks; s; the tokens]
-        nothing ! $ move ! (2 ∷ 0 ∷ []) $ fjoin ! $ move ! (1 ∷ 0 ∷ []) $ fjoin ! $ owned ! usize (Is usize) (uint__makes 𝓛 w64) n _ (refl, n-fits) $ fjoin ! $ move ! (1 ∷ 0 ∷ []) $ fjoin ! $ move ! (1 ∷ 0 ∷ []) $ join ! $ frame ! $ done !
+        nothing ! $ move ! (2 ∷ 0 ∷ []) $ fjoin ! $ move ! (1 ∷ 0 ∷ []) $ fjoin ! $ owned ! usize (Is usize) (uint_Makes 𝓛 w64) n _ (refl, n-fits) $ fjoin ! $ move ! (1 ∷ 0 ∷ []) $ fjoin ! $ move ! (1 ∷ 0 ∷ []) $ join ! $ frame ! $ done !
 
     asks-refusal : n < 2 ^ 64 → ent 𝓤 (sep 𝓤 (mean 𝓛 Sheet) (mean 𝓛 Others)) (sep 𝓤 ((RefusalOf 𝓛 mem run).pre to-refusal) (mean 𝓛 (‵ OwnS ⊛ ‵ OwnV ⊛ ‵ OwnM)))
     asks-refusal n-fits =
@@ -368,8 +368,8 @@ module _ {M : Type 1} {𝓤 : Ura M} (𝓛 : Logic 𝓤) (mem : Memory → SProp
 
     passes-next : n < 2 ^ 64 → i < n → ent 𝓤 (sep 𝓤 (mean 𝓛 One) (sem 𝓛 OwnS)) ((NextStep 𝓛 mem run).pre to-next)
     passes-next n-fits below =
-        qed 𝓛 (One ∷ ‵ OwnS ∷ []) ∵ says ! below $ frame ! $ nothing ! $ owned ! usize (Is usize) (uint__makes 𝓛 w64) i _ (refl, i-fits) $ fjoin ! $ owned ! usize (Is usize) (uint__makes 𝓛 w64) n _ (refl, n-fits) $ fjoin ! $
-        move ! (1 ∷ 0 ∷ []) $ fjoin ! $ owned ! bool (Is bool) (bool__makes 𝓛) inverse _ refl $ fjoin ! $ done !
+        qed 𝓛 (One ∷ ‵ OwnS ∷ []) ∵ says ! below $ frame ! $ nothing ! $ owned ! usize (Is usize) (uint_Makes 𝓛 w64) i _ (refl, i-fits) $ fjoin ! $ owned ! usize (Is usize) (uint_Makes 𝓛 w64) n _ (refl, n-fits) $ fjoin ! $
+        move ! (1 ∷ 0 ∷ []) $ fjoin ! $ owned ! bool (Is bool) (bool_Makes 𝓛) inverse _ refl $ fjoin ! $ done !
       where
         i-fits : i < 2 ^ 64
         i-fits = let h = below in let k = n-fits in omega arith
@@ -407,7 +407,7 @@ module _ {M : Type 1} {𝓤 : Ura M} (𝓛 : Logic 𝓤) (mem : Memory → SProp
         qed 𝓛 ((With ⊛ ‵ OwnAgain ⊛ ‵ OwnV ⊛ ‵ OwnM) ∷ []) ∵ split ! $ move ! (1 ∷ []) $ split ! $ move ! (1 ∷ []) $ split ! $
         -- [velocities; marks; the list; the tokens]
         nothing ! $ move ! (2 ∷ 0 ∷ []) $ fjoin ! $ move ! (1 ∷ 0 ∷ []) $ fjoin ! $ owned ! S.the_row (Is S.the_row) (EL.makes S.the_type S'.the_plain 𝓛) d.step _ is $ fjoin ! $
-        owned ! bool (Is bool) (bool__makes 𝓛) d.inverse _ refl $ fjoin ! $ move ! (1 ∷ 0 ∷ []) $ fjoin ! $ move ! (1 ∷ 0 ∷ []) $ join ! $ frame ! $ done !
+        owned ! bool (Is bool) (bool_Makes 𝓛) d.inverse _ refl $ fjoin ! $ move ! (1 ∷ 0 ∷ []) $ fjoin ! $ move ! (1 ∷ 0 ∷ []) $ join ! $ frame ! $ done !
 
     asks-run : Is S.the_row d.step (step-val d.step ∷ [])
         → ent 𝓤 (sep 𝓤 (A.lft (ν ∷ []) full_share) (sep 𝓤 (sem 𝓛 OwnAgain) (mean 𝓛 Others))) (sep 𝓤 ((RunStep 𝓛 mem run).pre to-run) (mean 𝓛 (‵ OwnV ⊛ ‵ OwnM)))
@@ -493,7 +493,7 @@ module _ {M : Type 1} {𝓤 : Ura M} (𝓛 : Logic 𝓤) (mem : Memory → SProp
       -- [s's token; s; the list; its token; the others]
       move ! (4 ∷ []) $ split ! $ move ! (5 ∷ 0 ∷ []) $ join ! $ move ! (2 ∷ 0 ∷ []) $ join ! $ frame ! $
       -- [velocities and marks; s; the list]
-      split ! $ nothing ! $ move ! (2 ∷ 0 ∷ []) $ fjoin ! $ move ! (1 ∷ 0 ∷ []) $ fjoin ! $ move ! (2 ∷ 0 ∷ []) $ fjoin ! $ move ! (1 ∷ 0 ∷ []) $ fjoin ! $ owned ! bool (Is bool) (bool__makes 𝓛) inverse _ refl $ fjoin ! $
+      split ! $ nothing ! $ move ! (2 ∷ 0 ∷ []) $ fjoin ! $ move ! (1 ∷ 0 ∷ []) $ fjoin ! $ move ! (2 ∷ 0 ∷ []) $ fjoin ! $ move ! (1 ∷ 0 ∷ []) $ fjoin ! $ owned ! bool (Is bool) (bool_Makes 𝓛) inverse _ refl $ fjoin ! $
       owned ! An.the_row (Is An.the_row) (LL.makes An.the_type An'.the_plain 𝓛) answer _ is $ move ! (1 ∷ 0 ∷ []) $ done !
 
   apart : ent 𝓤 (on_entry 𝓛 f.signature (κ₀, (κ, (κ₂, (κ₃, tt)))) (q₀, (q, (q₂, (q₃, tt)))) a vals) (mean 𝓛 (listed ys ⊛ sheet ⊛ others))
@@ -637,7 +637,7 @@ module _ {M : Type 1} {𝓤 : Ura M} (𝓛 : Logic 𝓤) (mem : Memory → SProp
       use1 𝓛 (raw ((StepsOf 𝓛 mem run).pre (to-steps 𝓛 mem run κ₀ κ₂ κ₃ q₀ q₂ q₃ s velocities marks refusal rv)) ⊛ ‵ (OwnS 𝓛 mem run κ₀ κ₂ κ₃ q₀ q₂ q₃ s velocities marks)) (asks-steps 𝓛 mem run κ₀ κ₂ κ₃ q₀ q₂ q₃ s velocities marks refusal rv r-is) $ split ! $
       calls_at ! fm (StepsOf 𝓛 mem run) known-steps (to-steps 𝓛 mem run κ₀ κ₂ κ₃ q₀ q₂ q₃ s velocities marks refusal rv) (and_then ! (load ! (from ! (stop !)) (look ! 30 refl)) (and_then ! (load ! (from ! (stop !)) (look ! 22 refl)) (no_more !))) (λ nv.
       answers ! tt usize (One 𝓛 mem run κ₀ κ₂ κ₃ q₀ q₂ q₃ s velocities marks) (Steps-ensured 𝓛 mem run κ₀ κ₂ κ₃ q₀ q₂ q₃ s velocities marks refusal rv) (λ r. r ≡ steps_of s.now refusal) (said-steps 𝓛 mem run κ₀ κ₂ κ₃ q₀ q₂ q₃ s velocities marks refusal rv) nv (id⊢ 𝓤 _) (λ n en n-is.
-      land ! (from ! (stop !)) (init ! 20 refl ((uint__lawful 𝓛 w64).typed n _ n-is).0) $ rewrite ! 20 (λ (w : Val). ‵ (fat full_share (ty_int w64) l₇ 0 w)) (ap only n-is.0) refl $ join ! $
+      land ! (from ! (stop !)) (init ! 20 refl ((uint_Lawful 𝓛 w64).typed n _ n-is).0) $ rewrite ! 20 (λ (w : Val). ‵ (fat full_share (ty_int w64) l₇ 0 w)) (ap only n-is.0) refl $ join ! $
       nothing ! $ use1 𝓛 (raw ((AnswerOf 𝓛 mem run).pre (to-answer 𝓛 mem run refusal rv))) (asks-answer 𝓛 mem run refusal rv r-is) $
       calls_at ! fm (AnswerOf 𝓛 mem run) known-answer (to-answer 𝓛 mem run refusal rv) (and_then ! (load ! (from ! (stop !)) (look ! 22 refl)) (no_more !)) (λ av.
       answers ! tt An.the_row (‵ ftrue) (Answer-ensured 𝓛 mem run refusal rv) (λ r. r ≡ refused_answer refusal) (said-answer 𝓛 mem run refusal rv) av (id⊢ 𝓤 _) (λ answer ea a-is.
@@ -657,7 +657,7 @@ module _ {M : Type 1} {𝓤 : Ura M} (𝓛 : Logic 𝓤) (mem : Memory → SProp
   shift-walks : Walks 𝓛 f.ended stayed (WpFn 𝓤 H 𝓣.C 𝓣.Λ function) (f.clauses 𝓛 mem run)
   shift-walks = walked 𝓛 f.ended stayed (f.clauses 𝓛 mem run) (WpFn 𝓤 H 𝓣.C 𝓣.Λ function)
       (λ κs. (bool_vals, (shr_slice_vals, (shr_slice_vals, (shr_slice_vals, (shr_slice_vals, tt))))))
-      (λ κs. (bool__tells, (shr_slice__tells (named 0) κs.0 u8, (mut_slice__tells (named 1) κs.1.0 T.the_row, (shr_slice__tells (named 2) κs.1.1.0 f64, (shr_slice__tells (named 3) κs.1.1.1.0 u8, tt))))))
+      (λ κs. (bool_Tells, (shr_slice_Tells (named 0) κs.0 u8, (mut_slice_Tells (named 1) κs.1.0 T.the_row, (shr_slice_Tells (named 2) κs.1.1.0 f64, (shr_slice_Tells (named 3) κs.1.1.1.0 u8, tt))))))
       (λ κs qs bounds a g are. via 𝓤 _ (fst∗ 𝓤 _ (emp 𝓤))
       (walk 𝓛 mem run κs.0 κs.1.0 κs.1.1.0 κs.1.1.1.0 qs.0 qs.1.0 qs.1.1.0 qs.1.1.1.0 a.1.1.0.ref_ptr.0 a.1.1.0.ref_ptr.1 a.1.1.0.ghost_name a.1.1.0.now a.0 a.1.0 a.1.1.1.0 a.1.1.1.1.0 are.1.1.0.0.1
       are.1.0.0.1.0 are.1.1.1.0.0.1.0 are.1.1.1.1.0.0.1.0 𝓣 known-refusal known-steps known-answer known_next known-run known-noted))
@@ -665,7 +665,7 @@ module _ {M : Type 1} {𝓤 : Ura M} (𝓛 : Logic 𝓤) (mem : Memory → SProp
   shift-meets : Meets 𝓛 f.signature (WpFn 𝓤 H 𝓣.C 𝓣.Λ code.function) (f.spec 𝓛 mem run)
   shift-meets =
       subst (λ (g : Fn). Meets 𝓛 f.signature (WpFn 𝓤 H 𝓣.C 𝓣.Λ g) (f.spec 𝓛 mem run)) (sym function-is)
-      (walk__meets 𝓛 f.ended stayed (
+      (walk_Meets 𝓛 f.ended stayed (
         Goes-none 𝓛 4 (λ _. bool) yes (λ κs x f. refl),
         (
           Goes-none_slice 𝓛 4 (0 ∷ []) tt (plain (λ _. u8)) yes,

@@ -5,4 +5,4 @@ use Rattle.trig.specs.Trig.{numbers_of}
 use Rattle.trig.proofs.numbers.Goals as goal
 
 pub returns-in-OutOfReach : goal.returns-in-OutOfReach
-returns-in-OutOfReach c = rw zero_over_zero (ap numbers_of (sym c.enum_told-1.given.1))
+returns-in-OutOfReach c = rw zero_over_zero (ap numbers_of (sym c.in-OutOfReach.is))
