@@ -7,7 +7,7 @@ use Rattle.grid.proofs.whole.Goals as goal
 
 pub truncating_f64_to_u64-requires : goal.truncating_f64_to_u64-requires
 unfolding of_bits neg
-truncating_f64_to_u64-requires c = (subst T (sym c.if-u.true) tt, subst T (sym c.if-u-2.true) tt)
+truncating_f64_to_u64-requires c = record { lower_bound = subst T (sym c.if-u.true) tt; upper_bound = subst T (sym c.if-u-2.true) tt }
 
 pub returns-then-u : goal.returns-then-u
 returns-then-u c = whole-beyond _ c.if-u.true c.if-u-2.false

@@ -1,9 +1,13 @@
 -- The test's outcome picks the definition's case. Assumes nothing.
-use mathlib.Core.Logic.{⊎_elim}
 use borrow.Author.Tests.{lt-ltb, le-ltb}
 use Rattle.making.specs.Adding.{with_step_of}
 use Rattle.making.proofs.with_step.Goals as goal
+use Rattle.making.proofs.with_step.Goals.{then-n-lt16, else-n-lt16}
 
 pub returns : goal.returns
 unfolding with_step_of
-returns c = ⊎_elim (λ w. rw (w.1, lt-ltb _ _ w.0.taken)) (λ w. rw (w.1, le-ltb _ _ w.0.left)) c.if-n-lt16.branch
+returns c =
+    elim c.if-n-lt16.branch [
+      | then-n-lt16 w ↦ rw (w.entries-is, lt-ltb _ _ w.if-n-lt16.true)
+      | else-n-lt16 w ↦ rw (w.entries-is, le-ltb _ _ w.if-n-lt16.false)
+    ]

@@ -1,7 +1,6 @@
 use borrow.Author.Rules.{rules}
 use Prim.Native.Nat.{◌*◌, ◌-◌, ◌<◌}
 use native.Mathlib.Omega.{arith}
-use mathlib.Core.Logic.{⊎_elim}
 use mathlib.Core.Path.{◌≡◌, sym, ◌∙◌, subst}
 use lib.ListN.{length}
 use lib.Ieee.{Float}
@@ -13,6 +12,7 @@ use Rattle.columns.proofs.Laws.{flat-length, room, row-time}
 use Rattle.reach.proofs.Modes.{Seen, seen-anew, seen-again, running_met}
 use Rattle.reach_columns.proofs.Along.{along_start, along_again, along_end}
 use Rattle.reach_columns.proofs.running_any.Goals as goal
+use Rattle.reach_columns.proofs.running_any.Goals.{then-time-state, else-time-state}
 
 pub loop-i-init : goal.loop-i-init
 loop-i-init c = (along_start _ _ _, c.rotation_at_out-met.ensures, omega arith)
@@ -30,12 +30,13 @@ loop-i-preserved c =
     let v = tuple_at flat (4 * l.i) in
     let same : at a.t.now l.i ≡ v.t = sym (row-time a.x.now a.y.now a.z.now a.t.now p.0 l.i here) in
     let seen : Seen a.shift l.state (at a.t.now l.i) c.if-time-state.state c.if-time-state.met =
-    ⊎_elim (λ w. seen-anew a.shift l.state _ w.0.taken (w.4 ∙ w.1.ensures) (w.5 ∙ w.3.ensures))
-    (λ w. seen-again a.shift l.state _ w.0.left w.1 w.2 l.invariant.1)
-    c.if-time-state.branch in
-    let by__row = subst (λ (time : Float). Seen a.shift l.state time c.if-time-state.state c.if-time-state.met) same seen in
-    let moved = by__row.next ∙ sym (state_in_running a.shift a.inverse l.state v p.1) in
-    let met = running_met a.shift l.state v p.1 p.2 p.3 by__row in
+    elim c.if-time-state.branch [
+      | then-time-state w ↦ seen-anew a.shift l.state _ w.if-time-state.true (w.state-is ∙ w.next-state.ensures) (w.met-is ∙ w.rotation_at_out-met-then-time-state.ensures)
+      | else-time-state w ↦ seen-again a.shift l.state _ w.if-time-state.false w.state-is w.met-is l.invariant.1
+    ] in
+    let by_row = subst (λ (time : Float). Seen a.shift l.state time c.if-time-state.state c.if-time-state.met) same seen in
+    let moved = by_row.next ∙ sym (state_in_running a.shift a.inverse l.state v p.1) in
+    let met = running_met a.shift l.state v p.1 p.2 p.3 by_row in
     (rw moved (along_again l.i (room a.x.now a.y.now a.z.now a.t.now p.0 l.i here) met c.one_if-n.ensures.0 l.invariant.0), seen.held, search rules)
 
 pub returns : goal.returns

@@ -11,12 +11,6 @@ use Rattle.root.specs.Sqrt.{CorrectRoot, RoundedRoot, sqrt_of}
 use Rattle.root.specs.Whole.{Significand}
 use Rattle.root.proofs.Patterns.{no_nan_of, Below, infinite, none, some, negative_patterns, top_patterns}
 use Rattle.root.proofs.Rounded.{definition_is_correct, no_choice}
-use Rattle.root.proofs.from_guess.Reads as reads
-use Rattle.root.proofs.nearest.Reads as nearest-reads
-use Rattle.root.proofs.normal.Reads as normal-reads
-use Rattle.root.proofs.slow.Reads as slow-reads
-use Rattle.root.proofs.subnormal.Reads as subnormal-reads
-use Rattle.std.proofs.num.wrapping_sub_u64.Reads as wrapping-sub-u64-reads
 use Rattle.root.proofs.from_guess.Goals as goal
 
 -- zero by zero
@@ -83,10 +77,6 @@ module _ (x : Float) (held : T (fits binary64 x)) where
   at-negative : 9223372036854775808 < to_bits binary64 x → div binary64 (of_bits binary64 0) (of_bits binary64 0) ≡ sqrt_of x
   at-negative h = no_number ∙ sym (of-below x (subst Below back (negative_patterns (to_bits binary64 x) h (to_bits-lt binary64 x held))))
 
--- what owning an `f64` tells: the format holds it
-held : (c : tie.Start) → T (fits binary64 c.args.x)
-held c = subst T (sym c.well-formed.0.1) tt
-
 pub returns-then-x : goal.returns-then-x
 returns-then-x c = of_nan c.args.x c.if-x.true
 
@@ -95,20 +85,20 @@ float_to_bits-b c = no_nan_of c.args.x c.if-x.false
 
 pub returns-then-wrapping_sub_u64-lt9214364837600034816 : goal.returns-then-wrapping_sub_u64-lt9214364837600034816
 returns-then-wrapping_sub_u64-lt9214364837600034816 c =
-    at-number c.args.x (held c) c.nearest.result c.normal-c.result.a c.normal-c.result.k c.normal-c.ensures c.nearest.ensures
+    at-number c.args.x (subst T (sym c.well_formed.0.1) tt) c.nearest.result c.normal-c.result.a c.normal-c.result.k c.normal-c.ensures c.nearest.ensures
 
 pub returns-then-b-le9223372036854775808 : goal.returns-then-b-le9223372036854775808
 returns-then-b-le9223372036854775808 c =
-    at_top c.args.x (held c) (omega arith) (omega arith)
+    at_top c.args.x (subst T (sym c.well_formed.0.1) tt) (omega arith) (omega arith)
 
 pub returns-then-b-ge9218868437227405312 : goal.returns-then-b-ge9218868437227405312
 returns-then-b-ge9218868437227405312 c =
-    at-negative c.args.x (held c) (omega arith)
+    at-negative c.args.x (subst T (sym c.well_formed.0.1) tt) (omega arith)
 
 pub returns-then-b-eq0 : goal.returns-then-b-eq0
 returns-then-b-eq0 c =
-    at_zero c.args.x (held c) c.if-b-eq0.true
+    at_zero c.args.x (subst T (sym c.well_formed.0.1) tt) c.if-b-eq0.true
 
 pub returns : goal.returns
 returns c =
-    at-number c.args.x (held c) c.slow.result c.subnormal-c.result.a c.subnormal-c.result.k c.subnormal-c.ensures c.slow.ensures
+    at-number c.args.x (subst T (sym c.well_formed.0.1) tt) c.slow.result c.subnormal-c.result.a c.subnormal-c.result.k c.subnormal-c.ensures c.slow.ensures

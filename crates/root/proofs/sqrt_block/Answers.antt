@@ -2,16 +2,8 @@ use Rattle.std.proofs.Common.{◌≡◌, ℕ, ◌+◌, ◌-◌, ◌<◌, List, l
 use Rattle.blocks.specs.Each.{whole_at}
 use Rattle.blocks.proofs.Laws.{one_more_held, none_filled, one_more, all_filled}
 use Rattle.root.specs.Whole.{Digits}
-use Rattle.root.proofs.sqrt_block.Reads as reads
-use Rattle.root.proofs.bits.Reads as bits-reads
-use Rattle.root.proofs.from_guess.Reads as from-guess-reads
-use Rattle.root.proofs.guess.Reads as guess-reads
+use Rattle.root.proofs.sqrt_block.Invariants.{Guesses}
 use Rattle.root.proofs.sqrt_block.Goals as goal
-
--- l is a block, and its first n places hold guesses
-record Guesses (n : ℕ) (l : List ℕ) : Type 0 where
-  pub block : length l ≡ 16
-  pub held : (j : ℕ) → j < n → Digits (whole_at l j)
 
 one-guess-more : {l : List ℕ} {i v : ℕ} → i < 16 → Digits v → Guesses i l → Guesses (i + 1) (set l i v)
 one-guess-more {l} {i} {v} room d before =
@@ -28,10 +20,6 @@ loop-i-preserved c = one-guess-more (search rules) c.guess.ensures c.loop-i.inva
 
 pub loop-j-init : goal.loop-j-init
 loop-j-init c = none_filled refl
-
-element-copy-out-from-guess :
-    tie.Need-element-copy-out-from-guess invariant-loop decreases-loop invariant-loop2 decreases-loop2
-element-copy-out-from-guess c = search rules
 
 pub from_guess-requires : goal.from_guess-requires
 from_guess-requires c = c.loop-i.invariant.held c.loop-j.j (omega arith)

@@ -4,14 +4,16 @@
 -- roots of those of x (`UpTo`); a turn adds one, since `from_guess` gives the root from any such
 -- guess (`one_more`). At j = 16 all are roots (`all_filled`). The measures are 16 - i and 16 - j.
 -- Assumes nothing.
-use Rattle.std.proofs.Common.{ℕ, ◌-◌}
-use Rattle.blocks.specs.Each.{at, UpTo}
+use Rattle.std.proofs.Common.{◌≡◌, ℕ, ◌-◌, ◌<◌, List, length}
+use Rattle.blocks.specs.Each.{at, whole_at, UpTo}
 use Rattle.root.specs.Sqrt.{sqrt_of}
-use Rattle.root.proofs.sqrt_block.Reads as reads
-use Rattle.root.proofs.bits.Reads as bits-reads
-use Rattle.root.proofs.from_guess.Reads as from-guess-reads
-use Rattle.root.proofs.guess.Reads as guess-reads
+use Rattle.root.specs.Whole.{Digits}
 use Rattle.root.proofs.sqrt_block.Given as goal
+
+-- l is a block, and its first n places hold guesses
+pub record Guesses (n : ℕ) (l : List ℕ) : Type 0 where
+  pub block : length l ≡ 16
+  pub held : (j : ℕ) → j < n → Digits (whole_at l j)
 
 abbrev pub invariant-loop-i : goal.invariant-loop-i
 invariant-loop-i l = Guesses l.i l.g

@@ -31,5 +31,5 @@ returns-in_default c =
     rw (
       c.new-in_default.ensures,
       zero_over_zero,
-      no_row c.args.number c.in_default-own.rest.0.0.0.0.1 c.in_default-own.rest.0.0.0.1 c.in_default-own.rest.0.0.1 c.in_default-own.rest.0.1 c.in_default-own.rest.1,
+      no_row c.args.number c.in_default.in_default-own.rest.0.0.0.0.1 c.in_default.in_default-own.rest.0.0.0.1 c.in_default.in_default-own.rest.0.0.1 c.in_default.in_default-own.rest.0.1 c.in_default.in_default-own.rest.1,
     )

@@ -2,9 +2,6 @@
 use Rattle.ellipsoid.specs.Figure.{prime_vertical_of}
 use Rattle.ellipsoid.proofs.Ellipsoid.prime_vertical_radius_of_curvature.Goals as goal
 
-  statement,
-}
-
 pub returns : goal.returns
 unfolding prime_vertical_of
 returns c = rw (c.sqrt.ensures, c.w.ensures)
