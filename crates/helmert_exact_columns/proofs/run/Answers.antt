@@ -25,8 +25,7 @@ loop-i-smaller-then-worth c = omega (arith, c.loop-i-test.true, c.loop-i.invaria
 pub loop-i-preserved-then-worth : goal.loop-i-preserved-then-worth
 loop-i-preserved-then-worth c =
     let l = c.loop-i in
-    let w = c.worth.ensures c.if-worth.true in
-(
+    let w = c.worth.ensures c.if-worth.true in (
       (omega (arith, l.invariant.0.0), omega (arith, l.invariant.0.1), omega (arith, l.invariant.0.2)),
       omega (arith, l.invariant.1),
       omega (arith, w.1, l.invariant.0.2),
@@ -42,8 +41,7 @@ loop-i-smaller c = let w = c.one_time-w.ensures in omega (arith, w.0, w.1, c.loo
 pub loop-i-preserved : goal.loop-i-preserved
 loop-i-preserved c =
     let l = c.loop-i in
-    let w = c.one_time-w.ensures in
-(
+    let w = c.one_time-w.ensures in (
       (omega (arith, l.invariant.0.0), omega (arith, l.invariant.0.1), omega (arith, l.invariant.0.2)),
       omega (arith, l.invariant.1),
       omega (arith, w.1),
