@@ -27,7 +27,7 @@ pub record PlaceKept (s : List ℕ) (i : ℕ) : Type 0 where
 -- a sheet that no refusal is given of
 pub record Accepted (s : List ℕ) : Type 0 where
   pub at_least : 16 ≤ length s
-  pub at_most_lem : length s ≤ 4240
+  pub at_most : length s ≤ 4240
   pub total : total_length_of s ≡ length s
   pub form : form_of s ≡ 1
   pub some-step : 0 < step_count_of s
@@ -79,7 +79,7 @@ module _ (s : List ℕ) where
       let second = kept_right (five_to_eight (refusal5_at s) (step_at s) n 0) (elevens (kind_at s) n 0) k in
       record {
         at_least = ltb-false _ _ a2.0;
-        at_most_lem = ltb-false _ _ a2.1;
+        at_most = ltb-false _ _ a2.1;
         total = total;
         form = eqb-true _ _ (not-false _ b);
         some-step = count.0;
@@ -99,7 +99,7 @@ module _ (s : List ℕ) where
       let some : (n ≡ 0) → ⊥ = λ e. omega (arith, h.some-step, e) in
       let places : some_from (place_broken s) n 0 ≡ false = every-kept (place_broken s) n 0 (λ i l. rw zero-add (keep_place s i (h.places i l))) in
       let ends : end_before s n ≡ total_length_of s = h.ends ∙ sym h.total in
-      let one : refusal1 s ≡ false = rw (le-ltb (length s) 16 h.at_least, le-ltb 4240 (length s) h.at-most, eq-eqb (total_length_of s) (length s) h.total) in
+      let one : refusal1 s ≡ false = rw (le-ltb (length s) 16 h.at_least, le-ltb 4240 (length s) h.at_most, eq-eqb (total_length_of s) (length s) h.total) in
       let two : refusal2 s ≡ false = rw (eq-eqb (form_of s) 1 h.form) in
       let three : refusal3 n ≡ false = rw (ne_eqb n 0 some, le-ltb 16 n h.few-steps) in
       let four : refusal4 s ≡ false =
