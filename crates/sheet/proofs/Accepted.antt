@@ -1,18 +1,17 @@
 -- What a sheet that breaks no rule keeps, rule by rule, and that this is all that it takes. Working
 -- definitions, which no promise cites: `PlaceKept`, `Accepted`. Assumes nothing.
-use mathlib.Core.Path.{◌≡◌, refl, sym, ap, ◌∙◌, subst}
-use Prim.Native.Nat.{ℕ, zero, suc, ◌+◌, ◌*◌, ◌<◌, ◌≤◌}
-use mathlib.Core.List.{List, [], ◌∷◌, ◌++◌}
-use mathlib.Core.Bool.{Bool, true, false, not, ◌||◌}
+use mathlib.Core.Path.{◌≡◌, sym, ◌∙◌}
+use Prim.Native.Nat.{ℕ, ◌<◌, ◌≤◌}
+use mathlib.Core.List.{List}
+use mathlib.Core.Bool.{true, false}
 use native.Mathlib.Omega.{arith}
 use native.Mathlib.Nat.{zero-add}
 use borrow.Author.Tests.{eqb-true, eqb-false, ltb-false, not-false, eq-eqb, ne_eqb, le-ltb}
-use lib.Dec.{eqb, ltb}
 use lib.ListN.{length}
 use Rattle.bodies.specs.Kinds.{length_of}
 use Rattle.bodies.specs.Rules.{body_in_rule}
 use Rattle.sheet.specs.Layout.{form_of, total_length_of, step_count_of, directory_offset_of, kind_at, inverted_at, offset_at, length_at, directory_end, body_at, step_at}
-use Rattle.sheet.specs.Rules.{refusal1, refusal2, refusal3, refusal4, refusal5, refusal5_at, refusal11, end_before, place_broken, inverted_broken, some_from, five_to_eight, elevens, reader_order, first_broken, refusal_of, accepted}
+use Rattle.sheet.specs.Rules.{refusal1, refusal2, refusal3, refusal4, refusal5, refusal5_at, refusal11, end_before, place_broken, some_from, five_to_eight, elevens, reader_order, refusal_of, accepted}
 use Rattle.sheet.specs.Given.{Unbroken}
 use Rattle.sheet.proofs.Order.{all_kept, none_broken, kept_append, kept_left, kept_right, neither, numbered_reader, count_kept}
 use Rattle.sheet.proofs.Each.{StepKept, each_step, every-step, each-eleven, every-eleven, each-kept, every-kept}

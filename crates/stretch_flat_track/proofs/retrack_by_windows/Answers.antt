@@ -1,6 +1,6 @@
 use native.Mathlib.Omega.{arith}
-use Prim.Native.Nat.{◌+◌, ◌*◌, ◌-◌, ◌≤◌}
-use mathlib.Core.Path.{refl, sym, ap, ◌∙◌}
+use Prim.Native.Nat.{◌+◌, ◌*◌, ◌≤◌}
+use mathlib.Core.Path.{refl, ap}
 use lib.ListN.{length}
 use Rattle.tuple.specs.declared.Tuple.{Tuple}
 use Rattle.stretch.specs.Track.{Retracked}
@@ -60,7 +60,7 @@ loop-i-preserved c =
     let made = c.retrack_part-again.ensures in
     let p = c.retrack_part-again.new.track in
     let fits : 4 * (l.i + w) ≤ length list = omega (arith, l.invariant.0, c.window-w.ensures.1, c.loop-i-test.true) in
-    (l.invariant.0, c.in-loop-i.is ∙ l.invariant.1, retracking-window list l.invariant.2 w fits p made refl c.if-met.false)
+    (l.invariant.0, omega arith, retracking-window list l.invariant.2 w fits p made refl c.if-met.false)
 
 pub returns : goal.returns
 returns c =

@@ -1,7 +1,6 @@
 -- The times and the track are the list's, and the columns' track is written anew. Assumes nothing.
 use native.Mathlib.Omega.{arith}
 use lib.ListN.{length}
-use mathlib.Core.Path.{◌∙◌}
 use Rattle.columns.proofs.Laws.{in_columns}
 use Rattle.stretch.proofs.Fits.{of_rows_test}
 use Rattle.stretch_flat_track.proofs.retrack_room.Goals as goal

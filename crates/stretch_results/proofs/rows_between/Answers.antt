@@ -12,13 +12,7 @@ pub offset_bounds-rt-start : goal.offset_bounds-rt-start
 offset_bounds-rt-start c = record { fits = omega (arith, c) }
 
 pub shift_rows-requires : goal.shift_rows-requires
-shift_rows-requires c =
-    let one = sym c.shift_rows-arg-1.given.2 in
-    let five = sym c.shift_rows-arg-5-1.given.2 in (
-      (c.shift_rows-arg-2-1.given.2 ∙ one, c.shift_rows-arg-3-1.given.2 ∙ one, c.shift_rows-arg-4-1.given.2 ∙ one),
-      (c.shift_rows-arg-6-1.given.2 ∙ five, c.shift_rows-arg-7-1.given.2 ∙ five, c.shift_rows-arg-8-1.given.2 ∙ five),
-      c.shift_rows-arg-5-1.given.2 ∙ one,
-    )
+shift_rows-requires c = ((omega arith, omega arith, omega arith), (omega arith, omega arith, omega arith), omega arith)
 
 pub returns : goal.returns
 returns c =
