@@ -109,6 +109,7 @@ module _ (s r : List ℕ) where
 
   at_place : (n : ℕ) {c : Change} (t : Bool) → eqb (word32 s (4 * n)) (word32 r (4 * n)) ≡ t
       → Has c (cond t [] (change_of (4 * n) (word32 s (4 * n)) (word32 r (4 * n)) ∷ [])) → Differs s r (suc n) c
+  at_place n {c = c} true e h = elim h [ ]
   at_place n false e h = (n, (omega arith, (eqb-false _ _ e, only_one h)))
 
   -- a change that is listed is of a word that differs

@@ -30,6 +30,12 @@ slice_bounds-copy-start c =
     let count = c.wide-n.ensures.0 ∙ c.read32-count.ensures in
     omega (arith, count, ok.inside)
 
+pub slice_bounds-copy-count : goal.slice_bounds-copy-count
+slice_bounds-copy-count c =
+    let ok = can_be_rebuilt c.args.s.now c.requires.0 in
+    let count = c.wide-n.ensures.0 ∙ c.read32-count.ensures in
+    omega (arith, count, ok.inside)
+
 pub copy-requires : goal.copy-requires
 copy-requires c =
     let ok = can_be_rebuilt c.args.s.now c.requires.0 in
