@@ -1,17 +1,16 @@
 -- A call over columns: which outcome each test leads to; and that for columns of one length it
 -- answers what a call over the flat list that they stand for answers, and leaves the columns of
 -- what that call leaves. Assumes nothing.
-use Prim.Native.Nat.{ℕ, ◌+◌, ◌*◌, ◌%◌, ◌≤◌, ◌<◌}
+use Prim.Native.Nat.{ℕ, ◌*◌, ◌%◌, ◌≤◌}
 use native.Mathlib.Omega.{arith}
-use mathlib.Core.Path.{◌≡◌, refl, sym, ap, ◌∙◌}
+use mathlib.Core.Path.{◌≡◌, refl}
 use mathlib.Core.Bool.{Bool, true, false, not, cond, ◌||◌}
 use mathlib.Core.List.{List, []}
 use borrow.Author.Tests.{eq-eqb, ne_eqb, eqb-true, not-false, ltb-true, ltb-false, lt-ltb, le-ltb}
 use lib.Dec.{eqb, ltb}
 use lib.ListN.{length}
 use lib.Ieee.{Float}
-use Rattle.tuple.specs.declared.Tuple.{Tuple}
-use Rattle.columns.specs.Columns.{Columns, columns, Level, flat_of, column_of, columns_of}
+use Rattle.columns.specs.Columns.{Columns, columns, Level, flat_of, columns_of}
 use Rattle.columns.proofs.Laws.{flat-length, back-x, back-y, back-z, back-t, back_and_there}
 use Rattle.sheet.specs.declared.Entry.{Entry}
 use Rattle.sheet.specs.declared.Refusal.{Refusal}
@@ -19,10 +18,9 @@ use Rattle.sheet.specs.Layout.{step_count_of, kind_at, entry_at}
 use Rattle.sheet.specs.Rules.{of_call, first_broken, has_deformation, refusal_of}
 use Rattle.sheet.proofs.Order.{neither}
 use Rattle.plans.specs.Lent.{lent_of}
-use Rattle.chain.specs.declared.Answer.{Answer}
-use Rattle.chain.specs.Chain.{Run, chain_of, places_of, entries_of}
-use Rattle.chain.specs.Rules.{refusal9, refusal10, shift_refusal_of, Outcome, outcome, refused_answer, ran_outcome, outcome_of, shift_of}
-use Rattle.chain.specs.Columns.{refusal9_columns, columns_refusal_of, ColumnsOutcome, columns_outcome, ran_columns, columns_outcome_of, shift_columns_of}
+use Rattle.chain.specs.Chain.{Run, chain_of, entries_of}
+use Rattle.chain.specs.Rules.{refusal9, refusal10, shift_refusal_of, outcome, refused_answer, ran_outcome, outcome_of, shift_of}
+use Rattle.chain.specs.Columns.{refusal9_columns, columns_refusal_of, columns_outcome, ran_columns, columns_outcome_of, shift_columns_of}
 use Rattle.chain.proofs.Counts.{chain_length}
 
 -- ---- rule 9 kept: columns of one length, of at most 2,048 rows

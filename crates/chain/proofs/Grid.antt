@@ -10,7 +10,7 @@ use lib.Ieee.{Float}
 use Rattle.columns.specs.Columns.{Columns, flat_of}
 use Rattle.sheet.specs.declared.Entry.{Entry}
 use Rattle.sheet.specs.declared.Refusal.{Refusal}
-use Rattle.sheet.specs.Rules.{accepted, of_call, first_broken}
+use Rattle.sheet.specs.Rules.{of_call, first_broken}
 use Rattle.grid_rules.specs.Rules.{refusal17, refusal18, check_grid_of, first_broken as first_of_grid}
 use Rattle.plans.specs.Lent.{lent_of}
 use Rattle.chain.specs.Chain.{chain_of}

@@ -14,7 +14,7 @@ use Rattle.lists.proofs.Laws.{ran_length}
 use Rattle.tally.specs.declared.Tally.{Tally}
 use Rattle.tally.specs.Tallies.{no_tally}
 use Rattle.plans.specs.Lent.{Lent}
-use Rattle.chain.specs.Chain.{turns_of, state_of, reversed_of, step_list_of, step_tally_of, Run, chain_forward_of, chain_inverse_of, places_of, entries_of}
+use Rattle.chain.specs.Chain.{turns_of, state_of, reversed_of, step_list_of, step_tally_of, chain_forward_of, chain_inverse_of, places_of, entries_of}
 
 module _ (lent : Lent) where
   -- ---- a chain of one step is that step over the list

@@ -6,21 +6,20 @@ use native.Mathlib.Omega.{arith}
 use native.Mathlib.Nat.{zero-add}
 use mathlib.Core.Path.{◌≡◌, refl, sym, ap, ◌∙◌}
 use mathlib.Core.Bool.{Bool, true, false}
-use mathlib.Core.List.{List, [], ◌∷◌, ◌++◌, append_assoc}
+use mathlib.Core.List.{List, [], ◌∷◌, ◌++◌}
 use borrow.Author.Tests.{lt-ltb}
-use lib.ListN.{length, replicate}
+use lib.ListN.{replicate}
 use lib.Ieee.{Float}
 use Rattle.lists.specs.Run.{ran_of, count_of}
 use Rattle.bodies.specs.declared.Step.{Step}
 use Rattle.bodies.specs.declared.Step.TheVariants.{Cart, Permtide, Deformation, Molodensky, Badekas, Helmert}
-use Rattle.sheet.specs.declared.Entry.{Entry}
 use Rattle.sheet.specs.Layout.{step_count_of, entry_at}
 use Rattle.plans.specs.declared.Plan.{Plan}
 use Rattle.plans.specs.declared.Standing.{Standing}
 use Rattle.tally.specs.declared.Tally.{Tally}
 use Rattle.tally.specs.Tallies.{no_tally}
 use Rattle.tally.proofs.Laws.{tally_is, none_plus}
-use Rattle.plans.specs.Passes.{Pass, meets, tally_of}
+use Rattle.plans.specs.Passes.{tally_of}
 use Rattle.plans.specs.Plans.{plan_of, plan_in, Ready, plan_turns_of, plan_met_of, plan_reach_of, plan_pass_of, plan_start_of}
 use Rattle.plans.specs.Windows.{gone_of}
 use Rattle.plans.proofs.Arrays.{sixteen_or_fewer}

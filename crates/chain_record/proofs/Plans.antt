@@ -1,6 +1,5 @@
 -- The plan of a record's step, from its start, is the chain's step: the list, and the tally. Assumes
 -- nothing.
-use Prim.Native.Nat.{ℕ}
 use mathlib.Core.Path.{◌≡◌, ap, ◌∙◌}
 use mathlib.Core.Bool.{Bool}
 use mathlib.Core.List.{List}
@@ -10,7 +9,7 @@ use Rattle.bodies.specs.declared.Step.{Step}
 use Rattle.sheet.specs.declared.Entry.{Entry}
 use Rattle.plans.specs.declared.Plan.{Plan}
 use Rattle.plans.specs.Lent.{Lent}
-use Rattle.plans.specs.Passes.{Pass, tally_of}
+use Rattle.plans.specs.Passes.{tally_of}
 use Rattle.plans.specs.Plans.{plan_of, plan_turns_of, plan_pass_of, plan_start_of}
 use Rattle.chain.specs.Chain.{pass_of, state_of, reversed_of, step_list_of, tuples_counted_of, tuples_met_of, step_tally_of}
 use Rattle.chain.proofs.Windows.{plan_turns, plan_met, plan_start}

@@ -1,12 +1,11 @@
 -- Which refusal each of a call's tests leads to; that the chain runs both ways where the rules are
 -- kept, since it leaves a list's length; and what a call then answers. Assumes nothing.
-use mathlib.Core.Path.{◌≡◌, refl, sym, ap, ◌∙◌}
+use mathlib.Core.Path.{◌≡◌, sym, ap, ◌∙◌}
 use Prim.Native.Nat.{ℕ, ◌≤◌}
-use mathlib.Core.Bool.{Bool, true, false, cond}
+use mathlib.Core.Bool.{Bool, true, false}
 use mathlib.Core.List.{List, [], ◌∷◌, ◌++◌}
 use native.Mathlib.Omega.{arith}
 use borrow.Author.Tests.{eq-eqb, ne_eqb, ltb-false}
-use lib.Dec.{eqb, ltb}
 use lib.ListN.{length, drop}
 use lib.Ieee.{Float}
 use Rattle.sheet.specs.declared.Refusal.{Refusal}
@@ -24,8 +23,7 @@ use Rattle.chain.proofs.Counts.{chain_length}
 use Rattle.chain.proofs.Outcome.{run-through}
 use Rattle.closure_report.specs.declared.Report.{Report}
 use Rattle.closure_report.specs.Report.{added_of}
-use Rattle.closure_run.specs.declared.Closed.{Closed}
-use Rattle.closure_run.specs.Closure.{steps_of, there_and_back_of, refusal15, closure_order, closure_refusal_of, closed_as, Outcome, outcome, at_start, closure_of}
+use Rattle.closure_run.specs.Closure.{steps_of, there_and_back_of, refusal15, closure_order, closure_refusal_of, closed_as, outcome, closure_of}
 
 -- ---- the order
 

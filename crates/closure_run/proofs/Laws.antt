@@ -3,26 +3,19 @@
 -- that calls one after another give the report of all their lists. Assumes nothing.
 use mathlib.Core.Path.{◌≡◌, refl, sym, ap, ◌∙◌, subst}
 use mathlib.Core.Logic.{◌↔◌}
-use Prim.Native.Nat.{ℕ, ◌<◌, ◌≤◌}
-use mathlib.Core.Bool.{Bool, true, false, cond}
+use Prim.Native.Nat.{ℕ}
 use mathlib.Core.List.{List, [], ◌∷◌, ◌++◌}
 use native.Mathlib.Omega.{arith}
-use borrow.Author.Tests.{eq-eqb, ne_eqb, eqb-true}
-use lib.Dec.{eqb}
 use lib.ListN.{length, take, drop, length-append, length-drop}
 use lib.Seq.{take_at, drop_at}
 use lib.Ieee.{Float}
 use Rattle.sheet.specs.declared.Refusal.{Refusal}
-use Rattle.sheet.specs.Layout.{step_count_of, kind_at}
-use Rattle.sheet.specs.Rules.{Rule, rule, accepted, of_call, first_broken, has_deformation, refusal_of}
-use Rattle.sheet.specs.Given.{Unbroken, FirstBroken}
+use Rattle.sheet.specs.Given.{FirstBroken}
 use Rattle.sheet.proofs.Laws.{first_broken_exactly_when}
 use Rattle.profile.specs.Profile.{profile_refusal_of}
-use Rattle.chain.specs.Rules.{refusal9, refusal10}
 use Rattle.closure_report.specs.declared.Report.{Report}
-use Rattle.closure_report.specs.Report.{Pair, added_of, rolled_of}
-use Rattle.closure_report.proofs.Laws.{any_split_gives_the_same_report}
-use Rattle.closure_run.specs.Closure.{there_and_back_of, closure_order, closure_refusal_of, closed_as, outcome, at_start, closure_of, Lent, closures_of, pairs_of, NoneRefused}
+use Rattle.closure_report.specs.Report.{added_of, rolled_of}
+use Rattle.closure_run.specs.Closure.{there_and_back_of, closure_order, closure_refusal_of, closed_as, outcome, closure_of, Lent, closures_of, pairs_of, NoneRefused}
 use Rattle.closure_run.proofs.Answers.{refused-own, back-length, closure-refused, closure-done, passed}
 
 -- ---- which refusal is given when

@@ -1,7 +1,6 @@
 -- Invariant (`Backward`): the columns are what the steps from index i on have made of them, the last
 -- first, and the tallies from i on are theirs. A turn runs the step before i (`backward-again`). At
 -- i = 0 every step has run (`backward-end`). The measure is i. Assumes nothing.
-use Prim.Native.Nat.{◌-◌}
 use mathlib.Core.Path.{◌≡◌}
 use lib.ListN.{length}
 use Rattle.columns.specs.Columns.{Level, flat_of}

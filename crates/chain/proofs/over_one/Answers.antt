@@ -1,5 +1,4 @@
 use borrow.Author.Rules.{rules}
-use Prim.Native.Nat.{◌-◌}
 use mathlib.Core.Path.{refl, sym, ◌∙◌}
 use Rattle.chain.proofs.Marks.{over-found, over-next, over-end}
 use Rattle.chain.proofs.over_one.Goals as goal

@@ -3,7 +3,6 @@
 -- runs the record's step there (`run_step`, `entry_of`), which adds that step to those that have run
 -- (`backward-again`). At i = 0 all steps have run, and list and tallies are those of
 -- `chain_inverse_of` (`backward-end`). The measure is i. Assumes nothing.
-use Prim.Native.Nat.{◌-◌}
 use Rattle.sheet.specs.Layout.{entry_of}
 use Rattle.plans.specs.Lent.{lent_of}
 use Rattle.chain.proofs.Laws.{Backward}

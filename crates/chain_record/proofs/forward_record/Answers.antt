@@ -1,5 +1,4 @@
 use borrow.Author.Rules.{rules}
-use Prim.Native.Nat.{◌-◌}
 use mathlib.Core.Path.{refl}
 use Rattle.chain.proofs.Laws.{forward_start, forward-again, forward-end}
 use Rattle.chain_record.proofs.forward_record.Goals as goal

@@ -1,7 +1,6 @@
 -- One case for each way through the tests. Each by `refused-own`, `refused-9`, `refused-10` and
 -- `run-through`, from what the calls ensure. Assumes nothing.
 use mathlib.Core.Path.{sym, ap, ◌∙◌}
-use mathlib.Core.Bool.{true, false}
 use Rattle.sheet.specs.declared.Refusal.{Refusal}
 use Rattle.chain_record.specs.Record.{shift_record_of}
 use Rattle.chain_record.proofs.Few.{few-kept}

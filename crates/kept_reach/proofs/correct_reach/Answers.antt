@@ -3,7 +3,7 @@
 use mathlib.Core.Path.{ap}
 use Rattle.tally.specs.declared.Tally.{Tally}
 use Rattle.stretch.specs.Kept.{kept_of}
-use Rattle.kept_reach.proofs.Stretch.{refused-met, stretch-small, track-reaches, stretch-met}
+use Rattle.kept_reach.proofs.Stretch.{refused-met, stretch-small, stretch-fits, track-reaches, stretch-met}
 use borrow.Author.Rules.{rules}
 use Rattle.kept_reach.proofs.correct_reach.Goals as goal
 
@@ -24,6 +24,9 @@ overflow_mul-e c = search (rules, let a = c.args in stretch-small a.inverse a.s.
 
 pub offset_bounds-list-a : goal.offset_bounds-list-a
 offset_bounds-list-a c = search (rules, let a = c.args in stretch-small a.inverse a.s.now (kept_of a.list.now a.results.now a.track.now) a.index a.fix c.correct-corrected.ensures c.if-refusal-ne0.false)
+
+pub slice_bounds-pass-end : goal.slice_bounds-pass-end
+slice_bounds-pass-end c = let a = c.args in stretch-fits a.inverse a.s.now (kept_of a.list.now a.results.now a.track.now) a.index a.fix c.correct-corrected.ensures c.if-refusal-ne0.false
 
 pub returns : goal.returns
 returns c =

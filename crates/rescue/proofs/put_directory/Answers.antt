@@ -1,6 +1,6 @@
 use native.Mathlib.Omega.{arith}
 use mathlib.Core.Path.{◌≡◌, refl, sym, ap, ◌∙◌}
-use Prim.Native.Nat.{ℕ, ◌-◌}
+use Prim.Native.Nat.{ℕ}
 use Rattle.words.specs.Words.{put}
 use Rattle.words.proofs.Laws.{put_none}
 use Rattle.rescue.specs.Rebuilt.{start_of, directory_bytes}
