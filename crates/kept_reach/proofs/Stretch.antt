@@ -1,7 +1,7 @@
 -- After a correction that was taken: what it left says where its stretch lies and in which state it
 -- begins. The state before the index is the one that stood there, since the track before the index
 -- is not written. A refused correction redoes no fix. Assumes nothing.
-use Prim.Native.Nat.{ℕ, zero, suc, ◌+◌, ◌*◌, ◌-◌, ◌/◌, ◌≤◌, ◌<◌}
+use Prim.Native.Nat.{ℕ, zero, suc, ◌+◌, ◌*◌, ◌-◌, ◌/◌, ◌≤◌}
 use native.Mathlib.Omega.{arith}
 use mathlib.Core.Path.{◌≡◌, refl, sym, ap, ◌∙◌}
 use mathlib.Core.Bool.{Bool, true, false, cond}
@@ -17,11 +17,11 @@ use Rattle.lists.specs.Flat.{tuple_at, put_at}
 use Rattle.lists.specs.Run.{count_of}
 use Rattle.sheet.specs.declared.Refusal.{Refusal}
 use Rattle.plans.specs.Passes.{meets, tally_of}
-use Rattle.stretch.specs.Kept.{Kept, Redone, Stretch, carried_at, kept_at, before_of, redo_of, corrected_of}
+use Rattle.stretch.specs.Kept.{Kept, Redone, before_of, redo_of, corrected_of}
 use Rattle.stretch.specs.Unwritten.{Unwritten}
 use Rattle.stretch.proofs.Laws.{redone_is_the_stretch, track-outside, list-outside}
 use Rattle.kept.specs.declared.Corrected.{Corrected}
-use Rattle.kept.specs.Entries.{correct_refusal_of, keep_refusal_of, refusal14, shift_in, reversed_in, CorrectOutcome, outcome, corrected_as, correct_of}
+use Rattle.kept.specs.Entries.{correct_refusal_of, keep_refusal_of, shift_in, reversed_in, CorrectOutcome, outcome, corrected_as, correct_of}
 use Rattle.kept.proofs.Answers.{Passed, passed, below, taken}
 use Rattle.kept_reach.specs.Reach.{pass_in, fixes_from, met_from, stretch_met_of, time_pass}
 use Rattle.kept_reach.proofs.Along.{by-times-met}

@@ -1,7 +1,7 @@
 -- Demand 3, the number: if list, results and track came from a fresh run, then after a correction the
 -- number of a fresh run over the corrected list is the sum of what stands before, in and after the
 -- stretch. By the count over a list in three parts. Assumes nothing.
-use Prim.Native.Nat.{ℕ, ◌+◌, ◌*◌, ◌-◌, ◌/◌, ◌≤◌, ◌<◌}
+use Prim.Native.Nat.{ℕ, ◌+◌, ◌*◌, ◌≤◌}
 use native.Mathlib.Omega.{arith}
 use native.Mathlib.Nat.{add_assoc, zero-add}
 use mathlib.Core.Path.{◌≡◌, refl, sym, ap, ◌∙◌}
@@ -14,13 +14,11 @@ use borrow.Author.Tests.{eq-eqb, not-false}
 use Rattle.tuple.specs.declared.Tuple.{Tuple}
 use Rattle.helmert.specs.declared.State.{State}
 use Rattle.helmert.specs.Modes.{start_of}
-use Rattle.lists.specs.Flat.{put_at}
 use Rattle.lists.specs.Run.{Turns, count_of, state_after_of}
 use Rattle.reach.proofs.Laws.{meeting-state}
-use Rattle.tally.specs.declared.Tally.{Tally}
-use Rattle.plans.specs.Passes.{Pass, meets}
+use Rattle.plans.specs.Passes.{meets}
 use Rattle.plans.proofs.Windows.{count_append, state_append}
-use Rattle.stretch.specs.Kept.{Kept, fresh_of, before_of, put_fix}
+use Rattle.stretch.specs.Kept.{Kept, before_of, put_fix}
 use Rattle.stretch.proofs.Laws.{before-is}
 use Rattle.kept.specs.Entries.{keep_refusal_of, refusal14, shift_in, reversed_in, keep_of, CorrectOutcome, outcome, correct_of}
 use Rattle.kept.proofs.Answers.{below, not-refused}

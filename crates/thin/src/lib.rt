@@ -9,8 +9,9 @@
 // every input: the list and the tally of `run_step` are the step's own definition from tuple to
 // tuple, and what `shift` answers and leaves are, number for number, what `chain::shift` answers
 // and leaves on the same numbers as a flat list (proofs/Flat.antt). No rounding but the steps' own.
-// The two walks are proved by hand; a further kind of step is a case of Plan, with a line each in
-// `plan_of`, `start_of` and `turn`, and no walk. For callers who hold their fixes as records.
+// Each of the two loops has one invariant (`Walked`, `Going`); a further kind of step is a case of
+// Plan, with a line each in `plan_of`, `start_of` and `turn`. For callers who hold their fixes as
+// records.
 #![tactic(auto)]
 
 ghost use Rattle.std.specs.Prelude.{◌≡◌, true, false, ◌<◌};

@@ -5,11 +5,11 @@ use Rattle.thin.proofs.plan_of.Goals as goal
 
 pub returns-then-inverse : goal.returns-then-inverse
 unfolding plan_of
-returns-then-inverse c = rw (c.in-Cart-1.is, c.if-inverse.true, c.new.ensures, c.named-ellps.ensures)
+returns-then-inverse c = rw (c.in-Cart.is, c.if-inverse.true, c.new.ensures, c.named-ellps.ensures)
 
 pub returns-in-Cart : goal.returns-in-Cart
 unfolding plan_of
-returns-in-Cart c = rw (c.in-Cart-1.is, c.if-inverse.false, c.named-ellps.ensures)
+returns-in-Cart c = rw (c.in-Cart.is, c.if-inverse.false, c.named-ellps.ensures)
 
 pub returns-then-inverse-2 : goal.returns-then-inverse-2
 unfolding plan_of

@@ -3,4 +3,4 @@
 use Rattle.thin.proofs.start_of.Goals as goal
 
 pub returns-in-HelmertEither : goal.returns-in-HelmertEither
-returns-in-HelmertEither c = rw c.in-HelmertEither-1.is c.start.ensures
+returns-in-HelmertEither c = rw c.in-HelmertEither.is c.start.ensures

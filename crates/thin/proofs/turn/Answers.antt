@@ -5,7 +5,7 @@ use Rattle.thin.proofs.turn.Goals as goal
 
 pub returns-in-CartForward : goal.returns-in-CartForward
 unfolding turn_of
-returns-in-CartForward c = rw (c.in-CartForward-1.is, c.carried_on.ensures, c.place_out.ensures, c.cart_fwd-r.ensures)
+returns-in-CartForward c = rw (c.in-CartForward.is, c.carried_on.ensures, c.place_out.ensures, c.cart_fwd-r.ensures)
 
 pub returns-in-CartInverse : goal.returns-in-CartInverse
 unfolding turn_of
