@@ -3,12 +3,12 @@
 -- reader's. Assumes nothing.
 use mathlib.Core.Path.{◌≡◌, refl, sym, ap, ◌∙◌, subst}
 use mathlib.Core.Logic.{◌↔◌}
-use Prim.Native.Nat.{ℕ, zero, suc, ◌+◌, ◌<◌, ◌≤◌}
-use mathlib.Core.List.{List, [], ◌∷◌, ◌++◌}
-use mathlib.Core.Bool.{Bool, true, false, not, cond, ◌&&◌, ◌||◌, true≢false}
+use Prim.Native.Nat.{ℕ, zero, suc, ◌+◌, ◌<◌}
+use mathlib.Core.List.{List, ◌++◌}
+use mathlib.Core.Bool.{Bool, true, false, not, ◌&&◌, ◌||◌, true≢false}
 use native.Mathlib.Omega.{arith}
 use native.Mathlib.Nat.{add-zero, zero-add}
-use borrow.Author.Tests.{eqb-true, eqb-false, eq-eqb, ne_eqb}
+use borrow.Author.Tests.{eqb-true, eqb-false, ne_eqb}
 use lib.Dec.{eqb}
 use Rattle.helmert.specs.declared.Helmert.{Helmert as HelmertRecord}
 use Rattle.helmert.specs.Record.{exact_of, own_epoch_of}
@@ -18,12 +18,12 @@ use Rattle.bodies.specs.declared.Step.{Step}
 use Rattle.bodies.specs.declared.Step.TheVariants.{Cart, Permtide, Deformation, Molodensky, Badekas, Helmert}
 use Rattle.sheet.specs.declared.Refusal.{Refusal}
 use Rattle.sheet.specs.Layout.{step_count_of, kind_at, step_at}
-use Rattle.sheet.specs.Rules.{Rule, rule, accepted, of_call, of_step, elevens, reader_order, first_broken, refusal_of}
+use Rattle.sheet.specs.Rules.{Rule, of_call, of_step, elevens, reader_order, first_broken, refusal_of}
 use Rattle.sheet.specs.Given.{Unbroken}
-use Rattle.sheet.proofs.Order.{Numbered, without_append, without_elevens, kept_then, broken_first, all_kept, none_broken, kept_append, kept_left, kept_right, neither, none_given_exactly_when, never_given, numbered_reader}
+use Rattle.sheet.proofs.Order.{Numbered, without_append, without_elevens, kept_then, broken_first, all_kept, none_broken, kept_append, kept_left, kept_right, neither, never_given}
 use Rattle.profile.specs.Profile.{helmert_offends, refusal25, twenty_fives, profile_rules, up_to_eight, profile_order, profile_refusal_of}
 use Rattle.profile.specs.Chart.{LetsThrough, FirstOffence}
-use Rattle.profile.proofs.Judging.{numbered_eight, without_eight, without_25s, without_profile, reader-is, reader-left, reader-first, eight-answers, profile-answers}
+use Rattle.profile.proofs.Judging.{numbered_eight, without_eight, without_25s, without_profile, reader-is, reader-first, eight-answers, profile-answers}
 
 -- ---- without a profile
 
@@ -40,9 +40,9 @@ not_offending exact dynamic own e = neither exact (dynamic && not own) e
 helmert_through : (h : HelmertRecord) (exact dynamic own : Bool) → exact_of h ≡ exact → dynamic_of (parameters_of h) ≡ dynamic → own_epoch_of h ≡ own
     → (exact || (dynamic && not own)) ≡ false → LetsThrough (Helmert h)
 helmert_through h true dynamic own a b c e = absurd (true≢false e)
-helmert_through h false true true a b c e = LetsThrough.own-epoch a c
+helmert_through h false true true a b c e = LetsThrough.own_epoch a c
 helmert_through h false true false a b c e = absurd (true≢false e)
-helmert_through h false false own a b c e = LetsThrough.not-dynamic a b
+helmert_through h false false own a b c e = LetsThrough.not_dynamic a b
 
 and_no : (b : Bool) → (b && false) ≡ false
 and_no true = refl
@@ -51,8 +51,8 @@ and_no false = refl
 through-kept : (step : Step) → LetsThrough step → refusal25 step ≡ false
 unfolding refusal25 helmert_offends
 through-kept step LetsThrough.a-cart = refl
-through-kept step (LetsThrough.own-epoch {h = h} a c) = rw (a, c) (and_no (dynamic_of (parameters_of h)))
-through-kept step (LetsThrough.not-dynamic a b) = rw (a, b)
+through-kept step (LetsThrough.own_epoch {h = h} a c) = rw (a, c) (and_no (dynamic_of (parameters_of h)))
+through-kept step (LetsThrough.not_dynamic a b) = rw (a, b)
 
 kept-through : (step : Step) → refusal25 step ≡ false → LetsThrough step
 unfolding refusal25 helmert_offends
