@@ -1,7 +1,7 @@
 /* Sillfeather, the datum-shift library of ship-borne positioning pairs, as C and C++ call it.
  *
- * Link target/staticlib/libsillfeather.a (`rt staticlib sillfeather`, x86-64 Linux), or what
- * `tools/archive sillfeather` writes to target/native for the machine at hand. Of the C library it
+ * Link target/native/libsillfeather.a, which `tools/archive sillfeather` makes of the proved code for
+ * the machine at hand, Linux on x86-64 or on Arm. Of the C library it
  * calls at most memcpy, memmove and memset. There is no start-up call, no heap, and no state
  * between calls, so any number of threads may call at once, each with memory of its own to be
  * written.
