@@ -1,12 +1,12 @@
 -- Rows of columns as fixes of the flat list that the columns stand for; and what a fresh run and a
 -- correction tell of it, by the laws of the flat lists. Assumes nothing.
-use Prim.Native.Nat.{ℕ, ◌+◌, ◌*◌, ◌-◌, ◌/◌, ◌≤◌, ◌<◌}
+use Prim.Native.Nat.{ℕ, ◌+◌, ◌*◌, ◌-◌, ◌≤◌, ◌<◌}
 use native.Mathlib.Omega.{arith}
 use mathlib.Core.Path.{◌≡◌, refl, sym, ap, ◌∙◌}
 use mathlib.Core.Bool.{Bool, true, false, cond}
 use mathlib.Core.List.{List, [], ◌∷◌}
 use lib.Dec.{eqb}
-use lib.ListN.{length, take, drop, length-drop}
+use lib.ListN.{length, drop, length-drop}
 use lib.Seq.{take_all, length-take-le}
 use lib.Ieee.{Float}
 use borrow.Author.Tests.{eq-eqb, ne_eqb, eqb-true, eqb-false}
@@ -14,21 +14,20 @@ use Rattle.tuple.specs.declared.Tuple.{Tuple}
 use Rattle.helmert.specs.Modes.{start_of}
 use Rattle.lists.specs.Flat.{tuple_at, put_at}
 use Rattle.lists.proofs.Results.{tuple_beyond}
-use Rattle.columns.specs.Columns.{Columns, Level, flat_of}
 use Rattle.columns.proofs.Laws.{flat-length}
 use Rattle.sheet.specs.declared.Refusal.{Refusal}
 use Rattle.sheet.specs.Rules.{rule, of_call, first_broken, refusal_of}
 use Rattle.tally.specs.declared.Tally.{Tally}
 use Rattle.tally.specs.Tallies.{no_tally}
 use Rattle.plans.specs.Passes.{tally_of}
-use Rattle.stretch.specs.Kept.{Kept, before_of}
-use Rattle.stretch.specs.KeptColumns.{KeptColumns, flat_list_of, flat_kept_of, kept_columns_of, LevelColumns, AllLevel}
+use Rattle.stretch.specs.Kept.{before_of}
+use Rattle.stretch.specs.KeptColumns.{KeptColumns, flat_list_of, flat_kept_of, kept_columns_of, AllLevel}
 use Rattle.kept.specs.declared.Corrected.{Corrected}
 use Rattle.kept.specs.Entries.{refusal12, refusal14, shift_in, reversed_in, keep_refusal_of, CorrectOutcome, outcome, corrected_as, correct_of}
-use Rattle.kept.proofs.Answers.{Passed, passed, first_stays}
+use Rattle.kept.proofs.Answers.{passed, first_stays}
 use Rattle.kept_columns.specs.Columns.{list_uneven, kept_uneven, keep_columns_refusal_of, correct_columns_refusal_of, CorrectColumnsOutcome, columns_outcome, correct_columns_of}
 use Rattle.kept_columns.proofs.Columns.{keep-refused-alike, passes-level, the-correction-gives-the-old-answer, the-correction-leaves-the-old-lists}
-use Rattle.kept_reach.specs.Reach.{pass_in, fixes_from, met_from, stretch_met_of, time_pass}
+use Rattle.kept_reach.specs.Reach.{fixes_from, met_from, stretch_met_of, time_pass}
 use Rattle.kept_reach.proofs.Along.{by-times}
 use Rattle.kept_reach.proofs.Stretch.{tuple_in_front, refused-met, stretch-fits, stretch-small, stretch-met}
 use Rattle.kept_columns_reach.specs.Reach.{keep_columns_tally_of, stretch_columns_met_of}

@@ -18,7 +18,7 @@ use Rattle.plans.specs.Lent.{lent_of}
 use Rattle.chain.specs.declared.Answer.{Answer}
 use Rattle.reach.specs.Met.{cart_met, helmert_met}
 use Rattle.plans.specs.Passes.{tally_of}
-use Rattle.chain.specs.Chain.{reversed_of, turns_of, pass_of, state_of, step_list_of, tuples_counted_of, tuples_met_of, step_tally_of}
+use Rattle.chain.specs.Chain.{reversed_of, pass_of, state_of, step_list_of, tuples_counted_of, tuples_met_of, step_tally_of}
 use Rattle.chain.specs.Rules.{Outcome, outcome}
 use Rattle.thin.specs.Tuples.{flat_of, step_tuples_of, step_tuples_tally_of}
 use Rattle.thin.proofs.Laws.{flat_tuples, flat_tally, flat_injective}

@@ -29,8 +29,7 @@ use Rattle.sheet.proofs.Order.{not_zero, accepted_count}
 use Rattle.plans.specs.Lent.{lent_of}
 use Rattle.chain.specs.declared.Answer.{Answer}
 use Rattle.tally.specs.declared.Tally.{Tally}
-use Rattle.tally.specs.Tallies.{no_tally, plus_of}
-use Rattle.tally.proofs.Laws.{plus_assoc, plus_none, none_plus}
+use Rattle.tally.specs.Tallies.{no_tally}
 use Rattle.plans.specs.Passes.{Pass, meets, tally_of}
 use Rattle.chain.specs.Chain.{turns_of, met_of, pass_of, state_of, step_list_of, tuples_counted_of, tuples_met_of, step_tally_of, chain_forward_of, chain_inverse_of, chain_of, places_of, entries_of}
 use Rattle.chain.specs.Rules.{refusal9, refusal10, shift_refusal_of, outcome, refused_answer, ran_outcome, outcome_of, shift_of}

@@ -1,5 +1,4 @@
-use native.Mathlib.Omega.{arith}
-use mathlib.Core.Path.{◌≡◌, ap, ◌∙◌}
+use mathlib.Core.Path.{ap, ◌∙◌}
 use Rattle.thin.specs.Tuples.{tuples_of, tuples_tally_of}
 use Rattle.thin.specs.Plans.{plan_pass_of, starts_of}
 use Rattle.thin.proofs.Laws.{plan_pass, plan_starts, turn_is, walk_start, walk_again, walk_end}

@@ -1,7 +1,6 @@
 use native.Mathlib.Omega.{arith}
 use mathlib.Core.Path.{◌≡◌, refl, ap, ◌∙◌}
 use lib.ListN.{length}
-use Prim.Native.Nat.{◌<◌, ◌≤◌}
 use Rattle.chain.specs.Rules.{refused_answer}
 use Rattle.thin.specs.Sheets.{thin_refusal_of, steps_of}
 use Rattle.thin.proofs.Laws.{place_below, todo_place, going_few, going_start, going-again, going_end}
