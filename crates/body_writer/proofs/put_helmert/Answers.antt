@@ -6,21 +6,6 @@ use Rattle.body_writer.specs.Write.{helmert_bytes}
 use Rattle.body_writer.proofs.Runs.{run_series}
 use Rattle.body_writer.proofs.put_helmert.Goals as goal
 
-pub shape_of-body : goal.shape_of-body
-shape_of-body c = omega (
-  arith,
-  c.body-10-1.given,
-  c.body-9-1.given,
-  c.body-8-1.given,
-  c.body-7-1.given,
-  c.body-6-1.given,
-  c.body-5-1.given,
-  c.body-4-1.given,
-  c.body-3-1.given,
-  c.body-2-1.given,
-  c.body-1.given,
-)
-
 pub returns : goal.returns
 unfolding helmert_bytes
 returns c =

@@ -13,59 +13,59 @@ returns-then-room-at c = sym (put_too_long c.args.room.now c.args.at (bytes_of c
 pub returns-then-left-ge248 : goal.returns-then-left-ge248
 unfolding bytes_of
 returns-then-left-ge248 c =
-    rw c.step-1.given.1 (put-part c.args.room.now c.args.at 248 _ c.put_helmert.ensures (length_helmert _) (omega arith))
+    rw c.in-Helmert.is (put-part c.args.room.now c.args.at 248 _ c.put_helmert.ensures (length_helmert _) (omega arith))
 
 pub returns-else-left-ge248 : goal.returns-else-left-ge248
 unfolding bytes_of
 returns-else-left-ge248 c =
-    rw c.step-1.given.1 (sym (put_too_long c.args.room.now c.args.at _ (rw (length_helmert _) (omega arith))))
+    rw c.in-Helmert.is (sym (put_too_long c.args.room.now c.args.at _ (rw (length_helmert _) (omega arith))))
 
 pub returns-then-left-ge8 : goal.returns-then-left-ge8
 unfolding bytes_of
 returns-then-left-ge8 c =
-    rw c.step-in-Cart-1.given.1 (put-part c.args.room.now c.args.at 8 _ c.put_cart.ensures (length-cart _) (omega arith))
+    rw c.in-Cart.is (put-part c.args.room.now c.args.at 8 _ c.put_cart.ensures (length-cart _) (omega arith))
 
 pub returns-else-left-ge8 : goal.returns-else-left-ge8
 unfolding bytes_of
 returns-else-left-ge8 c =
-    rw c.step-in-Cart-1.given.1 (sym (put_too_long c.args.room.now c.args.at _ (rw (length-cart _) (omega arith))))
+    rw c.in-Cart.is (sym (put_too_long c.args.room.now c.args.at _ (rw (length-cart _) (omega arith))))
 
 pub returns-then-left-ge56 : goal.returns-then-left-ge56
 unfolding bytes_of
 returns-then-left-ge56 c =
-    rw c.step-in-Molodensky-1.given.1 (put-part c.args.room.now c.args.at 56 _ c.put_molodensky.ensures (length_molodensky _) (omega arith))
+    rw c.in-Molodensky.is (put-part c.args.room.now c.args.at 56 _ c.put_molodensky.ensures (length_molodensky _) (omega arith))
 
 pub returns-else-left-ge56 : goal.returns-else-left-ge56
 unfolding bytes_of
 returns-else-left-ge56 c =
-    rw c.step-in-Molodensky-1.given.1 (sym (put_too_long c.args.room.now c.args.at _ (rw (length_molodensky _) (omega arith))))
+    rw c.in-Molodensky.is (sym (put_too_long c.args.room.now c.args.at _ (rw (length_molodensky _) (omega arith))))
 
 pub returns-then-left-ge24 : goal.returns-then-left-ge24
 unfolding bytes_of
 returns-then-left-ge24 c =
-    rw c.step-in-Permtide-1.given.1 (put-part c.args.room.now c.args.at 24 _ c.put_permtide.ensures (length_permtide _) (omega arith))
+    rw c.in-Permtide.is (put-part c.args.room.now c.args.at 24 _ c.put_permtide.ensures (length_permtide _) (omega arith))
 
 pub returns-else-left-ge24 : goal.returns-else-left-ge24
 unfolding bytes_of
 returns-else-left-ge24 c =
-    rw c.step-in-Permtide-1.given.1 (sym (put_too_long c.args.room.now c.args.at _ (rw (length_permtide _) (omega arith))))
+    rw c.in-Permtide.is (sym (put_too_long c.args.room.now c.args.at _ (rw (length_permtide _) (omega arith))))
 
 pub returns-then-left-ge24-2 : goal.returns-then-left-ge24-2
 unfolding bytes_of
 returns-then-left-ge24-2 c =
-    rw c.step-in-Deformation-1.given.1 (put-part c.args.room.now c.args.at 24 _ c.put_deformation.ensures (length_deformation _) (omega arith))
+    rw c.in-Deformation.is (put-part c.args.room.now c.args.at 24 _ c.put_deformation.ensures (length_deformation _) (omega arith))
 
 pub returns-else-left-ge24-2 : goal.returns-else-left-ge24-2
 unfolding bytes_of
 returns-else-left-ge24-2 c =
-    rw c.step-in-Deformation-1.given.1 (sym (put_too_long c.args.room.now c.args.at _ (rw (length_deformation _) (omega arith))))
+    rw c.in-Deformation.is (sym (put_too_long c.args.room.now c.args.at _ (rw (length_deformation _) (omega arith))))
 
 pub returns-then-left-ge88 : goal.returns-then-left-ge88
 unfolding bytes_of
 returns-then-left-ge88 c =
-    rw c.step-in-Badekas-1.given.1 (put-part c.args.room.now c.args.at 88 _ c.put_badekas.ensures (length_badekas _) (omega arith))
+    rw c.in-Badekas.is (put-part c.args.room.now c.args.at 88 _ c.put_badekas.ensures (length_badekas _) (omega arith))
 
 pub returns-else-left-ge88 : goal.returns-else-left-ge88
 unfolding bytes_of
 returns-else-left-ge88 c =
-    rw c.step-in-Badekas-1.given.1 (sym (put_too_long c.args.room.now c.args.at _ (rw (length_badekas _) (omega arith))))
+    rw c.in-Badekas.is (sym (put_too_long c.args.room.now c.args.at _ (rw (length_badekas _) (omega arith))))

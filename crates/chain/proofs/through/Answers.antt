@@ -7,7 +7,7 @@ use Rattle.chain.proofs.through.Goals as goal
 pub over_columns-tallies-requires : goal.over_columns-tallies-requires
 over_columns-tallies-requires c =
     let p = c.requires in
-    (p.0, p.1, (search (rules, c.x-1.given, c.y-1.given, p.2.0), search (rules, c.x-1.given, c.z-1.given, p.2.1), search (rules, c.x-1.given, c.t-1.given, p.2.2)), search (rules, c.x-1.given, p.4))
+    (p.0, p.1, (search (rules, p.2.0), search (rules, p.2.1), search (rules, p.2.2)), search (rules, p.4))
 
 pub returns : goal.returns
 returns c =
@@ -15,8 +15,8 @@ returns c =
     let there = to_rows _ _ _ _ _ c.to_columns.ensures p.2 p.3 in
     let e = c.over_columns-tallies.ensures in
     let back = from_rows _ _ _ _ _ c.to_flat.ensures (
-      search (rules, c.x-1.given, c.x-2-1.given, c.y-1.given, c.y-2-1.given, p.2.0),
-      search (rules, c.x-1.given, c.x-2-1.given, c.z-1.given, c.z-2-1.given, p.2.1),
-      search (rules, c.x-1.given, c.x-2-1.given, c.t-1.given, c.t-2-1.given, p.2.2),
-    ) (search (rules, c.x-1.given, c.x-2-1.given, p.3)) in
+      search (rules, p.2.0),
+      search (rules, p.2.1),
+      search (rules, p.2.2),
+    ) (search (rules, p.3)) in
     rw (← there) (back ∙ e.0, e.1)

@@ -29,14 +29,5 @@ plus-requires c = tt
 pub several-requires : goal.several-requires
 several-requires c = tt
 
-pub shape_of-s : goal.shape_of-s
-shape_of-s c = omega (arith, c.s-2-1.given, c.s-1.given)
-
-pub shape_of-list : goal.shape_of-list
-shape_of-list c = omega (arith, c.list-2-1.given, c.list-1.given)
-
-pub shape_of-own : goal.shape_of-own
-shape_of-own c = omega (arith, c.own-2-1.given, c.own-1.given)
-
 pub returns : goal.returns
 returns c = tt

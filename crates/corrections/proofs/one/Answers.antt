@@ -25,26 +25,5 @@ keep-again-requires c = tt
 pub compared-requires : goal.compared-requires
 compared-requires c = tt
 
-pub shape_of-list : goal.shape_of-list
-shape_of-list c = c.list-1.given
-
-pub shape_of-own : goal.shape_of-own
-shape_of-own c = c.own-1.given
-
-pub shape_of-results : goal.shape_of-results
-shape_of-results c = c.results-1.given
-
-pub shape_of-track : goal.shape_of-track
-shape_of-track c = c.track-1.given
-
-pub shape_of-old : goal.shape_of-old
-shape_of-old c = c.old-1.given
-
-pub shape_of-fresh_results : goal.shape_of-fresh_results
-shape_of-fresh_results c = c.fresh_results-1.given
-
-pub shape_of-fresh_track : goal.shape_of-fresh_track
-shape_of-fresh_track c = c.fresh_track-1.given
-
 pub returns : goal.returns
 returns c = tt

@@ -5,8 +5,8 @@ use Rattle.figures.proofs.put_number.Goals as goal
 
 pub returns-in-Found : goal.returns-in-Found
 unfolding number_text either_text
-returns-in-Found c = rw (← c.of_bits.ensures, ← c.fewest_places-shown.ensures, c.shown-1.given.1) c.put_fixed.ensures
+returns-in-Found c = rw (← c.of_bits.ensures, ← c.fewest_places-shown.ensures, c.in-Found.is) c.put_fixed.ensures
 
 pub returns-in-Nothing : goal.returns-in-Nothing
 unfolding number_text either_text
-returns-in-Nothing c = rw (← c.of_bits.ensures, ← c.fewest_places-shown.ensures, c.enum_told-1.given.1) (then _ _ _ c.put_bytes-p.ensures c.put_hex.ensures)
+returns-in-Nothing c = rw (← c.of_bits.ensures, ← c.fewest_places-shown.ensures, c.in-Nothing.is) (then _ _ _ c.put_bytes-p.ensures c.put_hex.ensures)

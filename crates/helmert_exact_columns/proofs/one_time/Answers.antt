@@ -10,8 +10,7 @@ use Rattle.helmert_exact_columns.proofs.one_time.Goals as goal
 
 pub loop-j-init : goal.loop-j-init
 loop-j-init c =
-    let x = c.x-1.given in
-    ((omega (arith, x, c.y-1.given, c.requires.0.0), omega (arith, x, c.z-1.given, c.requires.0.1), omega (arith, x, c.requires.0.2)), refl, omega arith, c.run_end-end.ensures.0, passed_as refl refl (omega arith) (passed_none _ _ _ _))
+    ((omega (arith, c.requires.0.0), omega (arith, c.requires.0.1), omega (arith, c.requires.0.2)), refl, omega arith, c.run_end-end.ensures.0, passed_as refl refl (omega arith) (passed_none _ _ _ _))
 
 pub row-requires-in-loop-j : goal.row-requires-in-loop-j
 row-requires-in-loop-j c = let l = c.loop-j in (l.invariant.0, omega (arith, c.loop-j-test.true, c.run_end-end.ensures.1, l.invariant.0.2))
@@ -25,26 +24,16 @@ loop-j-preserved c =
     let l = c.loop-j in
     let r = c.run_end-end.ensures in
     let before : l.j < c.run_end-end.result = omega (arith, c.loop-j-test.true) in
-    let x = c.x-in-loop-j-1.given in
     let inside : l.j < length l.x = omega (arith, before, r.1, l.invariant.0.2) in
     let m = c.rotation_matrix-m.ensures ∙ ap (λ (q : Vec3). rotation_matrix_of q a.shift.exact a.shift.position_vector) c.rotation_at.ensures in (
-      (omega (arith, x, c.y-in-loop-j-1.given, l.invariant.0.0), omega (arith, x, c.z-in-loop-j-1.given, l.invariant.0.1), omega (arith, x, l.invariant.0.2)),
-      omega (arith, x, l.invariant.1),
+      (omega (arith, l.invariant.0.0), omega (arith, l.invariant.0.1), omega (arith, l.invariant.0.2)),
+      omega (arith, l.invariant.1),
       omega (arith, l.invariant.2),
       omega (arith, before),
       passed_as refl refl (omega (arith, l.invariant.2))
           (passed_on l.invariant.4 (same_row a.own a.shift a.inverse l.x l.y l.z a.t.now l.invariant.0 l.j inside (r.2 l.j l.invariant.2 before)
           (record { scale = c.scale_at-s.ensures; matrix = m }) c.row-in-loop-j.ensures)),
     )
-
-pub shape_of-x : goal.shape_of-x
-shape_of-x c = omega (arith, c.loop-j.invariant.1, c.x-1.given)
-
-pub shape_of-y : goal.shape_of-y
-shape_of-y c = let l = c.loop-j in omega (arith, c.x-1.given, l.invariant.0.0, l.invariant.1, c.requires.0.0)
-
-pub shape_of-z : goal.shape_of-z
-shape_of-z c = let l = c.loop-j in omega (arith, c.x-1.given, l.invariant.0.1, l.invariant.1, c.requires.0.1)
 
 pub returns : goal.returns
 returns c =

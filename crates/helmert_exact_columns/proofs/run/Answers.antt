@@ -26,10 +26,10 @@ pub loop-i-preserved-then-worth : goal.loop-i-preserved-then-worth
 loop-i-preserved-then-worth c =
     let l = c.loop-i in
     let w = c.worth.ensures c.if-worth.true in
-    let x = c.x-1.given in (
-      (omega (arith, x, c.y-1.given, l.invariant.0.0), omega (arith, x, c.z-1.given, l.invariant.0.1), omega (arith, x, l.invariant.0.2)),
-      omega (arith, x, l.invariant.1),
-      omega (arith, x, w.1, l.invariant.0.2),
+(
+      (omega (arith, l.invariant.0.0), omega (arith, l.invariant.0.1), omega (arith, l.invariant.0.2)),
+      omega (arith, l.invariant.1),
+      omega (arith, w.1, l.invariant.0.2),
       passed_on l.invariant.3 c.sixteen-state.ensures,
     )
 
@@ -43,10 +43,10 @@ pub loop-i-preserved : goal.loop-i-preserved
 loop-i-preserved c =
     let l = c.loop-i in
     let w = c.one_time-w.ensures in
-    let x = c.x-else-worth-1.given in (
-      (omega (arith, x, c.y-else-worth-1.given, l.invariant.0.0), omega (arith, x, c.z-else-worth-1.given, l.invariant.0.1), omega (arith, x, l.invariant.0.2)),
-      omega (arith, x, l.invariant.1),
-      omega (arith, x, w.1),
+(
+      (omega (arith, l.invariant.0.0), omega (arith, l.invariant.0.1), omega (arith, l.invariant.0.2)),
+      omega (arith, l.invariant.1),
+      omega (arith, w.1),
       passed_as refl refl (omega (arith, w.0)) (passed_on l.invariant.3 w.2),
     )
 

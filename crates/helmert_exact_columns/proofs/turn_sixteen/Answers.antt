@@ -25,10 +25,9 @@ loop-j-preserved c =
     let few : l.j < 16 = omega (arith, c.loop-j-test.true) in
     let inside : a.i + l.j < length l.x = omega (arith, few, c.requires.1, l.invariant.1) in
     let here = c.met-state.ensures in
-    let x = c.x-1.given in
     let e = state-more a.own a.shift a.from a.t.now a.i l.j l.invariant.3 here in (
-      (omega (arith, x, c.y-1.given, l.invariant.0.0), omega (arith, x, c.z-1.given, l.invariant.0.1), omega (arith, x, l.invariant.0.2)),
-      omega (arith, x, l.invariant.1),
+      (omega (arith, l.invariant.0.0), omega (arith, l.invariant.0.1), omega (arith, l.invariant.0.2)),
+      omega (arith, l.invariant.1),
       omega (arith, few),
       one_on a.own a.shift a.from a.t.now a.i l.j e,
       passed_as (omega arith) refl refl

@@ -18,7 +18,7 @@ pub row-requires : goal.row-requires
 row-requires c = (c.requires.0, c.requires.1)
 
 pub loop-j-init : goal.loop-j-init
-loop-j-init c = ((search (rules, c.x-1.given, c.y-1.given, c.z-1.given, c.requires.0.0), search (rules, c.x-1.given, c.y-1.given, c.z-1.given, c.requires.0.1), search (rules, c.x-1.given, c.y-1.given, c.z-1.given, c.requires.0.2)), refl, search rules, c.run_end-end.ensures.0, passed_as refl refl (omega arith) (passed_none _ _ _ _))
+loop-j-init c = ((search (rules, c.requires.0.0), search (rules, c.requires.0.1), search (rules, c.requires.0.2)), refl, search rules, c.run_end-end.ensures.0, passed_as refl refl (omega arith) (passed_none _ _ _ _))
 
 pub row-requires-in-loop-j : goal.row-requires-in-loop-j
 row-requires-in-loop-j c =
@@ -42,12 +42,6 @@ loop-j-preserved c =
       omega (arith, before),
       passed_as refl refl (omega (arith, l.invariant.2)) (passed_on l.invariant.4 (turned-row l.j fits (alike l.j l.invariant.2 before (tuple_at (flat_of l.x l.y l.z a.t.now) (4 * l.j)) (row-time l.x l.y l.z a.t.now l.invariant.0 l.j inside)) c.row-in-loop-j.ensures)),
     )
-
-pub shape_of-y : goal.shape_of-y
-shape_of-y c = search (rules, c.x-1.given, c.loop-j.invariant.0.0, c.loop-j.invariant.1, c.requires.0.0)
-
-pub shape_of-z : goal.shape_of-z
-shape_of-z c = search (rules, c.x-1.given, c.loop-j.invariant.0.1, c.loop-j.invariant.1, c.requires.0.1)
 
 pub returns : goal.returns
 returns c =

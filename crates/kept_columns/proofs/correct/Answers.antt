@@ -24,42 +24,6 @@ returns-then-index_broken c =
     let none = sym (ap (λ (r : Refusal). r.number) e) ∙ c.if-refusal-ne0.false in
     rw c.of_call-refused.ensures (columns-refused-14 a.inverse s old a.index a.fix none (sym c.index_broken.ensures ∙ c.if-index_broken.true))
 
-pub shape_of-x : goal.shape_of-x
-shape_of-x c = c.x-1.given
-
-pub shape_of-y : goal.shape_of-y
-shape_of-y c = c.y-1.given
-
-pub shape_of-z : goal.shape_of-z
-shape_of-z c = c.z-1.given
-
-pub shape_of-t : goal.shape_of-t
-shape_of-t c = c.t-1.given
-
-pub shape_of-rx : goal.shape_of-rx
-shape_of-rx c = c.rx-1.given
-
-pub shape_of-ry : goal.shape_of-ry
-shape_of-ry c = c.ry-1.given
-
-pub shape_of-rz : goal.shape_of-rz
-shape_of-rz c = c.rz-1.given
-
-pub shape_of-rt : goal.shape_of-rt
-shape_of-rt c = c.rt-1.given
-
-pub shape_of-kx : goal.shape_of-kx
-shape_of-kx c = c.kx-1.given
-
-pub shape_of-ky : goal.shape_of-ky
-shape_of-ky c = c.ky-1.given
-
-pub shape_of-kz : goal.shape_of-kz
-shape_of-kz c = c.kz-1.given
-
-pub shape_of-kt : goal.shape_of-kt
-shape_of-kt c = c.kt-1.given
-
 pub returns : goal.returns
 returns c =
     let a = c.args in

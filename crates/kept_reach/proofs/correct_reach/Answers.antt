@@ -7,15 +7,6 @@ use Rattle.kept_reach.proofs.Stretch.{refused-met, stretch-small, track-reaches,
 use borrow.Author.Rules.{rules}
 use Rattle.kept_reach.proofs.correct_reach.Goals as goal
 
-pub shape_of-list-then-refusal-ne0 : goal.shape_of-list-then-refusal-ne0
-shape_of-list-then-refusal-ne0 c = c.list-1.given
-
-pub shape_of-results-then-refusal-ne0 : goal.shape_of-results-then-refusal-ne0
-shape_of-results-then-refusal-ne0 c = c.results-1.given
-
-pub shape_of-track-then-refusal-ne0 : goal.shape_of-track-then-refusal-ne0
-shape_of-track-then-refusal-ne0 c = c.track-1.given
-
 pub returns-then-refusal-ne0 : goal.returns-then-refusal-ne0
 returns-then-refusal-ne0 c = (c.correct-corrected.ensures, let a = c.args in refused-met a.inverse a.s.now (kept_of a.list.now a.results.now a.track.now) a.index a.fix c.correct-corrected.ensures c.if-refusal-ne0.true)
 
@@ -33,15 +24,6 @@ overflow_mul-e c = search (rules, let a = c.args in stretch-small a.inverse a.s.
 
 pub offset_bounds-list-a : goal.offset_bounds-list-a
 offset_bounds-list-a c = search (rules, let a = c.args in stretch-small a.inverse a.s.now (kept_of a.list.now a.results.now a.track.now) a.index a.fix c.correct-corrected.ensures c.if-refusal-ne0.false)
-
-pub shape_of-list : goal.shape_of-list
-shape_of-list c = c.list-1.given
-
-pub shape_of-results : goal.shape_of-results
-shape_of-results c = c.results-1.given
-
-pub shape_of-track : goal.shape_of-track
-shape_of-track c = c.track-1.given
 
 pub returns : goal.returns
 returns c =

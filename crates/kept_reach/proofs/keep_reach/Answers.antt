@@ -10,12 +10,6 @@ returns-then-refusal-ne0 c =
     let e = c.keep-refusal.ensures in
     (e.0, keep-none _ _ _ c.none-none.ensures (λ z. c.if-refusal-ne0.true (ap (λ (r : Refusal). r.number) e.0 ∙ z)), e.1)
 
-pub shape_of-results : goal.shape_of-results
-shape_of-results c = c.results-1.given
-
-pub shape_of-track : goal.shape_of-track
-shape_of-track c = c.track-1.given
-
 pub returns : goal.returns
 returns c =
     let e = c.keep-refusal.ensures in

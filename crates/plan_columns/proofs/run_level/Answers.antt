@@ -11,41 +11,41 @@ use Rattle.plan_columns.proofs.run_level.Goals as goal
 pub returns-in-CartForward : goal.returns-in-CartForward
 returns-in-CartForward c =
     let a = c.args in
-    let kind = c.plan-1.given.1 in
+    let kind = c.in-CartForward.is in
     let l = flat_of a.x.now a.y.now a.z.now a.t.now in
     looped-met (lent_of a.velocities.now a.marks.now a.grid.now) a.first a.from l a.plan (rw kind c.cart_forward-count.ensures) (rw kind c.place-met.ensures)
 
 pub returns-in-CartInverse : goal.returns-in-CartInverse
 returns-in-CartInverse c =
     let a = c.args in
-    let kind = c.plan-in-CartInverse-1.given.1 in
+    let kind = c.in-CartInverse.is in
     let l = flat_of a.x.now a.y.now a.z.now a.t.now in
     looped-met (lent_of a.velocities.now a.marks.now a.grid.now) a.first a.from l a.plan (rw kind c.cart_inverse-count.ensures) (rw kind refl)
 
 pub returns-in-PermtideEither : goal.returns-in-PermtideEither
 returns-in-PermtideEither c =
     let a = c.args in
-    let kind = c.plan-in-PermtideEither-1.given.1 in
+    let kind = c.in-PermtideEither.is in
     let l = flat_of a.x.now a.y.now a.z.now a.t.now in
     looped-met (lent_of a.velocities.now a.marks.now a.grid.now) a.first a.from l a.plan (rw kind (c.permtide.ensures, rows _ _ _ _ c.requires (search rules))) (rw kind c.latitude-met.ensures)
 
 pub returns-in-DeformationEither : goal.returns-in-DeformationEither
 returns-in-DeformationEither c =
     let a = c.args in
-    let kind = c.plan-in-DeformationEither-1.given.1 in
+    let kind = c.in-DeformationEither.is in
     let l = flat_of a.x.now a.y.now a.z.now a.t.now in
     looped-met (lent_of a.velocities.now a.marks.now a.grid.now) a.first a.from l a.plan (rw kind (c.deform-tally.ensures.0, c.deform-tally.ensures.1)) (rw kind c.deform-tally.ensures.2)
 
 pub returns-in-MolodenskyEither : goal.returns-in-MolodenskyEither
 returns-in-MolodenskyEither c =
     let a = c.args in
-    let kind = c.plan-in-MolodenskyEither-1.given.1 in
+    let kind = c.in-MolodenskyEither.is in
     let l = flat_of a.x.now a.y.now a.z.now a.t.now in
-    looped-met (lent_of a.velocities.now a.marks.now a.grid.now) a.first a.from l a.plan (rw kind (c.molodensky.ensures, rows _ _ _ _ c.requires (search (rules, c.x-in-MolodenskyEither-1.given)))) (rw kind c.offsets-met.ensures)
+    looped-met (lent_of a.velocities.now a.marks.now a.grid.now) a.first a.from l a.plan (rw kind (c.molodensky.ensures, rows _ _ _ _ c.requires (search rules))) (rw kind c.offsets-met.ensures)
 
 pub returns-in-HelmertEither : goal.returns-in-HelmertEither
 returns-in-HelmertEither c =
     let a = c.args in
-    let kind = c.plan-in-HelmertEither-1.given.1 in
+    let kind = c.in-HelmertEither.is in
     let l = flat_of a.x.now a.y.now a.z.now a.t.now in
     handed_on-met (lent_of a.velocities.now a.marks.now a.grid.now) a.first a.from l a.plan (rw kind c.run_helmert-went.ensures) (rw kind c.helmert-met.ensures)

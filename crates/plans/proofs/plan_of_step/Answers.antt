@@ -5,24 +5,24 @@ use Rattle.plans.proofs.plan_of_step.Goals as goal
 
 pub returns-in-Cart : goal.returns-in-Cart
 unfolding plan_of
-returns-in-Cart c = rw c.step-1.given.1 c.cart_plan.ensures
+returns-in-Cart c = rw c.in-Cart.is c.cart_plan.ensures
 
 pub returns-in-Permtide : goal.returns-in-Permtide
 unfolding plan_of
-returns-in-Permtide c = rw (c.step-in-Permtide-1.given.1, c.new.ensures)
+returns-in-Permtide c = rw (c.in-Permtide.is, c.new.ensures)
 
 pub returns-in-Deformation : goal.returns-in-Deformation
 unfolding plan_of
-returns-in-Deformation c = rw (c.step-in-Deformation-1.given.1, c.directed.ensures, c.new-in-Deformation.ensures)
+returns-in-Deformation c = rw (c.in-Deformation.is, c.directed.ensures, c.new-in-Deformation.ensures)
 
 pub returns-in-Molodensky : goal.returns-in-Molodensky
 unfolding plan_of
-returns-in-Molodensky c = rw (c.step-in-Molodensky-1.given.1, c.new-in-Molodensky.ensures)
+returns-in-Molodensky c = rw (c.in-Molodensky.is, c.new-in-Molodensky.ensures)
 
 pub returns-in-Helmert : goal.returns-in-Helmert
 unfolding plan_of
-returns-in-Helmert c = rw (c.step-in-Helmert-1.given.1, c.prepare.ensures)
+returns-in-Helmert c = rw (c.in-Helmert.is, c.prepare.ensures)
 
 pub returns-in-Badekas : goal.returns-in-Badekas
 unfolding plan_of
-returns-in-Badekas c = rw (c.step-in-Badekas-1.given.1, c.prepare-in-Badekas.ensures)
+returns-in-Badekas c = rw (c.in-Badekas.is, c.prepare-in-Badekas.ensures)

@@ -3,4 +3,4 @@
 use Rattle.plans.proofs.start.Goals as goal
 
 pub returns-in-HelmertEither : goal.returns-in-HelmertEither
-returns-in-HelmertEither c = rw c.plan-1.given.1 c.start.ensures
+returns-in-HelmertEither c = rw c.in-HelmertEither.is c.start.ensures

@@ -7,9 +7,9 @@ use Rattle.reach_entries.proofs.sillfeather_sin_cos_reach.Goals as goal
 pub returns-in-Pair : goal.returns-in-Pair
 returns-in-Pair c =
     let a = c.args in
-    ap (λ (told : Angle). sine_told_of told a.s.now a.c.now) (sym c.p-1.given.1 ∙ c.sin_cos.ensures)
+    ap (λ (told : Angle). sine_told_of told a.s.now a.c.now) (sym c.in-Pair.is ∙ c.sin_cos.ensures)
 
 pub returns-in-OutOfReach : goal.returns-in-OutOfReach
 returns-in-OutOfReach c =
     let a = c.args in
-    ap (λ (told : Angle). sine_told_of told a.s.now a.c.now) (sym c.enum_told-1.given.1 ∙ c.sin_cos.ensures)
+    ap (λ (told : Angle). sine_told_of told a.s.now a.c.now) (sym c.in-OutOfReach.is ∙ c.sin_cos.ensures)

@@ -12,11 +12,9 @@ returns-then-exact c = rw (c.exact_matrix.ensures, c.exact_sines.ensures, c.if-e
 -- position vector: that binary64 holds the angles is known where the record's fields are read
 pub returns-then-position_vector : goal.returns-then-position_vector
 returns-then-position_vector c =
-    let held = c.struct_known-then-position_vector-2-1.given in
     rw (c.if-position_vector.true, c.if-exact.false, small_angle_columns _ held.0 held.1.0 held.1.1.0)
 
 -- coordinate frame
 pub returns : goal.returns
 returns c =
-    let held = c.struct_known-4-1.given in
     rw (c.if-position_vector.false, c.if-exact.false, small_angle_rows _ held.0 held.1.0 held.1.1.0)

@@ -77,7 +77,7 @@ loop-i-preserved c =
       room_back l.y w.1.1.1.1.1.0 m l.invariant.2 c.y-in-loop-i-1.given,
       room_back l.z w.1.1.1.1.1.1.0 m l.invariant.3 c.z-in-loop-i-1.given,
       room_back l.t w.1.1.1.1.1.1.1.0 m l.invariant.4 c.t-in-loop-i-1.given,
-      search (rules, l.invariant.5, c.list-1.given),
+      search (rules, l.invariant.5),
       passed_on l.invariant.6 (passed-window m fits (part-put l.list l.i m _) (rw k at e.0) (rw k at e.1) (rw k at e.2)),
       l.invariant.7,
       passed_on l.invariant.8 (passed-met (plan_pass_of (lent_of a.velocities.now a.marks.now a.grid.now) a.plan) m fits (part-put l.list l.i m _) (rw k at e.0) (rw k at e.1) (rw k at e.3)),

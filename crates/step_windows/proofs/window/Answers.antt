@@ -10,8 +10,8 @@ returns c =
     let there = to_rows _ _ _ _ _ c.to_columns.ensures p.0 p.1 in
     let e = c.run-part.ensures in
     let back = from_rows _ _ _ _ _ c.to_flat.ensures (
-      search (rules, c.x-1.given, c.x-2-1.given, c.y-1.given, c.y-2-1.given, p.0.0),
-      search (rules, c.x-1.given, c.x-2-1.given, c.z-1.given, c.z-2-1.given, p.0.1),
-      search (rules, c.x-1.given, c.x-2-1.given, c.t-1.given, c.t-2-1.given, p.0.2),
-    ) (search (rules, c.x-1.given, c.x-2-1.given, p.1)) in
+      search (rules, p.0.0),
+      search (rules, p.0.1),
+      search (rules, p.0.2),
+    ) (search (rules, p.1)) in
     rw (← there) (back ∙ e.0, e.1, e.2, e.3)

@@ -13,30 +13,6 @@ use Rattle.stretch.proofs.Fits.{all_level_told, rows-beside, of_rows_test}
 use Rattle.stretch_columns.proofs.Both.{fresh-columns, fresh-left, fresh_kept}
 use Rattle.stretch_columns.proofs.fresh.Goals as goal
 
-pub shape_of-rx : goal.shape_of-rx
-shape_of-rx c = c.rx-1.given
-
-pub shape_of-ry : goal.shape_of-ry
-shape_of-ry c = c.ry-1.given
-
-pub shape_of-rz : goal.shape_of-rz
-shape_of-rz c = c.rz-1.given
-
-pub shape_of-rt : goal.shape_of-rt
-shape_of-rt c = c.rt-1.given
-
-pub shape_of-kx : goal.shape_of-kx
-shape_of-kx c = c.kx-1.given
-
-pub shape_of-ky : goal.shape_of-ky
-shape_of-ky c = c.ky-1.given
-
-pub shape_of-kz : goal.shape_of-kz
-shape_of-kz c = c.kz-1.given
-
-pub shape_of-kt : goal.shape_of-kt
-shape_of-kt c = c.kt-1.given
-
 pub returns-then-level : goal.returns-then-level
 unfolding all_level_of
 returns-then-level c =
@@ -52,8 +28,8 @@ returns-then-level c =
     let r = c.shift_between.new.1.1.1.1.1.1.1 in
     let k = c.track_all.new.1.1.1 in
     fresh_kept a.shift a.inverse old r.0 r.1.0 r.1.1.0 r.1.1.1.0 k.0 k.1.0 k.1.1.0 k.1.1.1.0 told
-    (omega (arith, c.ry-1.given, c.rx-1.given, level.1.0), omega (arith, c.rz-1.given, c.rx-1.given, level.1.1), omega (arith, c.rt-1.given, c.rx-1.given, level.1.2))
-    (omega (arith, c.ky-1.given, c.kx-1.given, level.2.0), omega (arith, c.kz-1.given, c.kx-1.given, level.2.1), omega (arith, c.kt-1.given, c.kx-1.given, level.2.2))
+    (omega (arith, level.1.0), omega (arith, level.1.1), omega (arith, level.1.2))
+    (omega (arith, level.2.0), omega (arith, level.2.1), omega (arith, level.2.2))
     made
 
 pub returns-else-level : goal.returns-else-level

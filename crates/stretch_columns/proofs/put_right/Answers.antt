@@ -19,46 +19,10 @@ unfolding all_level_of
 track_stretch-stretch-requires c =
     let a = c.args in
     let h = fix-there (kept_columns (columns a.x.now a.y.now a.z.now a.t.now) (columns a.rx.now a.ry.now a.rz.now a.rt.now) (columns a.kx.now a.ky.now a.kz.now a.kt.now)) a.index (rw c.all_level-level.ensures at c.if-level-index.true) in
-    (h.0.2, omega (arith, c.t-1.given, h.0.4, h.0.0.2), omega (arith, c.t-1.given, h.1, h.0.0.2))
+    (h.0.2, omega (arith, h.0.4, h.0.0.2), omega (arith, h.1, h.0.0.2))
 
 pub overflow_add-end : goal.overflow_add-end
-overflow_add-end c = omega (arith, c.track_stretch-stretch.ensures.2, c.t-1.given, c)
-
-pub shape_of-x-then-level-index : goal.shape_of-x-then-level-index
-shape_of-x-then-level-index c = c.x-1.given
-
-pub shape_of-y-then-level-index : goal.shape_of-y-then-level-index
-shape_of-y-then-level-index c = c.y-1.given
-
-pub shape_of-z-then-level-index : goal.shape_of-z-then-level-index
-shape_of-z-then-level-index c = c.z-1.given
-
-pub shape_of-t-then-level-index : goal.shape_of-t-then-level-index
-shape_of-t-then-level-index c = c.t-1.given
-
-pub shape_of-rx-then-level-index : goal.shape_of-rx-then-level-index
-shape_of-rx-then-level-index c = c.rx-1.given
-
-pub shape_of-ry-then-level-index : goal.shape_of-ry-then-level-index
-shape_of-ry-then-level-index c = c.ry-1.given
-
-pub shape_of-rz-then-level-index : goal.shape_of-rz-then-level-index
-shape_of-rz-then-level-index c = c.rz-1.given
-
-pub shape_of-rt-then-level-index : goal.shape_of-rt-then-level-index
-shape_of-rt-then-level-index c = c.rt-1.given
-
-pub shape_of-kx-then-level-index : goal.shape_of-kx-then-level-index
-shape_of-kx-then-level-index c = c.kx-1.given
-
-pub shape_of-ky-then-level-index : goal.shape_of-ky-then-level-index
-shape_of-ky-then-level-index c = c.ky-1.given
-
-pub shape_of-kz-then-level-index : goal.shape_of-kz-then-level-index
-shape_of-kz-then-level-index c = c.kz-1.given
-
-pub shape_of-kt-then-level-index : goal.shape_of-kt-then-level-index
-shape_of-kt-then-level-index c = c.kt-1.given
+overflow_add-end c = omega (arith, c.track_stretch-stretch.ensures.2, c)
 
 pub returns-then-level-index : goal.returns-then-level-index
 unfolding all_level_of corrected_of
@@ -68,19 +32,18 @@ returns-then-level-index c =
     let told : all_level_of old && ltb a.index (length a.x.now) ≡ true = rw c.all_level-level.ensures at c.if-level-index.true in
     let level = (fix-there old a.index told).0 in
     let w = c.write_row.new in
-    let x = c.x-1.given in
-    let list : Level w.0 w.1.0 w.1.1.0 w.1.1.1.0 = (omega (arith, c.y-1.given, x, level.0.0), omega (arith, c.z-1.given, x, level.0.1), omega (arith, c.t-1.given, x, level.0.2)) in
+    let list : Level w.0 w.1.0 w.1.1.0 w.1.1.1.0 = (omega (arith, level.0.0), omega (arith, level.0.1), omega (arith, level.0.2)) in
     let results = flat_of a.rx.now a.ry.now a.rz.now a.rt.now in
     let track = flat_of a.kx.now a.ky.now a.kz.now a.kt.now in
     let again = c.track_stretch-stretch.ensures in
     let n = c.track_stretch-stretch.result.count in
-    let beside = rows-beside (columns w.0 w.1.0 w.1.1.0 w.1.1.1.0) old.results a.index (a.index + n) list level.1 (omega (arith, x, level.3)) (omega arith) (omega (arith, again.2, list.2)) in
+    let beside = rows-beside (columns w.0 w.1.0 w.1.1.0 w.1.1.1.0) old.results a.index (a.index + n) list level.1 (omega (arith, level.3)) (omega arith) (omega (arith, again.2, list.2)) in
     let r = c.shift_between.new.1.1.1.1.1.1.1 in
     let k = c.track_stretch-stretch.new.1.1 in
     right-put a.shift a.inverse old a.index a.fix w.0 w.1.0 w.1.1.0 w.1.1.1.0 r.0 r.1.0 r.1.1.0 r.1.1.1.0 k.0 k.1.0 k.1.1.0 k.1.1.1.0 told
     list
-    (omega (arith, c.ry-1.given, c.rx-1.given, level.1.0), omega (arith, c.rz-1.given, c.rx-1.given, level.1.1), omega (arith, c.rt-1.given, c.rx-1.given, level.1.2))
-    (omega (arith, c.ky-1.given, c.kx-1.given, level.2.0), omega (arith, c.kz-1.given, c.kx-1.given, level.2.1), omega (arith, c.kt-1.given, c.kx-1.given, level.2.2))
+    (omega (arith, level.1.0), omega (arith, level.1.1), omega (arith, level.1.2))
+    (omega (arith, level.2.0), omega (arith, level.2.1), omega (arith, level.2.2))
     (redo-columns a.shift a.inverse w.0 w.1.0 w.1.1.0 w.1.1.1.0 list (before_of a.shift track a.index) results track a.index again.0 again.1 again.2 (rw again.3 at (c.shift_between.ensures.0 beside)) ∙ rw c.write_row.ensures)
 
 pub returns : goal.returns

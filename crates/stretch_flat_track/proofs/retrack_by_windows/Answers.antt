@@ -16,8 +16,7 @@ loop-i-init c =
 
 pub retrack_part-again-requires : goal.retrack_part-again-requires
 retrack_part-again-requires c =
-    let g = c.retrack_part-arg-1.given.2 in
-    (omega (arith, g), omega (arith, g, c.window-w.ensures.2), c.retrack_part-arg-in-loop-i-1.given.2 ∙ sym g)
+    (omega arith, omega (arith, c.window-w.ensures.2), c.retrack_part-arg-in-loop-i-1.given.2 ∙ sym g)
 
 pub overflow_add-i : goal.overflow_add-i
 overflow_add-i c =
@@ -61,7 +60,7 @@ loop-i-preserved c =
     let made = c.retrack_part-again.ensures in
     let p = c.retrack_part-again.new.1.1.1.0 in
     let fits : 4 * (l.i + w) ≤ length list = omega (arith, l.invariant.0, c.window-w.ensures.1, c.loop-i-test.true) in
-    (l.invariant.0, c.track-1.given.1 ∙ l.invariant.1, retracking-window list l.invariant.2 w fits p made refl c.if-met.false)
+    (l.invariant.0, c.in-loop-i.is ∙ l.invariant.1, retracking-window list l.invariant.2 w fits p made refl c.if-met.false)
 
 pub returns : goal.returns
 returns c =

@@ -8,9 +8,6 @@ use Rattle.stretch_flat_track.proofs.retrack_list.Goals as goal
 pub retrack_by_windows-requires : goal.retrack_by_windows-requires
 retrack_by_windows-requires c = as_long_told _ _ (sym c.as_long.ensures ∙ c.if-as_long.true)
 
-pub shape_of-track-then-as_long : goal.shape_of-track-then-as_long
-shape_of-track-then-as_long c = c.track-1.given
-
 pub returns-then-as_long : goal.returns-then-as_long
 returns-then-as_long c = rw (sym c.as_long.ensures ∙ c.if-as_long.true) c.retrack_by_windows.ensures
 

@@ -7,11 +7,10 @@ use Rattle.stretch_flat_track.proofs.retrack_window.Goals as goal
 
 pub put_back-requires : goal.put_back-requires
 put_back-requires c =
-    let x = c.kx-1.given in
     let few = retrack_few _ _ c.args.list.now _ (omega (arith, c.requires.2)) c.requires.3 c.retrack_room-again.ensures in (
-      (omega (arith, c.ky-1.given, x, c.requires.0.0), omega (arith, c.kz-1.given, x, c.requires.0.1), omega (arith, c.kt-1.given, x, c.requires.0.2)),
-      omega (arith, few, x, c.requires.1, c.requires.2),
-      omega (arith, x, c.requires.1, c.requires.2, c.requires.3),
+      (omega (arith, c.requires.0.0), omega (arith, c.requires.0.1), omega (arith, c.requires.0.2)),
+      omega (arith, few, c.requires.1, c.requires.2),
+      omega (arith, c.requires.1, c.requires.2, c.requires.3),
     )
 
 pub returns : goal.returns

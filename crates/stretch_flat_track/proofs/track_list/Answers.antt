@@ -7,9 +7,6 @@ use Rattle.stretch_flat_track.proofs.track_list.Goals as goal
 pub track_by_windows-requires : goal.track_by_windows-requires
 track_by_windows-requires c = as_long_told _ _ (sym c.as_long.ensures ∙ c.if-as_long.true)
 
-pub shape_of-track : goal.shape_of-track
-shape_of-track c = c.track-1.given
-
 pub returns-then-as_long : goal.returns-then-as_long
 returns-then-as_long c = rw (sym c.as_long.ensures ∙ c.if-as_long.true) c.track_by_windows.ensures
 

@@ -13,18 +13,6 @@ rows_between-requires c =
     let a = c.args in
     rows-beside-told (columns a.x.now a.y.now a.z.now a.t.now) (columns a.rx.now a.ry.now a.rz.now a.rt.now) a.start a.end (rw (c.of_rows.ensures, c.of_rows-2.ensures) at c.if-of_rows-start.true)
 
-pub shape_of-rx : goal.shape_of-rx
-shape_of-rx c = c.rx-1.given
-
-pub shape_of-ry : goal.shape_of-ry
-shape_of-ry c = c.ry-1.given
-
-pub shape_of-rz : goal.shape_of-rz
-shape_of-rz c = c.rz-1.given
-
-pub shape_of-rt : goal.shape_of-rt
-shape_of-rt c = c.rt-1.given
-
 pub returns-then-of_rows-start : goal.returns-then-of_rows-start
 unfolding rows_beside_of
 returns-then-of_rows-start c = where-true (rw (c.of_rows.ensures, c.of_rows-2.ensures) at c.if-of_rows-start.true) c.rows_between.ensures

@@ -10,18 +10,6 @@ track_rows-requires c =
     let a = c.args in
     of_rows_told (length a.t.now) a.kx.now a.ky.now a.kz.now a.kt.now (sym c.of_rows.ensures ∙ c.if-of_rows.true)
 
-pub shape_of-kx-then-of_rows : goal.shape_of-kx-then-of_rows
-shape_of-kx-then-of_rows c = c.kx-1.given
-
-pub shape_of-ky-then-of_rows : goal.shape_of-ky-then-of_rows
-shape_of-ky-then-of_rows c = c.ky-1.given
-
-pub shape_of-kz-then-of_rows : goal.shape_of-kz-then-of_rows
-shape_of-kz-then-of_rows c = c.kz-1.given
-
-pub shape_of-kt-then-of_rows : goal.shape_of-kt-then-of_rows
-shape_of-kt-then-of_rows c = c.kt-1.given
-
 pub returns-then-of_rows : goal.returns-then-of_rows
 returns-then-of_rows c = where-true (sym c.of_rows.ensures ∙ c.if-of_rows.true) c.track_rows.ensures
 
