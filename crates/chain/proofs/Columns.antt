@@ -62,8 +62,8 @@ module _ (own : Refusal) (deforms inverse : Bool) (es : List Entry) (c : Columns
   columns-run-through h e f = rw (eq-eqb own.number 0 h, e, f)
 
 -- columns of one length are those of the flat list that they stand for
-pub columns_of : (x y z t : List Float) {l : List Float} → Level x y z t → flat_of x y z t ≡ l → columns x y z t ≡ columns_of l
-columns_of x y z t level e = rw (← e, back-x x y z t level, back-y x y z t level, back-z x y z t level, back-t x y z t level)
+pub columns_of_lem : (x y z t : List Float) {l : List Float} → Level x y z t → flat_of x y z t ≡ l → columns x y z t ≡ columns_of l
+columns_of_lem x y z t level e = rw (← e, back-x x y z t level, back-y x y z t level, back-z x y z t level, back-t x y z t level)
 
 -- ---- the flat answer
 

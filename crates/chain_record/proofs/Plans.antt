@@ -15,8 +15,8 @@ use Rattle.plans.specs.Plans.{plan_of, plan_turns_of, plan_pass_of, plan_start_o
 use Rattle.chain.specs.Chain.{pass_of, state_of, reversed_of, step_list_of, tuples_counted_of, tuples_met_of, step_tally_of}
 use Rattle.chain.proofs.Windows.{plan_turns, plan_met, plan_start}
 
-pass_of : (lent : Lent) (reversed : Bool) (step : Step) → plan_pass_of lent (plan_of reversed step) ≡ pass_of reversed lent step
-pass_of lent reversed step =
+pass_of_lem : (lent : Lent) (reversed : Bool) (step : Step) → plan_pass_of lent (plan_of reversed step) ≡ pass_of reversed lent step
+pass_of_lem lent reversed step =
     let et = plan_turns lent reversed step in
     let em = plan_met reversed lent step in
     λ j. record { turns = et j; met = em j }
@@ -27,7 +27,7 @@ module _ (inverse : Bool) (lent : Lent) (e : Entry) (l : List Float) {reversed :
   this = there ∙ ap (λ (b : Bool). plan_of b e.step) turned
 
   pass : plan_pass_of lent plan ≡ pass_of (reversed_of inverse e) lent e.step
-  pass = ap (plan_pass_of lent) this ∙ pass_of lent (reversed_of inverse e) e.step
+  pass = ap (plan_pass_of lent) this ∙ pass_of_lem lent (reversed_of inverse e) e.step
 
   start : plan_start_of plan ≡ state_of e.step
   start = ap plan_start_of this ∙ plan_start (reversed_of inverse e) e.step

@@ -277,26 +277,26 @@ unfolding first_broken
 give [] r after k e = rw e
 give (q ∷ before) r after (Unbroken.next h k) e = rw h (give before r after k e)
 
-by_number : {A : Type 0} (b : Bool) (a x : Refusal) (n : ℕ) → (b ≡ true → a.number ≡ n → A) → (b ≡ false → x.number ≡ n → A)
+by_number_lem : {A : Type 0} (b : Bool) (a x : Refusal) (n : ℕ) → (b ≡ true → a.number ≡ n → A) → (b ≡ false → x.number ≡ n → A)
     → (cond b a x).number ≡ n → A
-by_number true a x n p q e = p refl e
-by_number false a x n p q e = q refl e
+by_number_lem true a x n p q e = p refl e
+by_number_lem false a x n p q e = q refl e
 
 -- a number that no broken rule has is not given
 pub never_given : (n : ℕ) → (n ≡ 0 → ⊥) → (l : List Rule) → Without n l → (first_broken l).number ≡ n → ⊥
 unfolding first_broken
 never_given n some [] w e = some (sym e)
-never_given n some (r ∷ l) (next h w) e = by_number r.broken r.answer (first_broken l) n h (λ b. never_given n some l w) e
+never_given n some (r ∷ l) (next h w) e = by_number_lem r.broken r.answer (first_broken l) n h (λ b. never_given n some l w) e
 
 module _ (r : Rule) (after : List Rule) (some : r.answer.number ≡ 0 → ⊥) (later : Without r.answer.number after) where
   only_then : (before : List Rule) → Without r.answer.number before → (first_broken (before ++ (r ∷ after))).number ≡ r.answer.number
       → Unbroken before × (r.broken ≡ true)
   unfolding first_broken
   only_then [] w e =
-      by_number r.broken r.answer (first_broken after) r.answer.number (λ b d. (Unbroken.none, b))
+      by_number_lem r.broken r.answer (first_broken after) r.answer.number (λ b d. (Unbroken.none, b))
       (λ b d. absurd (never_given r.answer.number some after later d)) e
   only_then (q ∷ before) (next h w) e =
-      by_number q.broken q.answer (first_broken (before ++ (r ∷ after))) r.answer.number (λ b d. absurd (h b d))
+      by_number_lem q.broken q.answer (first_broken (before ++ (r ∷ after))) r.answer.number (λ b d. absurd (h b d))
       (λ b d. let p = only_then before w d in (Unbroken.next b p.0, p.1)) e
 
 -- A rule's number is given exactly when every rule before it is kept and it is broken, where no
@@ -340,6 +340,6 @@ pub own_given_exactly_when : (s : List ℕ) (later : List Rule) (n : ℕ) → (n
     → ((first_broken (own_rule s ∷ later)).number ≡ n) ↔ ((refusal_of s).number ≡ n)
 unfolding first_broken
 own_given_exactly_when s later n some w = (
-  by_number (own_rule s).broken (refusal_of s) (first_broken later) n (λ b e. e) (λ b e. absurd (never_given n some later w e)),
+  by_number_lem (own_rule s).broken (refusal_of s) (first_broken later) n (λ b e. e) (λ b e. absurd (never_given n some later w e)),
   λ e. let b : eqb (refusal_of s).number 0 ≡ false = ne_eqb _ _ (λ z. some (sym e ∙ z)) in rw b e,
 )

@@ -93,5 +93,5 @@ fix-there k index e = let h = and_true (all_level_of k) (ltb index (length k.lis
 
 -- ---- columns of one length are the columns of the flat list that they stand for
 
-pub columns_of : (x y z t : List Float) {l : List Float} → Level x y z t → flat_of x y z t ≡ l → columns x y z t ≡ columns_of l
-columns_of x y z t h e = rw (← e, back-x x y z t h, back-y x y z t h, back-z x y z t h, back-t x y z t h)
+pub columns_of_lem : (x y z t : List Float) {l : List Float} → Level x y z t → flat_of x y z t ≡ l → columns x y z t ≡ columns_of l
+columns_of_lem x y z t h e = rw (← e, back-x x y z t h, back-y x y z t h, back-z x y z t h, back-t x y z t h)

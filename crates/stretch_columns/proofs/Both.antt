@@ -20,7 +20,7 @@ use Rattle.stretch.specs.Kept.{kept_of, fresh_of, redone_of, redo_of, corrected_
 use Rattle.stretch.specs.Track.{tracks_of, retrack_of}
 use Rattle.stretch.specs.KeptColumns.{KeptColumns, kept_columns, flat_list_of, flat_kept_of, kept_columns_of, all_level_of, fresh_columns_of, redone_columns, put_right_columns_of}
 use Rattle.stretch.proofs.Made.{fresh_is, redo_is}
-use Rattle.stretch.proofs.Fits.{all_level_told, columns_of}
+use Rattle.stretch.proofs.Fits.{all_level_told, columns_of_lem}
 use Rattle.stretch.proofs.Parts.{level_drop, flat-drop}
 
 module _ (shift : Shift) (inverse : Bool) (x y z t : List Float) (h : Level x y z t) where
@@ -67,9 +67,9 @@ module _ (shift : Shift) (inverse : Bool) (old : KeptColumns) where
   fresh_kept rx ry rz rt kx ky kz kt e lr lk made =
       let level = all_level_told old e in
       rw e
-      (ap (λ (c : Columns). kept_columns c (columns rx ry rz rt) (columns kx ky kz kt)) (columns_of old.list.x old.list.y old.list.z old.list.t level.0 refl)
-      ∙ ap (λ (c : Columns). kept_columns (columns_of (flat_list_of old.list)) c (columns kx ky kz kt)) (columns_of rx ry rz rt lr refl)
-      ∙ ap (λ (c : Columns). kept_columns (columns_of (flat_list_of old.list)) (columns_of (flat_of rx ry rz rt)) c) (columns_of kx ky kz kt lk refl)
+      (ap (λ (c : Columns). kept_columns c (columns rx ry rz rt) (columns kx ky kz kt)) (columns_of_lem old.list.x old.list.y old.list.z old.list.t level.0 refl)
+      ∙ ap (λ (c : Columns). kept_columns (columns_of (flat_list_of old.list)) c (columns kx ky kz kt)) (columns_of_lem rx ry rz rt lr refl)
+      ∙ ap (λ (c : Columns). kept_columns (columns_of (flat_list_of old.list)) (columns_of (flat_of rx ry rz rt)) c) (columns_of_lem kx ky kz kt lk refl)
       ∙ ap kept_columns_of made)
 
   module _ (index : ℕ) (fix : Tuple) where
@@ -83,4 +83,4 @@ module _ (shift : Shift) (inverse : Bool) (old : KeptColumns) where
         → redone_columns n (kept_columns (columns x y z t) (columns rx ry rz rt) (columns kx ky kz kt)) ≡ put_right_columns_of shift inverse old index fix
     unfolding put_right_columns_of
     right-put x y z t rx ry rz rt kx ky kz kt e ll lr lk made =
-        rw (e, ← made, columns_of x y z t ll refl, columns_of rx ry rz rt lr refl, columns_of kx ky kz kt lk refl)
+        rw (e, ← made, columns_of_lem x y z t ll refl, columns_of_lem rx ry rz rt lr refl, columns_of_lem kx ky kz kt lk refl)

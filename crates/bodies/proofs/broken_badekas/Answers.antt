@@ -12,12 +12,12 @@ returns-then-b-ne88 c = rw (ne_eqb _ 88 c.if-b-ne88.true)
 
 pub returns-then-not-fields_in_rule : goal.returns-then-not-fields_in_rule
 unfolding lowest_broken body_in_rule written_in_rule step_in_rule step_of length_of lacks_convention lacks_epoch lacks_duration
-returns-then-not-fields_in_rule c = rw (c.if-b-ne88.false, ← c.badekas_fields-r.ensures, ← c.fields_in_rule.ensures, not-true c.fields_in_rule.result c.if-not-fields_in_rule.true)
+returns-then-not-fields_in_rule c = rw (c.if-b-ne88.false, ← c.badekas_fields-r.ensures, ← c.fields_in_rule.ensures, c.if-not-fields_in_rule.true)
 
 pub returns-then-lacks_convention : goal.returns-then-lacks_convention
 unfolding lowest_broken body_in_rule written_in_rule step_in_rule step_of length_of lacks_convention lacks_epoch lacks_duration
-returns-then-lacks_convention c = rw (c.if-b-ne88.false, ← c.badekas_fields-r.ensures, ← c.fields_in_rule.ensures, not-false c.fields_in_rule.result c.if-not-fields_in_rule.false, ← c.lacks_convention.ensures, c.if-lacks_convention.true)
+returns-then-lacks_convention c = rw (c.if-b-ne88.false, ← c.badekas_fields-r.ensures, ← c.fields_in_rule.ensures, c.if-not-fields_in_rule.false, ← c.lacks_convention.ensures, c.if-lacks_convention.true)
 
 pub returns : goal.returns
 unfolding lowest_broken body_in_rule written_in_rule step_in_rule step_of length_of lacks_convention lacks_epoch lacks_duration
-returns c = rw (c.if-b-ne88.false, ← c.badekas_fields-r.ensures, ← c.fields_in_rule.ensures, not-false c.fields_in_rule.result c.if-not-fields_in_rule.false, ← c.lacks_convention.ensures, c.if-lacks_convention.false)
+returns c = rw (c.if-b-ne88.false, ← c.badekas_fields-r.ensures, ← c.fields_in_rule.ensures, c.if-not-fields_in_rule.false, ← c.lacks_convention.ensures, c.if-lacks_convention.false)

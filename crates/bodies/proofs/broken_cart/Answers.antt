@@ -14,8 +14,8 @@ returns-then-b-ne8 c = rw (ne_eqb _ 8 c.if-b-ne8.true)
 
 pub returns-then-not-five : goal.returns-then-not-five
 unfolding lowest_broken body_in_rule written_in_rule step_in_rule step_of length_of lacks_convention lacks_epoch lacks_duration
-returns-then-not-five c = rw (c.if-b-ne8.false, ← c.cart_fields.ensures, ← c.read32.ensures, ← c.in_rule.ensures, not-true (eqb c.read32.result 0 && c.in_rule.result) c.if-not-five.true)
+returns-then-not-five c = rw (c.if-b-ne8.false, ← c.cart_fields.ensures, ← c.read32.ensures, ← c.in_rule.ensures, c.if-not-five.true)
 
 pub returns : goal.returns
 unfolding lowest_broken body_in_rule written_in_rule step_in_rule step_of length_of lacks_convention lacks_epoch lacks_duration
-returns c = rw (c.if-b-ne8.false, ← c.cart_fields.ensures, ← c.read32.ensures, ← c.in_rule.ensures, not-false (eqb c.read32.result 0 && c.in_rule.result) c.if-not-five.false)
+returns c = rw (c.if-b-ne8.false, ← c.cart_fields.ensures, ← c.read32.ensures, ← c.in_rule.ensures, c.if-not-five.false)

@@ -13,12 +13,12 @@ returns-then-b-ne24 c = rw (ne_eqb _ 24 c.if-b-ne24.true)
 
 pub returns-then-not-five : goal.returns-then-not-five
 unfolding lowest_broken body_in_rule written_in_rule step_in_rule step_of length_of lacks_convention lacks_epoch lacks_duration
-returns-then-not-five c = rw (c.if-b-ne24.false, ← c.deformation_fields-d.ensures, ← c.one_nan.ensures, ← c.one_nan-2.ensures, ← c.in_rule.ensures, not-true (c.one_nan.result && c.one_nan-2.result && c.in_rule.result) c.if-not-five.true)
+returns-then-not-five c = rw (c.if-b-ne24.false, ← c.deformation_fields-d.ensures, ← c.one_nan.ensures, ← c.one_nan-2.ensures, ← c.in_rule.ensures, c.if-not-five.true)
 
 pub returns-then-lacks_duration : goal.returns-then-lacks_duration
 unfolding lowest_broken body_in_rule written_in_rule step_in_rule step_of length_of lacks_convention lacks_epoch lacks_duration
-returns-then-lacks_duration c = rw (c.if-b-ne24.false, ← c.deformation_fields-d.ensures, ← c.one_nan.ensures, ← c.one_nan-2.ensures, ← c.in_rule.ensures, not-false (c.one_nan.result && c.one_nan-2.result && c.in_rule.result) c.if-not-five.false, ← c.lacks_duration.ensures, c.if-lacks_duration.true)
+returns-then-lacks_duration c = rw (c.if-b-ne24.false, ← c.deformation_fields-d.ensures, ← c.one_nan.ensures, ← c.one_nan-2.ensures, ← c.in_rule.ensures, c.if-not-five.false, ← c.lacks_duration.ensures, c.if-lacks_duration.true)
 
 pub returns : goal.returns
 unfolding lowest_broken body_in_rule written_in_rule step_in_rule step_of length_of lacks_convention lacks_epoch lacks_duration
-returns c = rw (c.if-b-ne24.false, ← c.deformation_fields-d.ensures, ← c.one_nan.ensures, ← c.one_nan-2.ensures, ← c.in_rule.ensures, not-false (c.one_nan.result && c.one_nan-2.result && c.in_rule.result) c.if-not-five.false, ← c.lacks_duration.ensures, c.if-lacks_duration.false)
+returns c = rw (c.if-b-ne24.false, ← c.deformation_fields-d.ensures, ← c.one_nan.ensures, ← c.one_nan-2.ensures, ← c.in_rule.ensures, c.if-not-five.false, ← c.lacks_duration.ensures, c.if-lacks_duration.false)

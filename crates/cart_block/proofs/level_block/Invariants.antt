@@ -10,7 +10,7 @@ use Rattle.cart_block.proofs.level_block.Given as goal
 
 abbrev pub invariant-loop-i : goal.invariant-loop-i
 invariant-loop-i l =
-    UpTo l.i l.h (λ (j : ℕ). level_of l.k (at l.p j) (at l.z j) (height_with l.k (at l.p j) (at l.z j) (record { l.s1 = at l.s1 j; l.cc = at l.cc j }) (at l.inner j) (at l.outer j)))
+    UpTo l.i l.h (λ (j : ℕ). level_of l.k (at l.p j) (at l.z j) (height_with l.k (at l.p j) (at l.z j) (record { s1 = at l.s1 j; cc = at l.cc j }) (at l.inner j) (at l.outer j)))
 
 abbrev pub decreases-loop-i : goal.decreases-loop-i
 decreases-loop-i l = 16 - l.i

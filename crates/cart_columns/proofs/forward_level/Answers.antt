@@ -11,9 +11,8 @@ use Rattle.cart_columns.proofs.forward_level.Goals as goal
 pub loop-x-init : goal.loop-x-init
 loop-x-init c = (c.requires, refl, search rules, passed_none _ _ _ _)
 
-forward-sixteen-requires :
-    tie.Need-forward-sixteen-requires invariant-loop decreases-loop invariant-loop2 decreases-loop2
-forward-sixteen-requires c κs = let l = c.before.before.before.before.loop in (l.invariant.0, omega (arith, l.invariant.2, c.before.before.before.loop-test.true))
+pub forward_sixteen-n-requires : goal.forward_sixteen-n-requires
+forward_sixteen-n-requires c = let l = c.loop-x in (l.invariant.0, omega (arith, l.invariant.2, c.loop-x-test.true))
 
 pub overflow_add-n : goal.overflow_add-n
 overflow_add-n c = let l = c.loop-x in search (rules, l.invariant.3.few, c.forward_sixteen-n.ensures.few, c.loop-x-test.true)

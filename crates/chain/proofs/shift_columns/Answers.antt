@@ -1,11 +1,11 @@
 -- One case for each way through the tests. Each by `accepted_count`, `columns-refused-own`,
 -- `columns-refused-9`, `columns-refused-10` and `columns-run-through`, from what the calls ensure;
--- that every column is fixed is `columns_of`. Assumes nothing.
+-- that every column is fixed is `columns_of_lem`. Assumes nothing.
 use mathlib.Core.Path.{sym, ap, ◌∙◌}
 use Rattle.sheet.specs.declared.Refusal.{Refusal}
 use Rattle.sheet.proofs.Order.{accepted_count}
 use Rattle.chain.specs.Columns.{shift_columns_of}
-use Rattle.chain.proofs.Columns.{nine_kept, columns-refused-own, columns-refused-9, columns-refused-10, columns-run-through, columns_of}
+use Rattle.chain.proofs.Columns.{nine_kept, columns-refused-own, columns-refused-9, columns-refused-10, columns-run-through, columns_of_lem}
 use borrow.Author.Rules.{rules}
 use Rattle.chain.proofs.shift_columns.Goals as goal
 
@@ -42,5 +42,5 @@ returns c =
     let e = c.columns_without_grid-tallies.ensures in
     let kept = sym c.columns_broken.ensures ∙ c.if-columns_broken.false in
     let nine = nine_kept _ _ _ _ kept in
-    rw (c.ran.ensures, columns_of _ _ _ _ (search (rules, nine.0), search (rules, nine.0), search (rules, nine.0)) e.0, e.1, c.step_count-n.ensures.0, ← c.check-own.ensures)
+    rw (c.ran.ensures, columns_of_lem _ _ _ _ (search (rules, nine.0), search (rules, nine.0), search (rules, nine.0)) e.0, e.1, c.step_count-n.ensures.0, ← c.check-own.ensures)
     (sym (columns-run-through c.check-own.result _ _ _ _ _ _ c.if-own-ne0.false kept (sym (rw (c.deforms.ensures, c.step_count-n.ensures.0) at c.lent_broken.ensures) ∙ c.if-lent_broken.false)))

@@ -5,7 +5,7 @@ use Rattle.sheet.specs.declared.Refusal.{Refusal}
 use Rattle.sheet.proofs.Order.{accepted_count}
 use Rattle.chain.specs.Grid.{shift_columns_grid_of}
 use Rattle.chain.proofs.Grid.{columns-grid-refused-own, columns-grid-refused-9, columns-grid-refused-10, columns-grid-refused, columns-grid-run-through}
-use Rattle.chain.proofs.Columns.{nine_kept, columns_of}
+use Rattle.chain.proofs.Columns.{nine_kept, columns_of_lem}
 use borrow.Author.Rules.{rules}
 use Rattle.chain.proofs.shift_columns_grid.Goals as goal
 
@@ -46,5 +46,5 @@ returns c =
     let e = c.over_columns-tallies.ensures in
     let kept = sym c.columns_broken.ensures ∙ c.if-columns_broken.false in
     let nine = nine_kept _ _ _ _ kept in
-    rw (c.ran.ensures, columns_of _ _ _ _ (search (rules, nine.0), search (rules, nine.0), search (rules, nine.0)) e.0, e.1, c.step_count-n.ensures.0, ← c.check-own.ensures)
+    rw (c.ran.ensures, columns_of_lem _ _ _ _ (search (rules, nine.0), search (rules, nine.0), search (rules, nine.0)) e.0, e.1, c.step_count-n.ensures.0, ← c.check-own.ensures)
     (sym (columns-grid-run-through c.check-own.result _ _ _ _ _ _ c.if-own-ne0.false kept (sym c.lent_broken.ensures ∙ c.if-lent_broken.false) (sym c.check_grid-broken.ensures ∙ c.if-broken-ne0.false)))

@@ -28,7 +28,7 @@ returns c =
     turned.0
     turned.1
     turned.2
-    c.before.before.before.before.before.before.is_finite.ensures
+    c.is_finite-fixed.ensures
     c.metre.ensures
     lon.0
     lon.1

@@ -14,12 +14,11 @@ use Rattle.deformation_columns.proofs.deformation_level.Goals as goal
 pub loop-x-init : goal.loop-x-init
 loop-x-init c = (c.requires.0, refl, search rules, passed_none _ _ _ _, passed_none _ _ _ _)
 
-deformation-sixteen-requires :
-    tie.Need-deformation-sixteen-requires invariant-loop decreases-loop invariant-loop2 decreases-loop2
-deformation-sixteen-requires c κs =
-    let l = c.before.before.before.before.before.loop in
-    let p = c.before.before.before.before.before.before.before.before.before.before.before.before.requires in
-    (l.invariant.0, omega (arith, l.invariant.2, c.before.before.before.before.loop-test.true), omega (arith, l.invariant.1, l.invariant.2, p.1))
+pub deformation_sixteen-r-requires : goal.deformation_sixteen-r-requires
+deformation_sixteen-r-requires c =
+    let l = c.loop-x in
+    let p = c.requires in
+    (l.invariant.0, omega (arith, l.invariant.2, c.loop-x-test.true), omega (arith, l.invariant.1, l.invariant.2, p.1))
 
 pub overflow_add-n : goal.overflow_add-n
 overflow_add-n c =

@@ -11,9 +11,8 @@ use Rattle.deformation_grid_columns.proofs.gridded_level.Goals as goal
 pub loop-x-init : goal.loop-x-init
 loop-x-init c = (c.requires, refl, search rules, passed_none _ _ _ _)
 
-gridded-sixteen-requires :
-    tie.Need-gridded-sixteen-requires invariant-loop decreases-loop invariant-loop2 decreases-loop2
-gridded-sixteen-requires c κs = let l = c.before.before.before.before.before.loop in (l.invariant.0, omega (arith, l.invariant.2, c.before.before.before.before.loop-test.true))
+pub gridded_sixteen-n-requires : goal.gridded_sixteen-n-requires
+gridded_sixteen-n-requires c = let l = c.loop-x in (l.invariant.0, omega (arith, l.invariant.2, c.loop-x-test.true))
 
 pub overflow_add-n : goal.overflow_add-n
 overflow_add-n c = let l = c.loop-x in search (rules, l.invariant.3.few, c.gridded_sixteen-n.ensures.few, c.loop-x-test.true)

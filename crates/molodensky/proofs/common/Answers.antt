@@ -10,7 +10,7 @@ pub returns-in_default : goal.returns-in_default
 returns-in_default c =
     rw zero_over_zero
     (ap (offset_by_of c.args.inverse c.args.coord)
-    (sym c.in_default-1.is ∙ c.calc_molodensky_params-par.ensures))
+    (sym c.in_default.is ∙ c.calc_molodensky_params-par.ensures))
 
 pub returns-then-inverse : goal.returns-then-inverse
 returns-then-inverse c =

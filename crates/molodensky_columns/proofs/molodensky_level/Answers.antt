@@ -11,9 +11,8 @@ use Rattle.molodensky_columns.proofs.molodensky_level.Goals as goal
 pub loop-x-init : goal.loop-x-init
 loop-x-init c = (c.requires, refl, search rules, passed_none _ _ _ _)
 
-molodensky-sixteen-requires :
-    tie.Need-molodensky-sixteen-requires invariant-loop decreases-loop invariant-loop2 decreases-loop2
-molodensky-sixteen-requires c κs = let l = c.before.before.before.before.loop in (l.invariant.0, omega (arith, l.invariant.2, c.before.before.before.loop-test.true))
+pub molodensky_sixteen-requires : goal.molodensky_sixteen-requires
+molodensky_sixteen-requires c = let l = c.loop-x in (l.invariant.0, omega (arith, l.invariant.2, c.loop-x-test.true))
 
 pub loop-x-smaller : goal.loop-x-smaller
 loop-x-smaller c = let l = c.loop-x in omega (arith, l.invariant.1, l.invariant.2, c.loop-x-test.true)

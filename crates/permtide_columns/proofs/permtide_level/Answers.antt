@@ -15,9 +15,8 @@ use Rattle.permtide_columns.proofs.permtide_level.Goals as goal
 pub loop-i-init : goal.loop-i-init
 loop-i-init c = (c.requires, search rules, passed_none _ _ _ _)
 
-permtide-sixteen-requires :
-    tie.Need-permtide-sixteen-requires invariant-loop decreases-loop invariant-loop2 decreases-loop2
-permtide-sixteen-requires c κs = (c.before.before.loop.invariant.0, search rules)
+pub permtide_sixteen-requires : goal.permtide_sixteen-requires
+permtide_sixteen-requires c = (c.loop-i.invariant.0, search rules)
 
 pub loop-i-preserved : goal.loop-i-preserved
 loop-i-preserved c =

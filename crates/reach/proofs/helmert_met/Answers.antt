@@ -24,8 +24,8 @@ returns-then-shift c =
     let used = both_told _ _ c.if-shift.true in
     c.rotation_out.ensures
     ∙ sym
-    (fixed_met a.shift a.state a.v (sym c.before.before.before.before.before.is-running.ensures ∙ c.if-is_running.false)
-    (sym c.before.before.before.is-own-epoch.ensures ∙ c.if-is_own_epoch.false) used.1 used.0)
+    (fixed_met a.shift a.state a.v (sym c.is_running.ensures ∙ c.if-is_running.false)
+    (sym c.is_own_epoch.ensures ∙ c.if-is_own_epoch.false) used.1 used.0)
 
 pub returns : goal.returns
 returns c = let a = c.args in sym (unused_met a.shift a.state a.v c.if-shift.false)

@@ -7,7 +7,7 @@ unfolding fields_in_rule_of
 returns c =
     rw (
       c.finite3-3.ensures,
-      c.before.is_finite.ensures,
+      c.is_finite.ensures,
       c.finite3-2.ensures,
       c.finite3.ensures,
     )
