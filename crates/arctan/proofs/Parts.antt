@@ -14,7 +14,6 @@ use Rattle.floats.specs.Number.{sign_of, abs_of}
 use Rattle.floats.proofs.Zero.{equals_zero, differs_from_zero, sign_of_other}
 use Rattle.floats.proofs.Laws.{abs_is_not_negative}
 use Rattle.arctan.specs.Arctan.{one, infinity, moderate, within_of, octant_index_of, quotient_angle_of, inside_of, angle_of, signed, atan2_of}
-use Rattle.arctan.specs.Arctan as arctan
 use Rattle.arctan.specs.Table.{octant_at}
 
 pub one_over_zero : one ⊘ bits 0 ≡ infinity

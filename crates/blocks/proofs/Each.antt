@@ -3,7 +3,6 @@
 use Prim.Native.Nat.{ℕ, ◌<◌}
 use mathlib.Core.Path.{◌≡◌, sym, ◌∙◌, subst}
 use mathlib.Core.List.{List}
-use lib.ListN.{get_or, length}
 use lib.Seq.{ext_get_or}
 use lib.Ieee.{Float}
 use Rattle.blocks.specs.Each.{Filled, Each, EachWhole}

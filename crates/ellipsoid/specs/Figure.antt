@@ -3,10 +3,9 @@
 -- order that it is written here.
 use Rattle.std.specs.Prelude.{ℕ, zero, suc, List, [], ◌∷◌, Bool, false, cond, leb, get_or, length, Float}
 use Rattle.std.specs.Float.{nan}
-use Rattle.floats.specs.Binary64.{◌⊕◌, ◌⊖◌, ◌⊗◌, ◌⊘◌, bits}
+use Rattle.floats.specs.Binary64.{◌⊖◌, ◌⊗◌, ◌⊘◌, bits}
 use Rattle.floats.specs.Number.{square_of}
 use Rattle.root.specs.Sqrt.{sqrt_of}
-use Rattle.trig.specs.Trig.{sin_cos_of, sin_of, cos_of}
 use Rattle.arctan.specs.Arctan.{atan2_of}
 use Rattle.ellipsoid.specs.declared.Ellipsoid.{Ellipsoid}
 use Rattle.ellipsoid.specs.declared.Radii.{Radii}

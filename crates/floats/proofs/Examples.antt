@@ -1,7 +1,7 @@
 -- Known values of the definitions. Assumes nothing.
 use mathlib.Core.Path.{◌≡◌, refl}
 use mathlib.Core.Bool.{true, false}
-use lib.Ieee.{nan, binary64, of_bits, to_bits, neg, mul, round, size}
+use lib.Ieee.{of_bits, to_bits, neg, mul, round, size}
 use Rattle.floats.specs.Binary64.{bits}
 use Rattle.floats.specs.Number.{sign_of, abs_of, copysign_of, same_of, square_of, cube_of}
 

@@ -1,15 +1,15 @@
 -- Which sums are finite. A fraction up to one above binary64's largest number rounds to a finite
 -- number (`round_finite`): rounding keeps the order, and one above the largest rounds to the largest.
 -- What binary64 holds is at most the largest, so 1 + k is finite for every finite k. Assumes nothing.
-use mathlib.Core.Path.{◌≡◌, refl, sym, ap, ◌∙◌, subst}
-use Prim.Native.Nat.{ℕ, zero, suc, ◌+◌, ◌-◌, ◌*◌, ◌/◌, ◌%◌, ◌^◌, ◌≤◌, ◌<◌, zero-le}
-use native.Mathlib.Nat.{le_trans, le_of_eq, lt_of_lt_of_le, mul-one, one-mul, zero-mul, mul_assoc, add-mul, mul-le-mul, mul-le-mul_right, lt_of_mul-lt-mul_right, zero-lt-suc, le_refl, add-le-add}
+use mathlib.Core.Path.{◌≡◌, sym, ap, ◌∙◌, subst}
+use Prim.Native.Nat.{ℕ, zero, suc, ◌+◌, ◌-◌, ◌*◌, ◌%◌, ◌^◌, ◌≤◌, ◌<◌, zero-le}
+use native.Mathlib.Nat.{le_trans, le_of_eq, mul-one, one-mul, zero-mul, mul_assoc, add-mul, mul-le-mul, mul-le-mul_right, lt_of_mul-lt-mul_right, zero-lt-suc, le_refl}
 use native.Mathlib.Omega.{arith}
 use mathlib.Core.Bool.{Bool, true, false, not, cond, ◌&&◌, beq}
 use lib.Dec.{T, leb, ltb, eqb, ltb→lt, leb→le, nleb→lt, lit≤}
 use lib.IntN.{ℤ, pos, negsuc}
 use lib.Pow.{pow-add, pow_pos, pow_mono}
-use lib.Ieee.{Float, nan, inf, fin, Format, binary64, prec, emax, low, fits, of_bits, size, odd, units, round, up, down, add, sum, le, neg}
+use lib.Ieee.{Float, nan, inf, fin, Format, binary64, prec, emax, low, fits, of_bits, size, odd, units, round, up, down, add, sum, le}
 use lib.Ieee.Fits.{and_l, and_r, round_is, down_pos}
 use lib.Ieee.Order.{drop, kept, round_mono}
 use lib.Ieee.Scale.{finite}

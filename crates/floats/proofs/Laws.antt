@@ -1,9 +1,9 @@
 -- What is true of signs, sameness and bit patterns, for callers to cite. Assumes nothing.
 use mathlib.Core.Path.{◌≡◌, refl, sym, ap, ◌∙◌, subst}
 use Prim.Native.Nat.{ℕ}
-use mathlib.Core.Bool.{Bool, true, false, not, cond}
+use mathlib.Core.Bool.{true, false}
 use lib.Dec.{T, eqb→eq}
-use lib.Ieee.{Float, nan, inf, fin, binary64, fits, to_bits, of_bits, is_nan, neg}
+use lib.Ieee.{Float, nan, inf, fin, binary64, fits, to_bits, of_bits, neg}
 use lib.Ieee.Bits.{of_bits-to_bits}
 use borrow.Author.Tests.{eq-eqb}
 use Rattle.floats.specs.Number.{sign_of, abs_of, copysign_of, same_of}

@@ -1,11 +1,11 @@
 -- What tells a NaN: it differs from itself, and its bits, the sign aside, lie above an infinity's.
 -- Assumes nothing.
-use mathlib.Core.Path.{◌≡◌, refl, sym, ap, ◌∙◌, subst}
+use mathlib.Core.Path.{◌≡◌, refl, sym, ◌∙◌, subst}
 use Prim.Native.Nat.{ℕ, ◌*◌, ◌%◌, ◌≤◌, ◌<◌}
-use mathlib.Core.Bool.{Bool, true, false, not, ◌||◌, ◌&&◌}
-use lib.Dec.{T, ltb, eqb}
-use lib.Ieee.{Float, nan, inf, fin, binary64, of_bits, to_bits, nan_bits, is_nan, ne, eq, up, down, div}
-use lib.Ieee.Bits.{nan_bits_is, nan_bits_above, is_true}
+use mathlib.Core.Bool.{Bool, true, false, not}
+use lib.Dec.{T}
+use lib.Ieee.{Float, nan, inf, fin, binary64, of_bits, nan_bits, is_nan, ne, eq, up, down, div}
+use lib.Ieee.Bits.{nan_bits_is, nan_bits_above}
 use lib.Ieee.Compare.{differs_from_itself}
 use borrow.Author.Tests.{le-ltb, lt-ltb, eq-eqb}
 use Rattle.floats.specs.Binary64.{bits, ◌⊘◌}

@@ -2,13 +2,13 @@
 -- a number that binary64 holds gives that number. Assumes nothing.
 use mathlib.Core.Path.{◌≡◌, refl, sym, ap, ◌∙◌, subst}
 use Prim.Native.Nat.{ℕ, zero, suc, ◌+◌, ◌*◌, ◌-◌, ◌/◌, ◌%◌, ◌^◌, ◌≤◌, ◌<◌}
-use native.Mathlib.Nat.{mul_assoc, mul_comm, mul_right_comm, mul-one, one-mul, zero-mul, zero-add, mul-le-mul_right, mul-lt-mul_of_pos_right, lt_of_lt_of_le, lt_of_le_of_lt, le_trans, le_of_eq, zero-lt-suc, mul-pos, lt_irrefl, lt_of_not-le, le_of_suc-le-suc, pow-succ'}
+use native.Mathlib.Nat.{mul_assoc, mul_right_comm, mul-one, one-mul, zero-mul, zero-add, mul-lt-mul_of_pos_right, lt_of_lt_of_le, lt_of_le_of_lt, le_trans, le_of_eq, zero-lt-suc, lt_irrefl, lt_of_not-le, le_of_suc-le-suc, pow-succ'}
 use native.Mathlib.Omega.{arith}
 use mathlib.Core.Bool.{Bool, true, false, cond, not, ◌&&◌, ◌||◌, true≢false}
 use lib.Dec.{T, leb, ltb, eqb, eqb→eq, ltb→lt, leb→le, lit≤}
 use lib.IntN.{ℤ, pos, negsuc}
 use lib.Pow.{pow-add, pow_pos, pow_mono, pow-lt}
-use lib.Ieee.{Float, nan, inf, fin, binary64, fits, of_bits, to_bits, is_nan, size, odd, of_fields, round, up, down, le, lt, eq, sub}
+use lib.Ieee.{Float, nan, inf, fin, binary64, fits, of_bits, to_bits, is_nan, size, odd, of_fields, round, up, down, le, lt, sub}
 use lib.Ieee.Fits.{and_l, and_r, round-fits, neg-fits, down_pos}
 use lib.Ieee.Exact.{HasValue, odd_sign, round_exact}
 use lib.Ieee.Nearest.{div_same}

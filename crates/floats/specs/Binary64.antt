@@ -2,7 +2,7 @@
 -- rounded once, to the nearest, a tie to the even one.
 -- A number of the source, as 298.257222101, is the binary64 number nearest to it, and stands here
 -- by its 64 bits.
-use Rattle.std.specs.Prelude.{ℕ, Bool, not, Float}
+use Rattle.std.specs.Prelude.{ℕ, Float}
 use Rattle.std.specs.Float.{binary64}
 use Rattle.std.specs.Float.Ieee.{of_bits, add, sub, mul, div}
 

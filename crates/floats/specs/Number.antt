@@ -1,5 +1,5 @@
 -- Signs, sameness and powers of binary64 numbers.
-use Rattle.std.specs.Prelude.{ℕ, Bool, true, false, cond, eqb, Float}
+use Rattle.std.specs.Prelude.{Bool, false, cond, eqb, Float}
 use Rattle.std.specs.Float.{nan, inf, fin, binary64}
 use Rattle.std.specs.Float.Ieee.{to_bits, neg}
 use Rattle.floats.specs.Binary64.{◌⊗◌}

@@ -1,7 +1,7 @@
 -- What is true of `hypot_of` for every two numbers, for callers to cite. `T (fits binary64 x)` says
 -- that x is a number that binary64 holds, as every number of a program is. Assumes nothing.
 use mathlib.Core.Path.{◌≡◌, refl, sym, ap, ◌∙◌, subst}
-use Prim.Native.Nat.{ℕ, zero, ◌+◌, ◌*◌}
+use Prim.Native.Nat.{ℕ, ◌+◌, ◌*◌}
 use native.Mathlib.Nat.{add-zero, mul-one, zero-mul, mul_assoc, mul_comm, mul-le-mul_right, le-add_right, le_trans, le_of_eq, le_antisymm, mul-pos}
 use native.Mathlib.Omega.{arith}
 use mathlib.Core.Bool.{Bool, true, false, not, cond, ◌&&◌, ◌||◌, true≢false, or_comm, or-true, and-false}

@@ -5,14 +5,14 @@ use Prim.Native.Nat.{ℕ, suc, ◌+◌, ◌-◌, ◌/◌, ◌≤◌, ◌<◌}
 use native.Mathlib.Omega.{arith}
 use native.Mathlib.Nat.{add_assoc, add-zero, zero-add}
 use mathlib.Core.Path.{◌≡◌, refl, sym, ap, ◌∙◌, subst}
-use mathlib.Core.Bool.{Bool, true, false, cond}
+use mathlib.Core.Bool.{Bool, true, cond}
 use mathlib.Core.List.{List, [], ◌∷◌, ◌++◌, append_assoc}
 use lib.ListN.{length, take, drop, length-drop, take-append-drop}
 use lib.Ieee.{Float}
 use Rattle.blocks.proofs.Counts.{at_most_one}
 use Rattle.tuple.specs.declared.Tuple.{Tuple}
 use Rattle.lists.specs.Flat.{four_of, numbers_of, tuple_at, put_at}
-use Rattle.lists.specs.Run.{Turn, Turns, ran_of, count_of, track_of, state_after_of}
+use Rattle.lists.specs.Run.{Turn, Turns, ran_of, count_of, track_of}
 use Rattle.lists.proofs.Places.{from_place, put-take, put-drop, put-length}
 
 -- ---- a step over a list

@@ -1,25 +1,25 @@
 -- Sixteen tuples of a flat list at once: what reading finds, what putting leaves, and the law by
 -- which a loop of sixteen tuples a turn is proved: what a turn reads, makes and writes as columns
 -- carries the loop's invariant over sixteen places. Assumes nothing.
-use Prim.Native.Nat.{ℕ, zero, suc, ◌+◌, ◌*◌, ◌-◌, ◌/◌, ◌≤◌, ◌<◌}
+use Prim.Native.Nat.{ℕ, zero, suc, ◌+◌, ◌*◌, ◌/◌, ◌≤◌, ◌<◌}
 use native.Mathlib.Omega.{arith}
 use native.Mathlib.Nat.{add_assoc, add-zero}
 use mathlib.Core.Path.{◌≡◌, refl, sym, ap, ◌∙◌, subst}
 use mathlib.Core.Bool.{Bool, cond}
-use mathlib.Core.List.{List, [], ◌∷◌, ◌++◌}
+use mathlib.Core.List.{List, [], ◌∷◌}
 use lib.Dec.{leb}
 use borrow.Author.Tests.{le-leb, lt-leb}
-use lib.ListN.{length, take, drop, get_or, replicate, get_or-replicate}
+use lib.ListN.{length, drop, get_or, replicate, get_or-replicate}
 use lib.Seq.{drop-drop}
 use lib.Ieee.{Float, nan}
-use Rattle.blocks.specs.Each.{at, UpTo, Each, count_to}
+use Rattle.blocks.specs.Each.{Each, count_to}
 use Rattle.blocks.proofs.Counts.{count_few, count_told}
 use Rattle.tuple.specs.declared.Tuple.{Tuple}
 use Rattle.tuple.specs.Sums.{nan_tuple}
 use Rattle.tuple.specs.Columns.{row_of}
-use Rattle.lists.specs.Flat.{four_of, numbers_of, tuple_at, put_at}
+use Rattle.lists.specs.Flat.{four_of, tuple_at, put_at}
 use Rattle.lists.specs.Sixteen.{row_at, put_rows, put_block, turned_of, taken_of}
-use Rattle.lists.specs.Run.{Turn, Turns, ran_of, count_of}
+use Rattle.lists.specs.Run.{Turn, Turns}
 use Rattle.lists.proofs.Places.{tuple-there, from_place, put-drop, put-length}
 use Rattle.lists.proofs.Laws.{Ran, Counted, ran-again, count-again}
 

@@ -5,7 +5,7 @@ use lib.Count.{count_trailing_zeros}
 use lib.Ieee.{Float, nan, inf, fin, binary64, fits, is_nan, lt, odd, size, minus, up, down}
 use lib.Ieee.Bits.{is_true, is_false}
 use lib.Ieee.Fits.{up_pos}
-use Rattle.root.specs.Sqrt.{CorrectRoot, RoundedRoot, nearest_root, root_of, sqrt_of}
+use Rattle.root.specs.Sqrt.{CorrectRoot, nearest_root, root_of, sqrt_of}
 use Rattle.root.proofs.Rounded.{definition_is_correct, no_choice}
 
 -- the root is the binary64 number nearest to the exact root

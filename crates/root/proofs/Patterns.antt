@@ -2,7 +2,7 @@
 -- Assumes nothing.
 use Rattle.std.proofs.Common.{◌≡◌, ℕ, zero, suc, ◌+◌, ◌-◌, ◌*◌, ◌/◌, ◌%◌, ◌^◌, ◌<◌, ◌≤◌, Bool, true, false, cond, not, T, eqb, ltb, leb, ◌⊎◌, ℤ, pos, sym, refl, ap, ◌∙◌, subst, inl, inr, le_of_eq, lt_of_lt_of_le, lt_irrefl, mod-eq_of_lt, eq-or-lt_of_le, mul-pos, zero-mul, mul-one, not-le_of_lt, arith, le→leb, eqb→eq, ltb→lt, leb→le, pow_pos}
 use lib.Dec.{not_T}
-use lib.Ieee.{Float, nan, inf, fin, binary64, odd, of_fields, of_bits, nan_bits, is_nan, lt, ne, up, down}
+use lib.Ieee.{Float, nan, inf, fin, binary64, odd, of_fields, of_bits, nan_bits, is_nan, lt, ne, up}
 use lib.Ieee.Compare.{nan_differs}
 use lib.Ieee.Bits.{is_false, is_true, cond_no, nan_bits_above}
 use lib.Ieee.Exact.{HasValue, odd_sign}

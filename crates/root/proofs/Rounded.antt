@@ -1,6 +1,6 @@
 -- The definition `sqrt_of` meets the statement `CorrectRoot`, and the statement leaves no choice.
 -- Assumes nothing.
-use Rattle.std.proofs.Common.{◌≡◌, ℕ, zero, suc, ◌+◌, ◌-◌, ◌*◌, ◌/◌, ◌%◌, ◌^◌, ◌<◌, ◌≤◌, Bool, true, false, cond, not, ◌&&◌, T, eqb, ltb, leb, ℤ, pos, negsuc, sym, refl, ap, ◌∙◌, subst, le_trans, le_of_eq, lt_of_lt_of_le, lt_of_le_of_lt, mul-le-mul_right, mul_assoc, mul-le-mul, le_antisymm, lt_of_mul-lt-mul_right, mul-lt-mul_of_pos_right, mul-pos, one-mul, mul-one, le_of_mul-le-mul_right, div-one, mul-div_cancel, arith, ltb→lt, leb→le, nltb→le, pow_pos, pow_mono, pow-add, shl_lt}
+use Rattle.std.proofs.Common.{◌≡◌, ℕ, zero, suc, ◌+◌, ◌-◌, ◌*◌, ◌/◌, ◌%◌, ◌^◌, ◌<◌, ◌≤◌, Bool, true, false, cond, not, ◌&&◌, T, eqb, ltb, leb, ℤ, pos, negsuc, sym, refl, ap, ◌∙◌, subst, le_trans, le_of_eq, lt_of_lt_of_le, lt_of_le_of_lt, mul-le-mul_right, mul_assoc, le_antisymm, lt_of_mul-lt-mul_right, mul-lt-mul_of_pos_right, mul-pos, one-mul, mul-one, le_of_mul-le-mul_right, mul-div_cancel, arith, ltb→lt, leb→le, nltb→le, pow_pos, pow_mono, pow-add, shl_lt}
 use native.Mathlib.Nat.{eq_of_mul-eq-mul_right, pow-succ'}
 use lib.Dec.{nleb→lt}
 use lib.Pow.{pow-lt}
@@ -8,7 +8,7 @@ use lib.Ieee.{Float, nan, inf, fin, binary64, fits, of_bits, to_bits, size, odd,
 use lib.Ieee.Bits.{of_bits-to_bits, of_bits-fits}
 use lib.Ieee.Digits.{size-lt, size-le, size_reaches, back}
 use lib.Ieee.Exact.{HasValue, odd_sign}
-use lib.Ieee.Fits.{down_pos, up_pos, odd-fits, and_l, and_r}
+use lib.Ieee.Fits.{down_pos, odd-fits, and_l, and_r}
 use Rattle.root.specs.Sqrt.{CorrectRoot, RoundedRoot, sq, whole_root, nearest_root, root_of, sqrt_of}
 use Rattle.root.specs.Whole.{WholeRoot, NearestRoot}
 use Rattle.root.proofs.Patterns.{normal_value}

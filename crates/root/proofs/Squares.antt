@@ -1,7 +1,6 @@
 -- Squares and powers of two of whole numbers: what `omega` takes as facts in the proofs of the
 -- functions. Assumes nothing.
-use Rattle.std.proofs.Common.{◌≡◌, ℕ, zero, suc, ◌+◌, ◌-◌, ◌*◌, ◌/◌, ◌%◌, ◌^◌, ◌<◌, ◌≤◌, ◌⊎◌, sym, refl, ap, ◌∙◌, subst, inl, inr, add_assoc, mul_assoc, mul_comm, add-mul, mul-le-mul, add_comm, lt_of_not-le, div-add-mod', mul-add, mul_left_comm, arith, pow_mono, pow-add}
-use native.Mathlib.Nat.{add_left_comm}
+use Rattle.std.proofs.Common.{◌≡◌, ℕ, zero, suc, ◌+◌, ◌-◌, ◌*◌, ◌/◌, ◌%◌, ◌^◌, ◌<◌, ◌≤◌, ◌⊎◌, sym, refl, ap, ◌∙◌, subst, inl, inr, add_assoc, mul_assoc, mul_comm, add-mul, mul-le-mul, lt_of_not-le, div-add-mod', mul-add, mul_left_comm, arith, pow_mono, pow-add}
 use native.Mathlib.Decide.{dec_le}
 use Rattle.root.specs.Whole.{NearestRoot}
 

@@ -1,6 +1,6 @@
 -- What the functions inside promise one another: roots of whole numbers, and the digits of a
 -- number.
-use Rattle.std.specs.Prelude.{◌≡◌, ℕ, ◌+◌, ◌-◌, ◌*◌, ◌/◌, ◌%◌, ◌^◌, ◌<◌, ◌≤◌, false, from_bits}
+use Rattle.std.specs.Prelude.{◌≡◌, ℕ, ◌+◌, ◌-◌, ◌*◌, ◌^◌, ◌<◌, ◌≤◌, false, from_bits}
 use Rattle.std.specs.Float.{binary64}
 use Rattle.std.specs.Float.Ieee.Exact.{HasValue}
 

@@ -1,7 +1,6 @@
 -- Known texts, computed. Assumes nothing.
 use mathlib.Core.Path.{◌≡◌, refl}
-use Prim.Native.Nat.{ℕ}
-use mathlib.Core.List.{List, [], ◌∷◌}
+use mathlib.Core.List.{[], ◌∷◌}
 use Rattle.text.specs.Text.{text, appended}
 use Rattle.text.specs.Digits.{digits_of, places_of, decimal_of, hex_of}
 

@@ -1,6 +1,6 @@
 -- A text's characters as bytes.
 use Rattle.std.specs.Prelude.{ℕ, List, [], ◌∷◌}
-use Prim.Native.Char.{Char, code}
+use Prim.Native.Char.{code}
 use Prim.Native.String.{String, [] as no_text, ◌∷◌ as ◌then◌}
 
 abbrev pub ascii : String → List ℕ

@@ -1,7 +1,7 @@
 -- Sine and cosine, each a sequence of single roundings. An angle's magnitude a is k·π/32 + r with a
 -- whole k and a small r; the table has sine and cosine of k·π/32, two short polynomials those of r,
 -- and the theorems of addition join them.
-use Rattle.std.specs.Prelude.{ℕ, Bool, not, cond, Float}
+use Rattle.std.specs.Prelude.{Bool, not, cond, Float}
 use Rattle.std.specs.Float.{nan, binary64}
 use Rattle.std.specs.Float.Ieee.{to_bits, neg, eq, lt, le}
 use Rattle.floats.specs.Binary64.{◌⊕◌, ◌⊖◌, ◌⊗◌, bits}
@@ -9,7 +9,6 @@ use Rattle.floats.specs.Number.{sign_of, abs_of}
 use Rattle.trig.specs.declared.SinCos.{SinCos}
 use Rattle.trig.specs.declared.Angle.{Angle}
 use Rattle.trig.specs.declared.Angle.TheVariants.{Pair, OutOfReach}
-use Rattle.trig.specs.declared.Row.{Row}
 use Rattle.trig.specs.declared.Reduced.{Reduced}
 use Rattle.trig.specs.declared.Bends.{Bends}
 use Rattle.trig.specs.Table.{row_of}

@@ -3,7 +3,7 @@
 use Prim.Native.Nat.{ℕ}
 use mathlib.Core.Path.{◌≡◌, refl, sym, ◌∙◌}
 use mathlib.Core.Bool.{Bool, true, false, cond, true≢false}
-use lib.Ieee.{Float, nan, inf, fin, is_nan, eq, ne, lt, le}
+use lib.Ieee.{Float, nan, inf, fin, is_nan, eq, lt, le}
 use Rattle.floats.specs.Binary64.{bits}
 use Rattle.floats.specs.Number.{sign_of, abs_of}
 use Rattle.floats.proofs.Nan.{differs_exactly_if_nan}

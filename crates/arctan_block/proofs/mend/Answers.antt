@@ -1,5 +1,4 @@
 use borrow.Author.Rules.{rules}
-use Prim.Native.Nat.{◌-◌}
 use mathlib.Core.Path.{◌∙◌}
 use Rattle.blocks.proofs.Over.{none_over, still, one_more_over, all_over}
 use Rattle.arctan_block.proofs.mend.Goals as goal

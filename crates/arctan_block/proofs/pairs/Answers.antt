@@ -1,5 +1,4 @@
 use borrow.Author.Rules.{rules}
-use Prim.Native.Nat.{◌-◌}
 use mathlib.Core.Path.{refl}
 use Rattle.blocks.proofs.Laws.{none_filled, all_filled}
 use Rattle.arctan_block.proofs.Blocks.{two_more}

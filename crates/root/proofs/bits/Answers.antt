@@ -1,6 +1,5 @@
 -- One case for each return. Each by `no_nan_of`. Assumes nothing.
 use Rattle.root.proofs.Patterns.{no_nan_of}
-use Rattle.root.proofs.bits.Reads as reads
 use Rattle.root.proofs.bits.Goals as goal
 
 pub float_to_bits-result : goal.float_to_bits-result

@@ -1,8 +1,6 @@
-use Rattle.std.proofs.Common.{◌≡◌, ℕ, ◌+◌, ◌-◌, ◌*◌, ◌^◌, ◌<◌, ◌≤◌, ap, le_trans, arith, pow_mono}
+use Rattle.std.proofs.Common.{◌≡◌, ℕ, ◌+◌, ◌*◌, ◌^◌, ◌<◌, ◌≤◌, ap, le_trans, arith, pow_mono}
 use mir.Facts.{Fits-below}
 use Rattle.root.proofs.Squares.{sq_one, sq_double', sq-lt, pow_one, pow_step, nearest_root_lem}
-use Rattle.root.proofs.by_digits.Reads as reads
-use Rattle.root.proofs.whole.Reads as whole-reads
 use Rattle.root.proofs.by_digits.Goals as goal
 
 pos_of : (q : ℕ) → 1 < (q + 1) * (q + 1) → 1 ≤ q

@@ -5,8 +5,6 @@
 -- remainder tells whether q or q + 1 is nearest to its root (`nearest_root_lem`). The measure is
 -- 26 - i. Assumes nothing.
 use Rattle.std.proofs.Common.{◌≡◌, ◌+◌, ◌-◌, ◌*◌, ◌^◌, ◌<◌, ◌≤◌}
-use Rattle.root.proofs.by_digits.Reads as reads
-use Rattle.root.proofs.whole.Reads as whole-reads
 use Rattle.root.proofs.by_digits.Given as goal
 
 abbrev pub invariant-loop-i : goal.invariant-loop-i

@@ -1,9 +1,6 @@
 -- 52 bits and a leading one. Assumes nothing.
 use Rattle.std.proofs.Common.{◌+◌, ◌-◌, ◌/◌, ◌%◌, arith}
 use Rattle.root.proofs.Patterns.{no_nan}
-use Rattle.root.proofs.guess.Reads as reads
-use Rattle.root.proofs.approximate.Reads as approximate-reads
-use Rattle.root.proofs.half_or_more.Reads as half-or-more-reads
 use Rattle.root.proofs.guess.Goals as goal
 
 pub float_from_bits-t : goal.float_from_bits-t

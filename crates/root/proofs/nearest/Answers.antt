@@ -53,10 +53,10 @@ put-requires c =
     let hl = hl-le c.args.g (omega arith) in
     let ll = ll-le c.args.g in
     let n =
-        near c.args.a c.args.g c.wrapping_sub_u64-d.result c.wrapping_sub_u64-w.result c.wrapping_sub_u64-v.result c.if-g-v-2.up c.if-v-g.down
-        (omega arith) (omega arith) (omega arith) (omega arith) (omega arith)
-        (elim c.if-g-v-2.branch [ then-g-v-2 t ↦ inl (omega arith, omega arith) | else-g-v-2 t ↦ inr (omega arith, omega arith) ])
-        (elim c.if-v-g.branch [ then-v-g t ↦ inl (omega arith, omega arith) | else-v-g t ↦ inr (omega arith, omega arith) ]) in
+    near c.args.a c.args.g c.wrapping_sub_u64-d.result c.wrapping_sub_u64-w.result c.wrapping_sub_u64-v.result c.if-g-v-2.up c.if-v-g.down
+    (omega arith) (omega arith) (omega arith) (omega arith) (omega arith)
+    (elim c.if-g-v-2.branch [ then-g-v-2 t ↦ inl (omega arith, omega arith) | else-g-v-2 t ↦ inr (omega arith, omega arith) ])
+    (elim c.if-v-g.branch [ then-v-g t ↦ inl (omega arith, omega arith) | else-v-g t ↦ inr (omega arith, omega arith) ]) in
     let r = root_range c.args.a (c.args.g + c.if-g-v-2.up - c.if-v-g.down) c.requires.0 c.requires.1 n in
     (r.0, r.1, c.requires.3)
 
@@ -66,10 +66,10 @@ returns c =
     let hl = hl-le c.args.g (omega arith) in
     let ll = ll-le c.args.g in
     let n =
-        near c.args.a c.args.g c.wrapping_sub_u64-d.result c.wrapping_sub_u64-w.result c.wrapping_sub_u64-v.result c.if-g-v-2.up c.if-v-g.down
-        (omega arith) (omega arith) (omega arith) (omega arith) (omega arith)
-        (elim c.if-g-v-2.branch [ then-g-v-2 t ↦ inl (omega arith, omega arith) | else-g-v-2 t ↦ inr (omega arith, omega arith) ])
-        (elim c.if-v-g.branch [ then-v-g t ↦ inl (omega arith, omega arith) | else-v-g t ↦ inr (omega arith, omega arith) ]) in
+    near c.args.a c.args.g c.wrapping_sub_u64-d.result c.wrapping_sub_u64-w.result c.wrapping_sub_u64-v.result c.if-g-v-2.up c.if-v-g.down
+    (omega arith) (omega arith) (omega arith) (omega arith) (omega arith)
+    (elim c.if-g-v-2.branch [ then-g-v-2 t ↦ inl (omega arith, omega arith) | else-g-v-2 t ↦ inr (omega arith, omega arith) ])
+    (elim c.if-v-g.branch [ then-v-g t ↦ inl (omega arith, omega arith) | else-v-g t ↦ inr (omega arith, omega arith) ]) in
     let a = c.args.a in
     let k = c.args.k in
     subst (RoundedRoot (a * 2 ^ 52 * (2 ^ k * 2 ^ k))) (sym c.put.ensures) (put-rounded a k (c.args.g + c.if-g-v-2.up - c.if-v-g.down) c.requires.0 c.requires.1 c.requires.3 n)

@@ -3,7 +3,6 @@ use Rattle.std.proofs.Common.{◌≡◌, ℕ, ◌+◌, ◌-◌, ◌*◌, ◌/◌
 use Rattle.root.specs.Whole.{Significand}
 use Rattle.root.proofs.Patterns.{normal_value}
 use Rattle.root.proofs.Squares.{split}
-use Rattle.root.proofs.normal.Reads as reads
 use Rattle.root.proofs.normal.Goals as goal
 
 raise : (m e : ℕ) → 1 ≤ e → m * 2 ^ (e + 1073) ≡ m * 2 ^ (e - 1) * 2 ^ 1074

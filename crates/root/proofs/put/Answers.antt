@@ -1,7 +1,6 @@
 -- The pattern is below that of +inf. Assumes nothing.
 use Rattle.std.proofs.Common.{◌+◌, ◌*◌, arith}
 use Rattle.root.proofs.Patterns.{no_nan}
-use Rattle.root.proofs.put.Reads as reads
 use Rattle.root.proofs.put.Goals as goal
 
 pub float_from_bits-result : goal.float_from_bits-result

@@ -2,9 +2,6 @@
 use Rattle.std.proofs.Common.{◌*◌, ◌^◌, sym, subst}
 use Rattle.root.specs.Sqrt.{RoundedRoot}
 use Rattle.root.proofs.Rounded.{root_range, put-rounded}
-use Rattle.root.proofs.slow.Reads as reads
-use Rattle.root.proofs.by_digits.Reads as by-digits-reads
-use Rattle.root.proofs.put.Reads as put_reads
 use Rattle.root.proofs.slow.Goals as goal
 
 pub put-requires : goal.put-requires

@@ -1,5 +1,4 @@
-use Rattle.std.proofs.Common.{◌≡◌, ℕ, ◌+◌, ◌-◌, ◌<◌, List, length, set, sym, refl, ◌∙◌, subst, not-suc-le-zero, arith, length-set, rules}
-use Rattle.blocks.specs.Each.{whole_at}
+use Rattle.std.proofs.Common.{ℕ, ◌+◌, ◌<◌, List, set, sym, refl, ◌∙◌, subst, not-suc-le-zero, arith, length-set, rules}
 use Rattle.blocks.proofs.Laws.{one_more_held, none_filled, one_more, all_filled}
 use Rattle.root.specs.Whole.{Digits}
 use Rattle.root.proofs.sqrt_block.Invariants.{Guesses}

@@ -2,7 +2,6 @@ use Rattle.std.proofs.Common.{ℕ, ◌+◌, ◌-◌, ◌*◌, ◌/◌, ◌%◌, 
 use mir.Facts.{Fits-below}
 use Rattle.root.proofs.Patterns.{subnormal_value}
 use Rattle.root.proofs.Squares.{halve, double_pow, few, split}
-use Rattle.root.proofs.subnormal.Reads as reads
 use Rattle.root.proofs.subnormal.Goals as goal
 
 at_most_lem : (m p : ℕ) → m < 9007199254740992 → m * (p % 2 + 1) ≤ 18014398509481982

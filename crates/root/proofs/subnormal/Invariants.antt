@@ -4,7 +4,6 @@
 -- has 53 digits, and `split` makes of m * 2 ^ p the contract's a * 2 ^ 52 * 4 ^ k. The measure is
 -- p. Assumes nothing.
 use Rattle.std.proofs.Common.{◌≡◌, ◌-◌, ◌*◌, ◌^◌, ◌<◌, ◌≤◌}
-use Rattle.root.proofs.subnormal.Reads as reads
 use Rattle.root.proofs.subnormal.Given as goal
 
 abbrev pub invariant-loop-m : goal.invariant-loop-m

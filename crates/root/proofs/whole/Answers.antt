@@ -1,7 +1,6 @@
 use Rattle.std.proofs.Common.{◌≡◌, ℕ, ◌+◌, ◌-◌, ◌*◌, ◌/◌, ◌≤◌, ap, arith}
 use mir.Facts.{Fits-below}
 use Rattle.root.proofs.Squares.{sq_mono}
-use Rattle.root.proofs.whole.Reads as reads
 use Rattle.root.proofs.whole.Goals as goal
 
 pub loop-bit-init : goal.loop-bit-init

@@ -3,8 +3,7 @@
 -- the sum is at most a, which leaves q + bit as it was. Where the square is above a, the root lies
 -- below the sum and so below q plus the new bit, which is no less than that half (`sq_mono`). At
 -- bit = 1 the whole part of the root is q. The measure is bit. Assumes nothing.
-use Rattle.std.proofs.Common.{◌+◌, ◌-◌, ◌*◌, ◌<◌, ◌≤◌}
-use Rattle.root.proofs.whole.Reads as reads
+use Rattle.std.proofs.Common.{◌+◌, ◌*◌, ◌<◌, ◌≤◌}
 use Rattle.root.proofs.whole.Given as goal
 
 abbrev pub invariant-loop-bit : goal.invariant-loop-bit

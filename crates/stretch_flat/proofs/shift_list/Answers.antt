@@ -10,7 +10,7 @@ loop-i-init c = (omega (arith, c.requires.0), shifting_start _ _ _ _ _ c.require
 
 pub shift_part-state-requires : goal.shift_part-state-requires
 shift_part-state-requires c =
-    (omega arith, omega (arith, c.window-w.ensures.2), c.shift_part-arg-in-loop-i-1.given.2 ∙ sym g)
+    (omega arith, omega (arith, c.window-w.ensures.2), omega arith)
 
 pub loop-i-preserved : goal.loop-i-preserved
 loop-i-preserved c =
@@ -18,7 +18,7 @@ loop-i-preserved c =
     let w = c.window-w.result in
     let made = c.shift_part-state.ensures in
     let fits : 4 * (l.i + w) ≤ length c.args.list.now = omega (arith, l.invariant.0, c.window-w.ensures.1, c.loop-i-test.true) in
-    (l.invariant.0, shifting-on l.invariant.1 w c.shift_part-state.new.1.1.1.1.0 fits c.results-1.given.0 made.0 made.1 refl c.in-loop-i.is)
+    (l.invariant.0, shifting-on l.invariant.1 w c.shift_part-state.new.1.1.1.1.0 fits (omega arith) made.0 made.1 refl c.in-loop-i.is)
 
 pub returns : goal.returns
 returns c = let l = c.loop-i in shifting-end l.invariant.1 (omega (arith, l.invariant.0, c.loop-i-test.false))

@@ -16,7 +16,7 @@ loop-i-init c =
 
 pub retrack_part-again-requires : goal.retrack_part-again-requires
 retrack_part-again-requires c =
-    (omega arith, omega (arith, c.window-w.ensures.2), c.retrack_part-arg-in-loop-i-1.given.2 ∙ sym g)
+    (omega arith, omega (arith, c.window-w.ensures.2), omega arith)
 
 pub overflow_add-i : goal.overflow_add-i
 overflow_add-i c =

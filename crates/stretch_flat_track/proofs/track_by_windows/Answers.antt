@@ -14,7 +14,7 @@ loop-i-init c =
 
 pub track_part-state-requires : goal.track_part-state-requires
 track_part-state-requires c =
-    (omega arith, omega (arith, c.window-w.ensures.2), c.track_part-arg-in-loop-i-1.given.2 ∙ sym g)
+    (omega arith, omega (arith, c.window-w.ensures.2), omega arith)
 
 pub loop-i-preserved : goal.loop-i-preserved
 loop-i-preserved c =
@@ -22,7 +22,7 @@ loop-i-preserved c =
     let w = c.window-w.result in
     let made = c.track_part-state.ensures in
     let fits : 4 * (l.i + w) ≤ length c.args.list.now = omega (arith, l.invariant.0, c.window-w.ensures.1, c.loop-i-test.true) in
-    (l.invariant.0, c.in-loop-i.is ∙ l.invariant.1, tracking-window c.args.list.now l.invariant.2 w c.track_part-state.new.1.1.1.0 fits c.track-1.given.0 made.0 made.1 refl c.in-loop-i.is)
+    (l.invariant.0, c.in-loop-i.is ∙ l.invariant.1, tracking-window c.args.list.now l.invariant.2 w c.track_part-state.new.1.1.1.0 fits (omega arith) made.0 made.1 refl c.in-loop-i.is)
 
 pub returns : goal.returns
 returns c =

@@ -24,5 +24,5 @@ pub returns : goal.returns
 returns c =
     let a = c.args in
     let last = c.shift_rows.new.1.1.1.1.1.1.1 in
-    flat-between a.rx.now a.ry.now a.rz.now a.rt.now c.requires.1 a.start a.end c.requires.3 (omega (arith, c.requires.4, c.requires.2)) last.0 last.1.0 last.1.1.0 last.1.1.1.0 c.rx-1.given.0 c.ry-1.given.0 c.rz-1.given.0 c.rt-1.given.0
+    flat-between a.rx.now a.ry.now a.rz.now a.rt.now c.requires.1 a.start a.end c.requires.3 (omega (arith, c.requires.4, c.requires.2)) last.0 last.1.0 last.1.1.0 last.1.1.1.0 (omega arith) (omega arith) (omega arith) (omega arith)
     (c.shift_rows.ensures ∙ ap (ran_of (helmert_turns a.inverse a.shift) 0 a.from) (flat_mid a.x.now a.y.now a.z.now a.t.now c.requires.0 a.start (a.end - a.start)))

@@ -1,4 +1,3 @@
-use Prim.Native.Nat.{◌-◌}
 use Rattle.tally.specs.Tallies.{no_tally}
 use Rattle.tally.proofs.Laws.{read_start, read_again, read_end}
 use borrow.Author.Rules.{rules}

@@ -1,6 +1,5 @@
 use borrow.Author.Rules.{rules}
 use mathlib.Core.Path.{refl, sym, ◌∙◌}
-use Prim.Native.Nat.{◌-◌}
 use Rattle.text.proofs.Powers.{found, missed, one_place, next_worth}
 use Rattle.text.proofs.highest.Goals as goal
 

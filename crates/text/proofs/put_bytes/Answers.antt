@@ -4,7 +4,6 @@ use Prim.Native.Nat.{ℕ}
 use native.Mathlib.Numerals.{add-one}
 use lib.ListN.{get_or, drop_of_length-le}
 use borrow.Author.Rules.{rules}
-use Prim.Native.Nat.{◌-◌}
 use lib.ListN.{drop}
 use lib.Seq.{drop-cons}
 use Rattle.text.proofs.Laws.{going_starts, going_on, going_ends}

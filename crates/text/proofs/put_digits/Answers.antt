@@ -1,7 +1,7 @@
 use native.Mathlib.Omega.{arith}
 use native.Mathlib.Nat.{mod-lt}
 use borrow.Author.Rules.{rules}
-use Prim.Native.Nat.{◌-◌, ◌/◌}
+use Prim.Native.Nat.{◌/◌}
 use Rattle.text.proofs.Powers.{highest_first, next_worth, no_digits, worth_something}
 use Rattle.text.proofs.Laws.{going_starts, going_on, going_ends}
 use Rattle.text.proofs.put_digits.Goals as goal

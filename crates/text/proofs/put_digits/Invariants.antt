@@ -4,7 +4,7 @@
 -- (`highest_first`, `going_on`) and divides `worth` by the base (`next_worth`). With no digit left
 -- the text is complete (`no_digits`, `going_ends`). The measure is `left`. Assumes nothing.
 use mathlib.Core.Path.{◌≡◌}
-use Prim.Native.Nat.{◌-◌, ◌^◌, ◌/◌}
+use Prim.Native.Nat.{◌^◌, ◌/◌}
 use Rattle.text.specs.Text.{text}
 use Rattle.text.specs.Digits.{digits_of}
 use Rattle.text.proofs.Laws.{Going}

@@ -1,4 +1,3 @@
-use Prim.Native.Nat.{◌-◌}
 use borrow.Author.Rules.{rules}
 use Rattle.blocks.proofs.All.{none_asked, one_asked, all_asked}
 use Rattle.trig_block.proofs.all_usual.Goals as goal
