@@ -2,9 +2,9 @@
 -- before and after each addition, it's proved equal to the static Helmert step." Of the premise only
 -- one part is used: the coordinates are nonzero before the pivot is added. Assumes nothing.
 use mathlib.Core.Path.{◌≡◌, refl, sym, ap, subst, ◌∙◌}
-use mathlib.Core.Bool.{Bool, true, false, cond, ◌&&◌, true≢false}
+use mathlib.Core.Bool.{true, false, cond, ◌&&◌, true≢false}
 use Prim.Native.Nat.{zero, suc}
-use lib.Ieee.{Float, nan, inf, fin, binary64, eq, ne}
+use lib.Ieee.{Float, nan, inf, fin, binary64, ne}
 use lib.Ieee.Fits.{sub-fits}
 use Rattle.floats.specs.Binary64.{◌⊖◌, bits}
 use Rattle.floats.proofs.Zero.{equals_zero}

@@ -2,14 +2,13 @@
 -- itself as the fix; a fix of -0 through a pivot of +0; the units; and rules 5 and 6. Assumes
 -- nothing.
 use mathlib.Core.Path.{◌≡◌, refl}
-use mathlib.Core.Bool.{Bool, true, false}
+use mathlib.Core.Bool.{true, false}
 use Prim.Native.Nat.{ℕ}
-use lib.Ieee.{Float, nan, inf, of_bits, add, sub, mul, div, neg, eq, ne, is_nan}
+use lib.Ieee.{nan, of_bits, add, sub, mul, div, neg, eq, ne, is_nan}
 use Rattle.floats.specs.Binary64.{bits}
 use Rattle.tuple.specs.declared.Tuple.{Tuple}
 use Rattle.rotation.specs.declared.Vec3.{Vec3}
 use Rattle.rotation.specs.Matrix.{first_order_of, rows_of, rotation_matrix_of}
-use Rattle.helmert.specs.Record.{zero3}
 use Rattle.helmert.specs.Units.{winner_of, lengths_of, angles_of, parameters_of}
 use Rattle.helmert.specs.Rules.{some_of, rotated_of, dynamic_of, finite3_of, lacks_convention_of as helmert_lacks_convention_of}
 use Rattle.helmert.specs.Apply.{offset_of, deoffset_of, forward_of, inverse_of, forward_about_of, inverse_about_of}

@@ -2,10 +2,10 @@
 -- state as it is and counts every tuple; and with a pivot of three +0 it is the static Helmert step
 -- of the same numbers, under the weakest premise. Assumes nothing.
 use mathlib.Core.Path.{◌≡◌, refl, sym, ap, subst, ◌∙◌}
-use mathlib.Core.Bool.{Bool, true, false, not, cond, ◌&&◌, true≢false}
-use lib.Ieee.{Float, nan, inf, fin, binary64, of_bits, mul, div, eq, ne, round}
+use mathlib.Core.Bool.{Bool, true, false, cond}
+use lib.Ieee.{Float, binary64, of_bits, mul, div, eq, ne, round}
 use lib.Ieee.Fits.{mul-fits}
-use Rattle.floats.specs.Binary64.{◌⊗◌, bits}
+use Rattle.floats.specs.Binary64.{◌⊗◌}
 use Rattle.tuple.specs.declared.Tuple.{Tuple}
 use Rattle.rotation.specs.declared.Vec3.{Vec3}
 use Rattle.rotation.specs.Matrix.{rotate_of}

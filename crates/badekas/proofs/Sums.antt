@@ -1,9 +1,9 @@
 -- Sums and differences with a zero, for a number that binary64 holds. x - (+0) is x. x + (+0) is x
 -- except where x is -0, and then it is +0. Assumes nothing.
-use mathlib.Core.Path.{◌≡◌, refl, sym, ap, ◌∙◌}
-use Prim.Native.Nat.{ℕ, zero, suc, ◌+◌, ◌-◌, ◌*◌, ◌<◌}
+use mathlib.Core.Path.{◌≡◌, refl, ap}
+use Prim.Native.Nat.{ℕ, zero, suc, ◌+◌, ◌*◌, ◌<◌}
 use native.Mathlib.Nat.{mul-one, one-mul, zero-mul, zero-add, add-zero, sub-zero, mul-pos, zero-lt-suc, not-suc-le-zero}
-use mathlib.Core.Bool.{Bool, true, false, cond, ◌&&◌, true≢false}
+use mathlib.Core.Bool.{Bool, true, false, ◌&&◌, true≢false}
 use lib.Dec.{T, ltb, lt→ltb, ltb→lt}
 use lib.Pow.{pow_pos}
 use lib.IntN.{ℤ, pos, negsuc}

@@ -2,12 +2,12 @@
 -- for every tuple, infinities and NaN too, except on an axis where both S·w and T are -0; inverse
 -- except on an axis where the Helmert result is -0, because there the sum with the pivot is +0.
 -- Assumes nothing.
-use mathlib.Core.Path.{◌≡◌, refl, ap, ◌∙◌}
+use mathlib.Core.Path.{◌≡◌}
 use mathlib.Core.Bool.{Bool, true, false, cond, ◌&&◌}
 use lib.Dec.{T}
-use lib.Ieee.{Float, nan, inf, fin, binary64, fits}
+use lib.Ieee.{Float, binary64, fits}
 use lib.Ieee.Fits.{add-fits, sub-fits, mul-fits, div-fits}
-use Rattle.floats.specs.Binary64.{◌⊕◌, ◌⊖◌, ◌⊗◌, ◌⊘◌, bits}
+use Rattle.floats.specs.Binary64.{◌⊖◌, ◌⊗◌}
 use Rattle.tuple.specs.declared.Tuple.{Tuple}
 use Rattle.rotation.specs.declared.Vec3.{Vec3}
 use Rattle.rotation.specs.Matrix.{Matrix, rotate_of, rotate_back_of}

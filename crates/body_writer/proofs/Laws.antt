@@ -98,7 +98,7 @@ unfolding helmert_of helmert_bytes le_series vec3_at le_vec3 number_at le_number
 helmert_back h held =
     let flags : word32 (helmert_bytes h) 0 ≡ h.flags = word_back h.flags held.flags-held in
     let convention : word32 (helmert_bytes h) 4 ≡ h.convention = word_back h.convention held.convention-held in
-    let translation : vec3_at (helmert_bytes h) 8 ≡ h.translation = vec3_back h.translation held.translation-held in
+    let translation : vec3_at (helmert_bytes h) 8 ≡ h.translation = vec3_back h.translation held.translation_held in
     let xyz : vec3_at (helmert_bytes h) 32 ≡ h.xyz = vec3_back h.xyz held.xyz-held in
     let rate : vec3_at (helmert_bytes h) 56 ≡ h.translation_rate = vec3_back h.translation_rate held.translation-rate-held in
     let dxyz : vec3_at (helmert_bytes h) 80 ≡ h.dxyz = vec3_back h.dxyz held.dxyz-held in
@@ -119,7 +119,7 @@ unfolding badekas_of badekas_bytes vec3_at le_vec3 number_at le_number word64 le
 badekas_back r held =
     let flags : word32 (badekas_bytes r) 0 ≡ r.flags = word_back r.flags held.flags-held in
     let convention : word32 (badekas_bytes r) 4 ≡ r.convention = word_back r.convention held.convention-held in
-    let translation : vec3_at (badekas_bytes r) 8 ≡ r.translation = vec3_back r.translation held.translation-held in
+    let translation : vec3_at (badekas_bytes r) 8 ≡ r.translation = vec3_back r.translation held.translation_held in
     let rotation : vec3_at (badekas_bytes r) 32 ≡ r.rotation = vec3_back r.rotation held.rotation-held in
     let scale : number_at (badekas_bytes r) 56 ≡ r.scale = number-back r.scale held.scale-held in
     let pivot : vec3_at (badekas_bytes r) 64 ≡ r.pivot = vec3_back r.pivot held.pivot-held in

@@ -14,7 +14,6 @@ use Rattle.geocart.specs.Geocart.{cartesian_of}
 use Rattle.geocart_block.specs.Blocks.{latitude_of}
 use Rattle.geocart_block.proofs.Parts.{through, either_way}
 use Rattle.cart.specs.declared.Inverse.{Inverse}
-use Rattle.cart.specs.declared.Legs.{Legs}
 use Rattle.cart.specs.Step.{cart_fwd_of, s0_of, c0_of, legs_with, legs_of, height_with, height_of, off_axis_of, on_axis_of, cart_inv_of}
 use Rattle.cart_block.specs.Blocks.{level_of, counts_of}
 

@@ -37,7 +37,7 @@ module _ (s : List ℕ) (bytes : Bytes s) (e : refusal_of s ≡ accepted) where
   ok = accepted-keeps s (ap (λ (r : Refusal). r.number) e)
 
   same_refusal : writer_refusal_of (record_of s) 4240 ≡ refusal_of s
-  same_refusal = writer-takes-what-was-read s bytes e 4240 ok.at-most ∙ sym e
+  same_refusal = writer-takes-what-was-read s bytes e 4240 ok.at_most ∙ sym e
 
   same-deforms : has_deformation (kind_in (record_of s)) (record_of s).count ≡ has_deformation (kind_at s) (step_count_of s)
   same-deforms =

@@ -3,12 +3,10 @@
 use mathlib.Core.Path.{◌≡◌, refl}
 use mathlib.Core.List.{List, [], ◌∷◌, ◌++◌}
 use mathlib.Core.Bool.{true, false}
-use Prim.Native.Nat.{ℕ}
-use lib.Ieee.{Float, nan, inf, binary64, of_bits, to_bits, sub, round, size, is_nan}
+use lib.Ieee.{Float, nan, inf, of_bits, to_bits, sub, round, size, is_nan}
 use Rattle.floats.specs.Binary64.{bits}
 use Rattle.floats.specs.Number.{sign_of, same_of}
 use Rattle.lists.specs.Flat.{tuple_at}
-use Rattle.closure_report.specs.declared.Report.{Report}
 use Rattle.closure_report.specs.Report.{lost_of, restored_of, difference_of, some_left, larger_of, lost_in, restored_in, left_in, seen_of, fixes_of, seen_all, list_done, added_of, rolled_of, empty_report, numbers_of}
 
 abbrev same : List Float

@@ -2,19 +2,19 @@
 -- what each sentence of document 02's A14 says (`Tells`), any split into calls gives the same
 -- report, and sixteen numbers are a report and back. Assumes nothing.
 use mathlib.Core.Path.{◌≡◌, refl, sym, ap, ◌∙◌, subst}
-use Prim.Native.Nat.{ℕ, zero, suc, ◌+◌, ◌/◌, ◌<◌, ◌≤◌}
+use Prim.Native.Nat.{ℕ, ◌+◌, ◌/◌, ◌<◌, ◌≤◌}
 use mathlib.Core.Bool.{Bool, true, false, not, cond, ◌&&◌}
 use mathlib.Core.List.{List, [], ◌∷◌, ◌++◌, append_assoc, append-nil}
 use native.Mathlib.Omega.{arith}
 use native.Mathlib.Nat.{zero-add}
 use borrow.Author.Tests.{ltb-true, ltb-false, le-ltb, eq-eqb}
-use lib.Dec.{eqb, ltb}
+use lib.Dec.{ltb}
 use lib.ListN.{length, length-append}
 use lib.Ieee.{Float, binary64, to_bits}
 use Rattle.floats.specs.Number.{same_of}
 use Rattle.tuple.specs.declared.Tuple.{Tuple}
 use Rattle.closure_report.specs.declared.Report.{Report}
-use Rattle.closure_report.specs.Report.{Closing, Pair, most, one_more, lost_in, restored_in, left_in, is_lost, is_restored, difference_of, seen_of, fixes_of, seen_all, list_done, added_of, rolled_of, empty_report, no_largest, numbers_of, report_of}
+use Rattle.closure_report.specs.Report.{Closing, Pair, most, one_more, lost_in, restored_in, left_in, is_lost, is_restored, difference_of, seen_of, fixes_of, seen_all, list_done, added_of, rolled_of, empty_report, numbers_of, report_of}
 use Rattle.closure_report.specs.Sentences.{all_fixes, capped, number_of, only_restored, rest_of, IsLargest, Tells}
 use Rattle.closure_report.proofs.Telling.{seen-told, done_told}
 

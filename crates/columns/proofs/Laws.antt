@@ -12,9 +12,9 @@ use lib.Seq.{take_all}
 use lib.Ieee.{Float, nan}
 use Rattle.tuple.specs.declared.Tuple.{Tuple}
 use Rattle.blocks.specs.Each.{at}
-use Rattle.lists.specs.Flat.{four_of, numbers_of, tuple_at, put_at}
+use Rattle.lists.specs.Flat.{four_of, tuple_at, put_at}
 use Rattle.lists.proofs.Places.{tuple-there, from_place, put-take, put-length, four-set}
-use Rattle.columns.specs.Columns.{Level, level_of, has_row_of, row_by_row, flat_of, fits_of, column_of, columns_of}
+use Rattle.columns.specs.Columns.{Level, level_of, has_row_of, row_by_row, flat_of, fits_of, column_of}
 
 -- four times a number, by successors
 quad : ℕ → ℕ

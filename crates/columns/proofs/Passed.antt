@@ -1,6 +1,6 @@
 -- The laws of `Passed`: no row, one row, sixteen rows, one piece after another, and the end.
 -- Assumes nothing.
-use Prim.Native.Nat.{ℕ, zero, suc, ◌+◌, ◌*◌, ◌-◌, ◌/◌, ◌≤◌, ◌<◌}
+use Prim.Native.Nat.{ℕ, zero, suc, ◌+◌, ◌*◌, ◌/◌, ◌≤◌, ◌<◌}
 use native.Mathlib.Omega.{arith}
 use native.Mathlib.Nat.{add_assoc, add-zero, zero-add}
 use mathlib.Core.Path.{◌≡◌, refl, sym, ap, ◌∙◌, subst}
@@ -16,10 +16,10 @@ use Rattle.tuple.specs.declared.Tuple.{Tuple}
 use Rattle.lists.specs.Flat.{four_of, numbers_of, tuple_at, put_at}
 use Rattle.lists.specs.Run.{Turn, Turns, ran_of, count_of, state_after_of}
 use Rattle.lists.specs.Sixteen.{row_at, put_rows, turned_of, taken_of}
-use Rattle.lists.proofs.Places.{from_place, put-take, put-drop, put-length}
+use Rattle.lists.proofs.Places.{from_place, put-take, put-drop}
 use Rattle.lists.proofs.Results.{tuple_beyond}
 use Rattle.lists.proofs.Sixteen as sixteen
-use Rattle.columns.specs.Passed.{whole_of, Passed, later_turns}
+use Rattle.columns.specs.Passed.{Passed, later_turns}
 
 -- ---- pieces
 

@@ -1,7 +1,7 @@
 -- Known values of the definitions. Assumes nothing.
 use mathlib.Core.Path.{◌≡◌, refl}
 use mathlib.Core.Bool.{true, false}
-use lib.Ieee.{binary64, of_bits, to_bits, of_int, neg, add, mul, div, lt, round, size}
+use lib.Ieee.{of_bits, to_bits, of_int, neg, add, mul, div, lt, round, size}
 use Rattle.floats.specs.Binary64.{bits}
 use Rattle.floats.specs.Number.{sign_of, same_of}
 use Rattle.decimal.specs.declared.Decimal.TheVariants.{Found, Nothing}

@@ -3,7 +3,7 @@
 -- units of binary64's smallest number, 2^-1074. 4503599627370496 is 2^52, 9007199254740992 is 2^53.
 -- Working definitions, which no promise cites: `Half`, `Close`. Assumes nothing.
 use mathlib.Core.Path.{◌≡◌, ap, ◌∙◌, subst}
-use Prim.Native.Nat.{ℕ, suc, ◌+◌, ◌-◌, ◌*◌, ◌/◌, ◌%◌, ◌^◌, ◌≤◌, ◌<◌, compare, Ordering}
+use Prim.Native.Nat.{ℕ, suc, ◌+◌, ◌*◌, ◌/◌, ◌%◌, ◌^◌, ◌≤◌, ◌<◌, compare, Ordering}
 use native.Mathlib.Omega.{arith}
 use native.Mathlib.Nat.{mul_comm, mul_assoc, mul_left_comm, one-mul, suc-mul, add-mul, mul-le-mul_right, mul-pos, mod-lt, div-add-mod', le-div_iff_mul-le, le_antisymm, lt_of_lt_of_le, lt_of_not-le, not-le_of_lt}
 use mathlib.Core.Bool.{not}

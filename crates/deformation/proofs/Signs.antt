@@ -6,13 +6,11 @@ use mathlib.Core.Path.{◌≡◌, refl}
 use Prim.Native.Nat.{ℕ, ◌+◌, ◌/◌, ◌%◌, ◌<◌}
 use native.Mathlib.Omega.{arith}
 use mathlib.Core.Bool.{Bool, true, false, not, cond}
-use lib.Dec.{eqb}
 use Rattle.tuple.specs.declared.Tuple.{Tuple}
-use Rattle.tuple.specs.declared.Shifted.{Shifted}
 use Rattle.deformation.specs.declared.Deformation.{Deformation}
 use Rattle.deformation.specs.declared.Motion.{Motion}
 use Rattle.deformation.specs.declared.Velocity.{Velocity}
-use Rattle.deformation.specs.Record.{raw_of, by_comment_of, directed_of}
+use Rattle.deformation.specs.Record.{by_comment_of, directed_of}
 use Rattle.deformation.specs.Step.{motion_of, common_of, record_step_of}
 
 either : (flag : Bool) (op : Motion) (inverse : Bool) (v : Velocity) (mark : ℕ) (cart : Tuple)

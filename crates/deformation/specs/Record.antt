@@ -1,6 +1,6 @@
 -- The deformation step's record, as a sheet carries it (kind 5): flags, an ellipsoid, and a
 -- duration dt or an epoch, each NaN where it is not given.
-use Rattle.std.specs.Prelude.{ℕ, ◌/◌, ◌%◌, Bool, not, cond, ◌&&◌, ◌||◌, eqb, ltb, Float}
+use Rattle.std.specs.Prelude.{◌/◌, ◌%◌, Bool, not, cond, ◌&&◌, ◌||◌, eqb, ltb, Float}
 use Rattle.std.specs.Float.{nan}
 use Rattle.std.specs.Float.Ieee.{is_nan}
 use Rattle.std.specs.Float.Ieee.Scale.{finite}

@@ -1,7 +1,7 @@
 -- A slice takes fewer than 2^63 bytes, so no velocity and no mark is lent from index 2^63 on. Any
 -- two indices from there on find the same: a part of a list that begins at one may be moved as if
 -- it began at the other (`lent_alike`). Assumes nothing.
-use Prim.Native.Nat.{ℕ, ◌+◌, ◌*◌, ◌/◌, ◌^◌, ◌≤◌, ◌<◌}
+use Prim.Native.Nat.{ℕ, ◌+◌, ◌/◌, ◌^◌, ◌≤◌, ◌<◌}
 use native.Mathlib.Omega.{arith}
 use mathlib.Core.Path.{◌≡◌, refl, sym, ap, ◌∙◌, fun_ext}
 use mathlib.Core.Bool.{Bool, true, false, cond}
@@ -12,8 +12,7 @@ use lib.ListN.{length, get_or-eq_default}
 use lib.Ieee.{Float, nan}
 use Rattle.tuple.specs.declared.Tuple.{Tuple}
 use Rattle.deformation.specs.declared.Motion.{Motion}
-use Rattle.deformation.specs.declared.Velocity.{Velocity}
-use Rattle.lists.specs.Run.{Turn, Turns, ran_of, count_of}
+use Rattle.lists.specs.Run.{Turns, ran_of, count_of}
 use Rattle.helmert.specs.declared.State.{State}
 use Rattle.helmert.specs.Turns.{no_state}
 use Rattle.turns.specs.Turns.{velocity_at, mark_at, moved_turns}

@@ -1,28 +1,27 @@
 -- A run with a grid is a run with lent velocities and marks that are what the lookup finds
 -- (`grid-run-is-lent-run`): by induction over the tuples, for what is lent after the first fix
 -- serves the rest of the list as if it began there (`lent_to_the_rest`). Assumes nothing.
-use Prim.Native.Nat.{ℕ, zero, suc, ◌+◌, ◌*◌, ◌/◌, ◌≤◌, ◌<◌}
+use Prim.Native.Nat.{ℕ, suc, ◌+◌, ◌*◌, ◌/◌}
 use native.Mathlib.Omega.{arith}
 use mathlib.Core.Path.{◌≡◌, refl, sym, ap, ◌∙◌, fun_ext}
 use mathlib.Core.Bool.{Bool, true, false, cond}
 use mathlib.Core.List.{List, [], ◌∷◌, ◌++◌}
 use borrow.Author.Tests.{lt-ltb, le-ltb, ltb-true, ltb-false}
 use lib.Dec.{ltb}
-use lib.ListN.{length, get_or}
-use lib.Ieee.{Float, nan}
+use lib.ListN.{length}
+use lib.Ieee.{Float}
 use Rattle.tuple.specs.declared.Tuple.{Tuple}
 use Rattle.tuple.specs.declared.Shifted.{Shifted}
 use Rattle.deformation.specs.declared.Motion.{Motion}
-use Rattle.deformation.specs.declared.Velocity.{Velocity}
 use Rattle.deformation.specs.Step.{common_of as deformation_of}
 use Rattle.lists.specs.Flat.{four_of, numbers_of}
-use Rattle.lists.specs.Run.{Turn, Turns, ran_of, count_of}
+use Rattle.lists.specs.Run.{Turns, ran_of, count_of}
 use Rattle.helmert.specs.declared.State.{State}
 use Rattle.turns.specs.Turns.{velocity_at, mark_at, moved_turns}
 use Rattle.columns.specs.Passed.{later_turns}
 use Rattle.columns.proofs.Passed.{later-ran, later-counted}
 use Rattle.grid.specs.Lookup.{rows_of, columns_of, found_of}
-use Rattle.deformation_grid.specs.Gridded.{velocity_of, found_for, gridded_of, gridded_turns, gridded_in}
+use Rattle.deformation_grid.specs.Gridded.{found_for, gridded_of, gridded_turns, gridded_in}
 use Rattle.deformation_grid.specs.Found.{velocities_found, marks_found}
 
 -- ---- the axes read already

@@ -14,7 +14,7 @@ use Rattle.helmert.specs.declared.State.{State}
 use Rattle.turns.specs.Turns.{plain_turns}
 use Rattle.grid.specs.declared.Axis.{Axis}
 use Rattle.grid.specs.declared.Marked.{Marked}
-use Rattle.grid.specs.Lookup.{rows_of, columns_of, found_in, found_of}
+use Rattle.grid.specs.Lookup.{found_in, found_of}
 
 -- the velocity that was found, as the step takes it
 abbrev pub velocity_of : Marked → Velocity

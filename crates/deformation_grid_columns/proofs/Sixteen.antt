@@ -1,7 +1,7 @@
 -- Sixteen rows moved by the velocities found at their places are what the turns make of them: the
 -- block form's blocks hold what the step gives for each row (`moved-there`), so the flat list is
 -- turned and the count taken (`moved-passed`). Assumes nothing.
-use Prim.Native.Nat.{ℕ, ◌+◌, ◌*◌, ◌/◌, ◌≤◌, ◌<◌}
+use Prim.Native.Nat.{ℕ, ◌+◌, ◌*◌, ◌≤◌, ◌<◌}
 use mathlib.Core.Path.{◌≡◌, refl, ap, ◌∙◌}
 use mathlib.Core.Bool.{Bool}
 use mathlib.Core.List.{List}

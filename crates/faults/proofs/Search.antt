@@ -1,11 +1,8 @@
 -- The search, entry by entry. Assumes nothing.
-use mathlib.Core.Path.{◌≡◌, refl}
+use mathlib.Core.Path.{◌≡◌}
 use Prim.Native.Nat.{ℕ, suc, ◌+◌, ◌*◌}
-use native.Mathlib.Numerals.{add-one}
 use mathlib.Core.List.{List}
 use borrow.Author.Tests.{eq-eqb, ne_eqb}
-use Rattle.sheet.specs.Layout.{offset_at, length_at}
-use Rattle.sheet.specs.Rules.{end_before}
 use Rattle.faults.specs.Faults.{entry_fault, first_fault}
 
 pub fault_here : (s : List ℕ) (left n i : ℕ) → left ≡ suc n → (entry_fault s i ≡ 16 → ⊥) → first_fault s left i ≡ 16 + 16 * i + entry_fault s i

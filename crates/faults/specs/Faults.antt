@@ -1,5 +1,5 @@
 -- Where a sheet breaks rule 4: the byte at which the first word stands that is outside its rule.
-use Rattle.std.specs.Prelude.{ℕ, zero, suc, ◌+◌, Bool, not, cond, List, eqb, ltb, length}
+use Rattle.std.specs.Prelude.{ℕ, zero, suc, ◌+◌, not, cond, List, eqb, ltb, length}
 use Rattle.bodies.specs.Kinds.{length_of}
 use Rattle.sheet.specs.Layout.{step_count_of, directory_offset_of, entry_offset, directory_end, kind_at, inverted_at, offset_at, length_at}
 use Rattle.sheet.specs.Rules.{end_before}

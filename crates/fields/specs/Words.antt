@@ -25,7 +25,7 @@ helmert_flags flags =
     ++ flag_text (ascii "; exact ") (flag1 flags)
     ++ flag_text (ascii "; uas ") (flag2 flags)
     ++ flag_text (ascii "; mm ") (flag4 flags)
-    ++ flag_text (ascii "; own_epoch ") (flag8 flags)
+    ++ flag_text (ascii "; own-epoch ") (flag8 flags)
     ++ ascii "\n"
 
 -- kind 3: 1 abridged, 2 two ellipsoids

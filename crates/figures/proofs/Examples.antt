@@ -1,6 +1,6 @@
 -- Known values of the definitions. Assumes nothing.
 use mathlib.Core.Path.{◌≡◌, refl}
-use lib.Ieee.{binary64, of_bits, to_bits, of_int, neg, add, mul, div, lt, round, size}
+use lib.Ieee.{of_bits, to_bits, of_int, neg, add, mul, div, lt, round, size}
 use Rattle.floats.specs.Number.{sign_of, same_of}
 use Rattle.text.specs.Ascii.{ascii}
 use Rattle.text.specs.Digits.{digits_of, places_of, hex_of}

@@ -1,10 +1,10 @@
 -- How large a result can be. What rounds from a fraction up to k is at most k where k is a binary64
 -- number (`round_at_most`), because rounding keeps the order; so products and sums of bounded numbers
 -- are bounded (`mul_at_most`, `add_at_most`). Assumes nothing.
-use Rattle.std.proofs.Common.{◌≡◌, ℕ, zero, suc, ◌+◌, ◌-◌, ◌*◌, ◌^◌, ◌<◌, ◌≤◌, Bool, true, false, cond, not, ◌&&◌, ◌||◌, T, eqb, ltb, ℤ, pos, sym, refl, ap, ◌∙◌, subst, true≢false, zero-le, le_trans, le_of_eq, le_of_lt, add-le-add, mul-le-mul_right, zero-lt-suc, mul_assoc, mul_comm, add-mul, mul-le-mul, mul-pos, mul-one, mul_right_comm, le_of_mul-le-mul_right, arith, eqb→eq, ltb→lt}
+use Rattle.std.proofs.Common.{◌≡◌, ℕ, zero, suc, ◌+◌, ◌-◌, ◌*◌, ◌^◌, ◌<◌, ◌≤◌, Bool, true, false, cond, not, ◌&&◌, ◌||◌, T, eqb, ltb, ℤ, sym, refl, ap, ◌∙◌, subst, true≢false, zero-le, le_trans, le_of_eq, le_of_lt, add-le-add, mul-le-mul_right, zero-lt-suc, mul_assoc, mul_comm, add-mul, mul-le-mul, mul-pos, mul-one, mul_right_comm, le_of_mul-le-mul_right, arith, eqb→eq, ltb→lt}
 use native.Mathlib.Nat.{mul-mul-mul_comm}
 use mathlib.Core.Bool.{beq}
-use lib.Ieee.{Float, nan, inf, fin, Format, binary64, prec, emax, low, size, odd, units, round, up, down, add, sub, mul, sum, neg, le, lt, eq}
+use lib.Ieee.{Float, nan, inf, fin, Format, binary64, prec, emax, low, odd, units, round, up, down, add, sub, mul, sum, neg, le, lt, eq}
 use lib.Ieee.Fits.{round_is, down_pos}
 use lib.Ieee.Exact.{HasValue}
 use lib.Ieee.Order.{drop, kept, round_mono}

@@ -3,25 +3,24 @@
 -- by comparison, so the share is 1. Then one weight is 1 and the others are +0, and three of the
 -- four terms are zeros. That two whole numbers in a row lie 1 apart is evaluated for each count.
 -- Assumes nothing.
-use Rattle.std.proofs.Common.{◌≡◌, ℕ, zero, suc, ◌+◌, ◌-◌, ◌*◌, ◌/◌, ◌^◌, ◌<◌, ◌≤◌, Bool, true, false, cond, not, ◌&&◌, ◌||◌, T, eqb, ltb, leb, List, length, pos, sym, refl, ap, ◌∙◌, subst, ⊎_elim, true≢false, eq-or-lt_of_le, arith, le→leb, ltb→lt, le-ltb, lt-ltb, eq-eqb, eqb-true, le-leb}
-use mathlib.Core.Bool.{beq}
-use lib.Ieee.{Float, nan, inf, fin, binary64, of_bits, of_int, round, size, units, odd, to_bits, add, sub, sum, mul, neg, in_float, to_unsigned, le, lt, eq, below, up, down}
-use lib.Ieee.Bits.{of_bits-fits, of_bits-to_bits, is_true}
+use Rattle.std.proofs.Common.{◌≡◌, ℕ, zero, suc, ◌+◌, ◌-◌, ◌*◌, ◌^◌, ◌<◌, ◌≤◌, Bool, true, false, ◌&&◌, ◌||◌, eqb, List, sym, refl, ap, ◌∙◌, ⊎_elim, true≢false, eq-or-lt_of_le, arith, le→leb, le-ltb, lt-ltb, eq-eqb, eqb-true, le-leb}
+use lib.Ieee.{Float, nan, inf, fin, binary64, of_bits, of_int, round, size, units, odd, to_bits, add, sub, sum, mul, neg, in_float, to_unsigned, le, lt, eq, up, down}
+use lib.Ieee.Bits.{of_bits-fits, of_bits-to_bits}
 use lib.Ieee.Back.{unsigned_back}
 use lib.Ieee.Fits.{sub-fits}
 use lib.Ieee.Scale.{finite}
-use Rattle.floats.specs.Binary64.{◌⊕◌, ◌⊖◌, ◌⊗◌, ◌⊘◌, bits}
+use Rattle.floats.specs.Binary64.{◌⊖◌, bits}
 use Rattle.floats.specs.Number.{sign_of}
 use Rattle.words.specs.Words.{word64, number_at}
-use Rattle.grid_rules.specs.Layout.{row_count_of, column_count_of, south_of, west_of, node_offset_of, grid_length_of, number_of, numbers_of}
-use Rattle.grid_rules.specs.Rules.{count_in_rule, check_grid_of, refusal17}
+use Rattle.grid_rules.specs.Layout.{row_count_of, column_count_of, south_of, west_of, numbers_of}
+use Rattle.grid_rules.specs.Rules.{count_in_rule, check_grid_of}
 use Rattle.grid_rules.proofs.Laws.{Counted, LaidOut, InRule, accepted_exactly, laid_out, in_rule}
 use Rattle.grid.specs.declared.Axis.{Axis}
 use Rattle.grid.specs.declared.Node.{Node}
 use Rattle.grid.specs.declared.Weights.{Weights}
-use Rattle.grid.specs.Lookup.{rows_of, columns_of, as_number, far_of, last_of, within_of, inside_of, quotient_of, spacings_of, lesser_of, at_most, cell_of, share_of, node_at, node_of, one, weights_of, mix_of, mixed_of, cell_velocity_of, looked_up, present_of, found_in, found_of}
+use Rattle.grid.specs.Lookup.{rows_of, columns_of, as_number, far_of, last_of, within_of, quotient_of, spacings_of, cell_of, share_of, node_of, one, weights_of, mix_of, mixed_of, cell_velocity_of, looked_up, present_of, found_in, found_of}
 use Rattle.grid.proofs.Laws.{node_within}
-use Rattle.grid.proofs.Zeros.{Held, corner_of, zero_of, itself_less_itself, zero_over, once, none, first_stays, second_stays, third_stays, fourth_stays}
+use Rattle.grid.proofs.Zeros.{Held, corner_of, itself_less_itself, zero_over, once, none, first_stays, second_stays, third_stays, fourth_stays}
 
 -- ---- whole numbers in a row
 

@@ -3,9 +3,8 @@
 -- quotient is not below zero, and it is used only below count - 1: so u is at most 64, its share at
 -- most 128 by magnitude, and a weight at most 129·129. Four products of such weights with 2^1000
 -- cannot overflow, nor can their sums. Assumes nothing.
-use Rattle.std.proofs.Common.{◌≡◌, ℕ, zero, suc, ◌+◌, ◌-◌, ◌*◌, ◌^◌, ◌<◌, ◌≤◌, Bool, true, false, cond, not, ◌&&◌, ◌||◌, T, eqb, ltb, leb, List, ℤ, pos, sym, refl, ap, ◌∙◌, subst, true≢false, zero-le, le_trans, le_of_eq, le_refl, zero-lt-suc, mul-pos, zero-mul, mul-one, arith, ltb-false, ltb-true, le-ltb, lt-ltb, ne_eqb, eqb-true}
-use mathlib.Core.Bool.{beq}
-use lib.Ieee.{Float, nan, inf, fin, Format, binary64, prec, emax, low, size, odd, units, round, up, down, of_bits, of_int, add, sub, mul, div, sum, neg, le, lt, eq}
+use Rattle.std.proofs.Common.{◌≡◌, ℕ, zero, suc, ◌+◌, ◌-◌, ◌*◌, ◌^◌, ◌<◌, ◌≤◌, Bool, true, false, cond, ◌&&◌, ◌||◌, T, eqb, ltb, List, pos, sym, refl, ap, ◌∙◌, subst, true≢false, zero-le, le_trans, le_of_eq, le_refl, zero-lt-suc, mul-pos, zero-mul, arith, ltb-true, le-ltb, ne_eqb, eqb-true}
+use lib.Ieee.{Float, nan, inf, fin, Format, binary64, prec, emax, low, size, odd, units, round, up, down, of_bits, of_int, add, sub, div, sum, neg, le, lt, eq}
 use lib.Ieee.Fits.{round_is, up_pos, down_pos}
 use lib.Ieee.Back.{round_whole}
 use lib.Ieee.Exact.{HasValue}

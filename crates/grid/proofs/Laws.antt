@@ -1,10 +1,10 @@
 -- What is true of the lookup for every grid's bytes and every place, for callers to cite: present
 -- exactly inside, absent at a NaN, and no node outside the grid. Assumes nothing.
-use Rattle.std.proofs.Common.{◌≡◌, ℕ, zero, suc, ◌+◌, ◌-◌, ◌*◌, ◌<◌, ◌≤◌, Bool, true, false, cond, ◌&&◌, ltb, leb, List, length, sym, refl, ap, ◌∙◌, true≢false, suc-mul, mul-le-mul, add-one, arith, ltb-false, ltb-true}
+use Rattle.std.proofs.Common.{◌≡◌, ℕ, ◌+◌, ◌-◌, ◌*◌, ◌<◌, ◌≤◌, Bool, true, false, cond, ◌&&◌, ltb, List, length, sym, refl, true≢false, suc-mul, mul-le-mul, add-one, arith, ltb-false}
 use lib.Ieee.{Float, nan, inf, fin, le, lt, eq, to_unsigned}
 use Rattle.grid_rules.specs.Layout.{row_count_of, column_count_of, node_offset_of, grid_length_of}
 use Rattle.grid_rules.specs.Rules.{count_in_rule, refusal17}
-use Rattle.grid_rules.proofs.Laws.{Counted, counted, LaidOut, laid_out}
+use Rattle.grid_rules.proofs.Laws.{Counted, counted, laid_out}
 use Rattle.grid.specs.declared.Axis.{Axis}
 use Rattle.grid.specs.Lookup.{rows_of, columns_of, last_of, within_of, inside_of, cell_of, spacings_of, looked_up, present_of, absent_of, found_in, found_of}
 

@@ -1,7 +1,7 @@
 -- The whole part of a number outside -1 to 2^64, as the code has it. Assumes nothing.
-use Rattle.std.proofs.Common.{◌≡◌, ℕ, zero, suc, ◌+◌, ◌-◌, ◌*◌, ◌/◌, ◌^◌, ◌<◌, ◌≤◌, Bool, true, false, cond, ℤ, pos, sym, refl, ap, ◌∙◌, subst, true≢false, mul-pos, one-mul, le-div_iff_mul-le, mul-one, arith, ltb-false, lt-ltb}
+use Rattle.std.proofs.Common.{◌≡◌, ◌+◌, ◌-◌, ◌*◌, ◌/◌, ◌^◌, ◌≤◌, true, false, sym, refl, ◌∙◌, true≢false, le-div_iff_mul-le, arith, ltb-false, lt-ltb}
 use native.Mathlib.Nat.{min-eq_right}
-use lib.Ieee.{Float, nan, inf, fin, of_bits, binary64, neg, lt, to_unsigned, up, down}
+use lib.Ieee.{Float, nan, inf, fin, of_bits, neg, lt, to_unsigned, up, down}
 use lib.Ieee.Fits.{down_pos}
 use Rattle.floats.specs.Binary64.{bits}
 

@@ -1,7 +1,7 @@
 -- Products with 1 and 0, and sums with a zero: what a corner's four terms come to. Once a number
 -- that binary64 holds is that number; none of it is a zero of its sign; and a zero added to another
 -- number leaves it, while two zeros make -0 only where both are. Assumes nothing.
-use Rattle.std.proofs.Common.{◌≡◌, ℕ, zero, suc, ◌+◌, ◌-◌, ◌*◌, ◌<◌, ◌≤◌, Bool, true, false, cond, not, ◌&&◌, T, eqb, ltb, ℤ, pos, sym, refl, ap, ◌∙◌, true≢false, le_refl, add-zero, zero-lt-suc, mul-pos, one-mul, zero-add, zero-mul, mul-one, arith, ltb-true, le-ltb, lt-ltb, ne_eqb}
+use Rattle.std.proofs.Common.{◌≡◌, ℕ, zero, suc, ◌-◌, ◌*◌, ◌<◌, Bool, true, false, cond, ◌&&◌, T, eqb, ℤ, pos, sym, refl, ap, ◌∙◌, true≢false, le_refl, add-zero, zero-lt-suc, mul-pos, one-mul, zero-add, zero-mul, mul-one, arith, ltb-true, le-ltb, lt-ltb, ne_eqb}
 use native.Mathlib.Nat.{sub-zero, sub_self}
 use lib.Ieee.{Float, nan, inf, fin, binary64, fits, round, size, units, odd, of_bits, add, sub, mul, div, sum, lt, up, down}
 use lib.Ieee.Fits.{up_pos, down_pos}

@@ -1,7 +1,7 @@
 -- A pattern of 64 bits is a finite number's just where it and the pattern with the sign turned lie
 -- below -infinity's (`finite_by_both`). The larger of two lies below a bound just where both do, so
 -- the largest of many tells it of all of them (`worst_tells`). Assumes nothing.
-use mathlib.Core.Path.{◌≡◌, refl, sym, ap, ◌∙◌, subst}
+use mathlib.Core.Path.{◌≡◌, refl, sym, ap, ◌∙◌}
 use Prim.Native.Nat.{ℕ, zero, suc, ◌+◌, ◌*◌, ◌-◌, ◌/◌, ◌%◌, ◌^◌, ◌≤◌, ◌<◌}
 use native.Mathlib.Omega.{arith}
 use native.Mathlib.Numerals.{add-one}
@@ -10,7 +10,7 @@ use mathlib.Core.Bool.{Bool, true, false, not, cond, ◌&&◌, true≢false}
 use mathlib.Core.List.{List}
 use lib.Dec.{eqb, leb, ltb}
 use lib.ListN.{length, take, drop}
-use lib.Ieee.{Float, nan, inf, fin, binary64, of_bits, of_fields, odd}
+use lib.Ieee.{nan, inf, binary64, of_bits, of_fields, odd}
 use lib.Ieee.Scale.{finite}
 use borrow.Author.Tests.{lt-ltb, le-ltb, leb-true, ltb-true, ltb-false, eq-eqb, ne_eqb}
 use Rattle.floats.specs.Binary64.{bits}

@@ -1,6 +1,6 @@
 -- A running loop holds S and the matrix from one change of time to the next: what it holds is what
 -- the definition takes anew at each tuple. Assumes nothing.
-use mathlib.Core.Path.{◌≡◌, refl, sym, ap, ◌∙◌}
+use mathlib.Core.Path.{◌≡◌, sym, ap, ◌∙◌}
 use mathlib.Core.Bool.{Bool, true, false}
 use lib.Ieee.{Float, ne}
 use Rattle.floats.specs.Binary64.{◌⊖◌}
@@ -8,7 +8,6 @@ use Rattle.tuple.specs.declared.Tuple.{Tuple}
 use Rattle.rotation.specs.Matrix.{Matrix, rotation_matrix_of}
 use Rattle.helmert.specs.declared.Shift.{Shift}
 use Rattle.helmert.specs.declared.State.{State}
-use Rattle.helmert.specs.declared.Stepped.{Stepped}
 use Rattle.helmert.specs.Apply.{forward_of, inverse_of, apply_of}
 use Rattle.helmert.specs.Modes.{grown_of, rotation_at_of, scale_at_of, next_of, running_of, own_epoch_step_of}
 use Rattle.helmert.proofs.Laws.{own_epoch_anyway}

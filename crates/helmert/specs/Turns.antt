@@ -10,7 +10,7 @@ use Rattle.helmert.specs.declared.Stepped.{Stepped}
 use Rattle.helmert.specs.Record.{zero3}
 use Rattle.helmert.specs.Modes.{step_of, counted_of}
 use Rattle.lists.specs.Flat.{four_of}
-use Rattle.lists.specs.Run.{Turn, Turns}
+use Rattle.lists.specs.Run.{Turns}
 
 -- ---- the state: Helmert's. A step that has no T carries (NaN, +0, +0, +0) and leaves it.
 

@@ -1,6 +1,6 @@
 -- A step's own loop, by its mode, makes the list, the state and the count that the definition says.
 -- A static, fixed or own_epoch step sees the tuple alone and leaves the state. Assumes nothing.
-use Prim.Native.Nat.{ℕ, zero, suc, ◌+◌, ◌*◌, ◌/◌, ◌≤◌, ◌<◌}
+use Prim.Native.Nat.{ℕ, suc, ◌+◌, ◌/◌, ◌≤◌, ◌<◌}
 use native.Mathlib.Nat.{add_assoc, add-zero, zero-add}
 use native.Mathlib.Omega.{arith}
 use mathlib.Core.Path.{◌≡◌, refl, sym, ap, ◌∙◌}
@@ -20,7 +20,7 @@ use Rattle.columns.proofs.Laws.{flat_level, flat-length}
 use Rattle.helmert.specs.declared.Shift.{Shift}
 use Rattle.helmert.specs.declared.State.{State}
 use Rattle.helmert.specs.declared.Stepped.{Stepped}
-use Rattle.helmert.specs.Modes.{step_of, running_of, own_epoch_step_of, fixed_step_of, time_varying_of, is_running_of, is_own_epoch_of, counted_of}
+use Rattle.helmert.specs.Modes.{step_of, running_of, own_epoch_step_of, fixed_step_of, time_varying_of, is_running_of, is_own_epoch_of}
 use Rattle.helmert.specs.Turns.{no_state, all_turns, stepped_turns, helmert_turns, number_of, timed_of}
 use Rattle.helmert.proofs.Laws.{step_in_running, step_in_own_epoch, state_stays, counts_but_in_own_epoch}
 use Rattle.helmert.proofs.Counts.{own-epoch-count, every-tuple-counts-but-in-own-epoch}

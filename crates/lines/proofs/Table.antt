@@ -1,7 +1,7 @@
 -- The ellipsoids' lines as they are written are the table's figures: computed. Assumes nothing.
 use mathlib.Core.Path.{◌≡◌, refl}
 use mathlib.Core.List.{◌++◌}
-use lib.Ieee.{binary64, of_bits, to_bits, of_int, neg, add, mul, div, lt, round, size}
+use lib.Ieee.{of_bits, to_bits, of_int, neg, add, mul, div, lt, round, size}
 use Rattle.floats.specs.Number.{sign_of, same_of}
 use Rattle.text.specs.Ascii.{ascii}
 use Rattle.text.specs.Digits.{digits_of, places_of}

@@ -6,7 +6,6 @@ use Rattle.words.specs.Words.{word32, number_at}
 use Rattle.helmert.specs.Units.{winner_of}
 use Rattle.ellipsoid.specs.Figure.{axes_of}
 use Rattle.text.specs.Ascii.{ascii}
-use Rattle.text.specs.Digits.{decimal_of}
 use Rattle.figures.specs.Figures.{number_text, number_at_text, time_at_text, word_at_text}
 use Rattle.lines.specs.declared.Unit.{Unit}
 use Rattle.lines.specs.declared.Unit.TheVariants.{Plain, Metre, Millimetre, Arcsecond, MicroArcsecond, Ppm}

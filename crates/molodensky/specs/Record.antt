@@ -1,6 +1,6 @@
 -- The Molodensky step's record, as a sheet carries it (kind 3): flags, two ellipsoids, the shift of
 -- the centre and the change of the figure.
-use Rattle.std.specs.Prelude.{ℕ, ◌/◌, ◌%◌, Bool, true, cond, ◌&&◌, eqb, ltb}
+use Rattle.std.specs.Prelude.{◌/◌, ◌%◌, Bool, true, cond, ◌&&◌, eqb, ltb}
 use Rattle.std.specs.Float.Ieee.Scale.{finite}
 use Rattle.floats.specs.Binary64.{bits}
 use Rattle.floats.specs.Number.{same_of}

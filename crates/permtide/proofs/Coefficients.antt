@@ -2,7 +2,7 @@
 -- 3 and its k is finite, so each of the nine coefficients is finite (`coefficient_is_finite`). And rule
 -- 5 by the codes is, for every record, rule 5 by the Rust's test that the coefficient is no NaN
 -- (`rule_is_the_rusts`), so leaving that test out changed no answer. Assumes nothing.
-use mathlib.Core.Path.{◌≡◌, refl, sym, ap, ◌∙◌, subst}
+use mathlib.Core.Path.{◌≡◌, refl, sym, ap, ◌∙◌}
 use Prim.Native.Nat.{ℕ, zero, suc, ◌+◌, ◌-◌, ◌*◌, ◌^◌}
 use mathlib.Core.Bool.{Bool, true, false, not, cond, ◌&&◌, ◌||◌, beq}
 use lib.Dec.{T, eqb, ltb}

@@ -15,7 +15,7 @@ use Rattle.tuple.specs.Columns.{row_of}
 use Rattle.permtide.specs.declared.Tide.{Tide}
 use Rattle.permtide.specs.Step.{fwd_of, inv_of}
 use Rattle.lists.specs.Flat.{four_of, put_at, tuple_at}
-use Rattle.lists.specs.Sixteen.{row_at, put_rows, put_block}
+use Rattle.lists.specs.Sixteen.{row_at, put_rows}
 use Rattle.lists.proofs.Sixteen.{Columns, put-rows, turned}
 use Rattle.helmert.specs.Turns.{no_state, all_turns}
 use Rattle.turns.proofs.Columns.{all_taken}

@@ -1,6 +1,6 @@
 -- What a step does not look at does not matter to its run: the index, the state, or both. And a
 -- step that leaves its state alone leaves it over a whole list. Assumes nothing.
-use Prim.Native.Nat.{ℕ, suc, ◌+◌, ◌*◌, ◌/◌}
+use Prim.Native.Nat.{ℕ, suc, ◌+◌, ◌/◌}
 use native.Mathlib.Omega.{arith}
 use mathlib.Core.Path.{◌≡◌, refl, sym, ap, ◌∙◌}
 use mathlib.Core.Bool.{Bool, true, false, cond}
@@ -27,7 +27,7 @@ use Rattle.reach.proofs.Laws.{met_by_tuple, none_of}
 use Rattle.deformation_grid.specs.Gridded.{gridded_of, gridded_turns}
 use Rattle.plans.specs.declared.Plan.{Plan}
 use Rattle.plans.specs.declared.Plan.TheVariants.{CartForward, CartInverse, PermtideEither, DeformationEither, MolodenskyEither, HelmertEither}
-use Rattle.plans.specs.Lent.{Lent, lent_of, gridless, lent_turns, lent_met_turns, gridded_met}
+use Rattle.plans.specs.Lent.{Lent, gridless, lent_turns, lent_met_turns, gridded_met}
 use Rattle.plans.proofs.Lent.{none_met_with_a_grid}
 use Rattle.plans.specs.Plans.{plan_turns_of, plan_reach_of}
 

@@ -11,7 +11,7 @@ use lib.IntN.{ℤ}
 use lib.Ieee.{Float, nan, inf, fin, of_bits, is_nan, neg, lt, le, eq}
 use lib.Ieee.Bits.{is_true}
 use lib.Ieee.Positive.{positive, le_trans_positive}
-use Rattle.floats.specs.Number.{sign_of, abs_of}
+use Rattle.floats.specs.Number.{sign_of}
 use Rattle.trig.specs.Trig.{reach, out_of_reach}
 use Rattle.arctan.specs.Table.{half_pi, pi}
 use Rattle.arctan.specs.Arctan.{atan2_of}

@@ -1,6 +1,6 @@
 -- A step made ready: what depends on the record alone is worked out once a list, and the direction
 -- is in the plan.
-use Rattle.std.specs.Prelude.{ℕ, ◌<◌, ◌≡◌, Bool, true, false, cond, List, eqb, ltb, get_or, Float}
+use Rattle.std.specs.Prelude.{ℕ, ◌<◌, ◌≡◌, Bool, true, false, cond, List, eqb, ltb, get_or}
 use Rattle.std.specs.Float.{nan}
 use Rattle.ellipsoid.specs.Figure.{named_of}
 use Rattle.cart.specs.Step.{cart_fwd_of, cart_inv_of, inverse_figures_of}

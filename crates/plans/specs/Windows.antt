@@ -2,7 +2,6 @@
 -- which passes through all steps before the next part begins, is the whole list step after step
 -- (proofs/Windows.antt).
 use Rattle.std.specs.Prelude.{ℕ, Bool, true, false, List, [], ◌∷◌, Float}
-use Rattle.helmert.specs.declared.State.{State}
 use Rattle.lists.specs.Run.{ran_of, state_after_of}
 use Rattle.tally.specs.Tallies.{plus_of}
 use Rattle.plans.specs.Passes.{Pass, tally_of}

@@ -40,9 +40,9 @@ not_offending exact dynamic own e = neither exact (dynamic && not own) e
 helmert_through : (h : HelmertRecord) (exact dynamic own : Bool) → exact_of h ≡ exact → dynamic_of (parameters_of h) ≡ dynamic → own_epoch_of h ≡ own
     → (exact || (dynamic && not own)) ≡ false → LetsThrough (Helmert h)
 helmert_through h true dynamic own a b c e = absurd (true≢false e)
-helmert_through h false true true a b c e = LetsThrough.own-epoch a c
+helmert_through h false true true a b c e = LetsThrough.own_epoch a c
 helmert_through h false true false a b c e = absurd (true≢false e)
-helmert_through h false false own a b c e = LetsThrough.not-dynamic a b
+helmert_through h false false own a b c e = LetsThrough.not_dynamic a b
 
 and_no : (b : Bool) → (b && false) ≡ false
 and_no true = refl
@@ -51,8 +51,8 @@ and_no false = refl
 through-kept : (step : Step) → LetsThrough step → refusal25 step ≡ false
 unfolding refusal25 helmert_offends
 through-kept step LetsThrough.a-cart = refl
-through-kept step (LetsThrough.own-epoch {h = h} a c) = rw (a, c) (and_no (dynamic_of (parameters_of h)))
-through-kept step (LetsThrough.not-dynamic a b) = rw (a, b)
+through-kept step (LetsThrough.own_epoch {h = h} a c) = rw (a, c) (and_no (dynamic_of (parameters_of h)))
+through-kept step (LetsThrough.not_dynamic a b) = rw (a, b)
 
 kept-through : (step : Step) → refusal25 step ≡ false → LetsThrough step
 unfolding refusal25 helmert_offends

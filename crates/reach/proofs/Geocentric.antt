@@ -6,7 +6,6 @@ use Prim.Native.Nat.{ℕ, zero, suc, ◌*◌, ◌-◌, ◌/◌, ◌%◌, ◌^◌
 use native.Mathlib.Nat.{zero-lt-suc}
 use mathlib.Core.Bool.{Bool, true, false, not, cond, true≢false}
 use lib.Dec.{T, ltb, lt→ltb}
-use lib.IntN.{ℤ}
 use lib.Ieee.{Float, nan, inf, fin, binary64, of_bits, is_nan, neg, add, sub, mul, div, sum, round, units, odd, unlike, up, down, size, nearest, eq, lt, le}
 use lib.Ieee.Fits.{round_is}
 use lib.Ieee.Scale.{finite}
@@ -16,12 +15,12 @@ use Rattle.floats.specs.Number.{sign_of, abs_of}
 use Rattle.floats.proofs.Laws.{neg-neg, abs_of_neg, abs_is_not_negative}
 use Rattle.trig.specs.Trig.{reach, sin_of, cos_of, out_of_reach}
 use Rattle.trig.specs.WithinOne.{WithinOne}
-use Rattle.trig.proofs.Laws.{sine_within_one, sine_out_of_reach, sine_is_nan_exactly_out_of_reach, cosine_is_nan_exactly_out_of_reach}
+use Rattle.trig.proofs.Laws.{sine_within_one, sine_out_of_reach, cosine_is_nan_exactly_out_of_reach}
 use Rattle.arctan.specs.Arctan.{atan2_of}
 use Rattle.arctan.specs.Table.{half_pi, pi}
 use Rattle.arctan.specs.Cases.{Between}
 use Rattle.arctan.proofs.Parts.{nan_of_abs, zero_is_below}
-use Rattle.arctan.proofs.Laws.{odd_in_y, from_zero_to_half_pi_if_x_is_not_negative, from_half_pi_to_pi_if_x_is_negative, nan_exactly_if_a_part_is}
+use Rattle.arctan.proofs.Laws.{odd_in_y, from_zero_to_half_pi_if_x_is_not_negative, from_half_pi_to_pi_if_x_is_negative}
 use Rattle.ellipsoid.specs.declared.Ellipsoid.{Ellipsoid}
 use Rattle.ellipsoid.specs.Figure.{one, named_of, ellipsoid_of, geocentric_of}
 

@@ -11,7 +11,6 @@ use Rattle.helmert.specs.declared.State.{State}
 use Rattle.rotation.specs.Matrix.{rotation_matrix_of}
 use Rattle.helmert.specs.Apply.{apply_about_of}
 use Rattle.helmert.specs.Modes.{rotation_at_of, scale_at_of, grown_of, next_of, shifted_of, running_of, fixed_step_of, own_epoch_step_of, step_of, time_varying_of, is_running_of, is_own_epoch_of}
-use Rattle.helmert.proofs.Laws.{state_stays, step_in_own_epoch}
 use Rattle.reach.specs.Met.{rotation_out, rotation_used, matrix_out, own_out}
 
 -- whether R at a time is out of reach

@@ -1,18 +1,17 @@
 -- What a sheet that breaks no rule keeps, rule by rule, and that this is all that it takes. Working
 -- definitions, which no promise cites: `PlaceKept`, `Accepted`. Assumes nothing.
-use mathlib.Core.Path.{◌≡◌, refl, sym, ap, ◌∙◌, subst}
-use Prim.Native.Nat.{ℕ, zero, suc, ◌+◌, ◌*◌, ◌<◌, ◌≤◌}
-use mathlib.Core.List.{List, [], ◌∷◌, ◌++◌}
-use mathlib.Core.Bool.{Bool, true, false, not, ◌||◌}
+use mathlib.Core.Path.{◌≡◌, sym, ◌∙◌}
+use Prim.Native.Nat.{ℕ, ◌<◌, ◌≤◌}
+use mathlib.Core.List.{List}
+use mathlib.Core.Bool.{true, false}
 use native.Mathlib.Omega.{arith}
 use native.Mathlib.Nat.{zero-add}
 use borrow.Author.Tests.{eqb-true, eqb-false, ltb-false, not-false, eq-eqb, ne_eqb, le-ltb}
-use lib.Dec.{eqb, ltb}
 use lib.ListN.{length}
 use Rattle.bodies.specs.Kinds.{length_of}
 use Rattle.bodies.specs.Rules.{body_in_rule}
 use Rattle.sheet.specs.Layout.{form_of, total_length_of, step_count_of, directory_offset_of, kind_at, inverted_at, offset_at, length_at, directory_end, body_at, step_at}
-use Rattle.sheet.specs.Rules.{refusal1, refusal2, refusal3, refusal4, refusal5, refusal5_at, refusal11, end_before, place_broken, inverted_broken, some_from, five_to_eight, elevens, reader_order, first_broken, refusal_of, accepted}
+use Rattle.sheet.specs.Rules.{refusal1, refusal2, refusal3, refusal4, refusal5, refusal5_at, refusal11, end_before, place_broken, some_from, five_to_eight, elevens, reader_order, refusal_of, accepted}
 use Rattle.sheet.specs.Given.{Unbroken}
 use Rattle.sheet.proofs.Order.{all_kept, none_broken, kept_append, kept_left, kept_right, neither, numbered_reader, count_kept}
 use Rattle.sheet.proofs.Each.{StepKept, each_step, every-step, each-eleven, every-eleven, each-kept, every-kept}
@@ -27,7 +26,7 @@ pub record PlaceKept (s : List ℕ) (i : ℕ) : Type 0 where
 -- a sheet that no refusal is given of
 pub record Accepted (s : List ℕ) : Type 0 where
   pub at_least : 16 ≤ length s
-  pub at_most_lem : length s ≤ 4240
+  pub at_most : length s ≤ 4240
   pub total : total_length_of s ≡ length s
   pub form : form_of s ≡ 1
   pub some-step : 0 < step_count_of s
@@ -79,7 +78,7 @@ module _ (s : List ℕ) where
       let second = kept_right (five_to_eight (refusal5_at s) (step_at s) n 0) (elevens (kind_at s) n 0) k in
       record {
         at_least = ltb-false _ _ a2.0;
-        at_most_lem = ltb-false _ _ a2.1;
+        at_most = ltb-false _ _ a2.1;
         total = total;
         form = eqb-true _ _ (not-false _ b);
         some-step = count.0;
@@ -99,7 +98,7 @@ module _ (s : List ℕ) where
       let some : (n ≡ 0) → ⊥ = λ e. omega (arith, h.some-step, e) in
       let places : some_from (place_broken s) n 0 ≡ false = every-kept (place_broken s) n 0 (λ i l. rw zero-add (keep_place s i (h.places i l))) in
       let ends : end_before s n ≡ total_length_of s = h.ends ∙ sym h.total in
-      let one : refusal1 s ≡ false = rw (le-ltb (length s) 16 h.at_least, le-ltb 4240 (length s) h.at-most, eq-eqb (total_length_of s) (length s) h.total) in
+      let one : refusal1 s ≡ false = rw (le-ltb (length s) 16 h.at_least, le-ltb 4240 (length s) h.at_most, eq-eqb (total_length_of s) (length s) h.total) in
       let two : refusal2 s ≡ false = rw (eq-eqb (form_of s) 1 h.form) in
       let three : refusal3 n ≡ false = rw (ne_eqb n 0 some, le-ltb 16 n h.few-steps) in
       let four : refusal4 s ≡ false =

@@ -1,17 +1,16 @@
 -- The entries of the record that a sheet stands for: filled one after another, blank past the step
 -- count, each as `entry_at` says. Working definition, which no promise cites: `filled`. Assumes
 -- nothing.
-use mathlib.Core.Path.{◌≡◌, refl, sym, ap, ◌∙◌}
+use mathlib.Core.Path.{◌≡◌, refl, ap, ◌∙◌}
 use Prim.Native.Nat.{ℕ, zero, suc, ◌+◌, ◌-◌, ◌≤◌, ◌<◌}
-use mathlib.Core.List.{List, [], ◌∷◌, ◌++◌, append_assoc}
+use mathlib.Core.List.{List, ◌∷◌, ◌++◌}
 use native.Mathlib.Omega.{arith}
 use native.Mathlib.Nat.{zero-add, add-zero, suc-add}
-use native.Mathlib.Numerals.{add-one}
 use borrow.Author.Tests.{le-ltb}
 use lib.ListN.{length, set, replicate, get_or}
 use lib.Seq.{set_at, append_snoc}
 use Rattle.sheet.specs.declared.Entry.{Entry}
-use Rattle.sheet.specs.Layout.{step_count_of, blank_entry, entry_at, entries_from, record_of}
+use Rattle.sheet.specs.Layout.{step_count_of, blank_entry, entry_at, entries_from}
 
 length_entries : (s : List ℕ) (k i : ℕ) → length (entries_from s k i) ≡ k
 unfolding entries_from

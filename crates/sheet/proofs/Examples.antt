@@ -2,7 +2,7 @@
 -- writer's rules. Assumes nothing.
 use mathlib.Core.Path.{◌≡◌, refl}
 use mathlib.Core.List.{List, [], ◌∷◌, ◌++◌}
-use Prim.Native.Nat.{ℕ, zero, suc}
+use Prim.Native.Nat.{ℕ}
 use lib.ListN.{take}
 use Rattle.words.specs.Words.{le32}
 use Rattle.words.specs.Words.{word32, word64, number_at, one_nan_at}

@@ -15,7 +15,7 @@ use Rattle.bodies.specs.Read.{step_of}
 use Rattle.bodies.specs.Rules.{body_in_rule, lacks_convention, lacks_epoch, lacks_duration, lowest_broken}
 use Rattle.sheet.specs.declared.Refusal.{Refusal}
 use Rattle.sheet.specs.Layout.{offset_at, length_at, step_count_of, kind_at, step_at}
-use Rattle.sheet.specs.Rules.{Rule, rule, of_call, of_step, of_index, accepted, first_broken, rules_of_step, five_to_eight, elevens, refusal6, refusal7, refusal8, refusal11, has_deformation, some_from, end_before, refusal1, refusal2, refusal3, refusal4, refusal5, refusal5_at, reader_order, refusal_of}
+use Rattle.sheet.specs.Rules.{Rule, rule, of_step, of_index, accepted, first_broken, rules_of_step, five_to_eight, elevens, refusal11, has_deformation, some_from, end_before, refusal1, refusal2, refusal3, refusal4, refusal5, refusal5_at, reader_order, refusal_of}
 use Rattle.sheet.specs.Given.{Unbroken}
 
 -- ---- numbers that a list of rules does not give

@@ -7,7 +7,7 @@ use mathlib.Core.List.{List}
 use lib.Dec.{eqb, ltb, leb}
 use lib.ListN.{length}
 use lib.Ieee.{Float}
-use borrow.Author.Tests.{eqb-true, eq-eqb, leb-true, le-leb, ltb-true, lt-ltb}
+use borrow.Author.Tests.{eqb-true, eq-eqb, leb-true, le-leb, ltb-true}
 use Rattle.columns.specs.Columns.{Columns, columns, columns_of, Level, flat_of}
 use Rattle.columns.proofs.Laws.{back-x, back-y, back-z, back-t}
 use Rattle.stretch.specs.Kept.{as_long_of}

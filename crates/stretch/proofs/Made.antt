@@ -3,7 +3,6 @@
 -- them. Assumes nothing.
 use Prim.Native.Nat.{ℕ, suc, ◌+◌, ◌-◌, ◌*◌, ◌%◌, ◌≤◌}
 use native.Mathlib.Omega.{arith}
-use native.Mathlib.Nat.{add-zero}
 use mathlib.Core.Bool.{Bool}
 use mathlib.Core.Path.{◌≡◌, refl, sym, ap, ◌∙◌}
 use mathlib.Core.List.{List, [], ◌∷◌, ◌++◌, append_assoc}
@@ -19,9 +18,9 @@ use Rattle.lists.specs.Flat.{four_of, numbers_of}
 use Rattle.lists.specs.Run.{ran_of, track_of, state_after_of}
 use Rattle.lists.proofs.Laws.{ran_length}
 use Rattle.columns.specs.Columns.{column_of}
-use Rattle.stretch.specs.Kept.{tracked_of, Kept, kept_of, fresh_of, spliced_of, stretch_of, redone_of, redo_of}
+use Rattle.stretch.specs.Kept.{tracked_of, kept_of, fresh_of, spliced_of, stretch_of, redone_of, redo_of}
 use Rattle.stretch.specs.Track.{tracks_of, retrack_of}
-use Rattle.stretch.proofs.Again.{Again, again_of}
+use Rattle.stretch.proofs.Again.{Again}
 use Rattle.stretch.proofs.Stretch.{again-spliced}
 use Rattle.stretch.proofs.Meeting.{whole_take, ran_append}
 use Rattle.stretch.proofs.Track.{track-by-times, retrack-by-times}

@@ -2,10 +2,10 @@
 -- a time; and what a loop over fixes, or over windows of them, has written so far. Working
 -- definitions, which no promise cites: `Tracking`, `Retracking`, `joined_track`, `then_of`. Assumes
 -- nothing.
-use Prim.Native.Nat.{ℕ, zero, suc, ◌+◌, ◌-◌, ◌*◌, ◌%◌, ◌≤◌, ◌<◌}
+use Prim.Native.Nat.{ℕ, suc, ◌+◌, ◌-◌, ◌*◌, ◌%◌, ◌≤◌, ◌<◌}
 use native.Mathlib.Omega.{arith}
-use native.Mathlib.Nat.{add_assoc, add_comm, add-zero, zero-add}
-use mathlib.Core.Bool.{Bool, true, false, cond}
+use native.Mathlib.Nat.{add-zero, zero-add}
+use mathlib.Core.Bool.{Bool, true, false}
 use mathlib.Core.Path.{◌≡◌, refl, sym, ap, ◌∙◌, subst}
 use mathlib.Core.List.{List, [], ◌∷◌, ◌++◌, append_assoc, append-nil}
 use lib.Dec.{T}
@@ -16,17 +16,17 @@ use Rattle.blocks.specs.Each.{at}
 use Rattle.tuple.specs.declared.Tuple.{Tuple}
 use Rattle.helmert.specs.declared.Shift.{Shift}
 use Rattle.helmert.specs.declared.State.{State}
-use Rattle.helmert.specs.Modes.{is_running_of, next_of, running_of, step_of}
+use Rattle.helmert.specs.Modes.{is_running_of, running_of, step_of}
 use Rattle.helmert.specs.Turns.{helmert_turns}
 use Rattle.lists.specs.Flat.{four_of, numbers_of, tuple_at, put_at}
-use Rattle.lists.specs.Run.{Turn, Turns, ran_of, track_of, state_after_of}
+use Rattle.lists.specs.Run.{Turn, Turns, track_of, state_after_of}
 use Rattle.lists.proofs.Places.{from_place, put-there, put-take, put-length}
-use Rattle.lists.proofs.Results.{tuple_beyond, tuple_first}
+use Rattle.lists.proofs.Results.{tuple_first}
 use Rattle.columns.specs.Columns.{column_of}
 use Rattle.stretch.specs.Same.{alike_of}
 use Rattle.stretch.specs.Kept.{tracked_of}
 use Rattle.stretch.specs.Track.{moved_of, moved_by_of, tracks_of, Retracked, retracked, one_retracked, retrack_of}
-use Rattle.stretch.proofs.Again.{Again, again, one_of, again_of}
+use Rattle.stretch.proofs.Again.{Again, one_of, again_of}
 
 -- ---- the state of a fix is moved by its time
 

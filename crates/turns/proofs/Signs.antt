@@ -8,12 +8,11 @@ use mathlib.Core.List.{List}
 use lib.Ieee.{Float}
 use Rattle.tuple.specs.declared.Tuple.{Tuple}
 use Rattle.helmert.specs.declared.State.{State}
-use Rattle.lists.specs.Run.{Turn, ran_of, count_of}
+use Rattle.lists.specs.Run.{ran_of, count_of}
 use Rattle.deformation.specs.declared.Deformation.{Deformation}
-use Rattle.deformation.specs.Record.{directed_of}
-use Rattle.deformation.specs.Step.{motion_of, record_step_of}
+use Rattle.deformation.specs.Step.{record_step_of}
 use Rattle.deformation.proofs.Signs.{flagged, motion_stays, plain_direction, flagged_direction, directed_step}
-use Rattle.turns.specs.Turns.{velocity_at, mark_at, moved_turns, deformation_turns}
+use Rattle.turns.specs.Turns.{velocity_at, mark_at, deformation_turns}
 
 -- a turn is the record's step, by the velocity and the mark of the fix's index
 pub turn_is_the_step : (inverse : Bool) (r : Deformation) (velocities : List Float) (marks : List ℕ) (k : ℕ) (state : State) (v : Tuple)

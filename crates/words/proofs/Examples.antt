@@ -1,9 +1,8 @@
 -- Known values of the definitions. Assumes nothing.
 use mathlib.Core.Path.{◌≡◌, refl}
 use mathlib.Core.Bool.{true, false}
-use mathlib.Core.List.{List, [], ◌∷◌}
-use Prim.Native.Nat.{ℕ}
-use lib.Ieee.{nan, binary64, of_bits, to_bits, is_nan, size, of_fields}
+use mathlib.Core.List.{[], ◌∷◌}
+use lib.Ieee.{nan, of_bits, to_bits, is_nan, size, of_fields}
 use Rattle.floats.specs.Binary64.{bits}
 use Rattle.words.specs.Words.{word32, word64, number_at, one_nan_at, le32, le64, le_number, put, put_of}
 

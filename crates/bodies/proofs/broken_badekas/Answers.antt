@@ -1,6 +1,6 @@
 -- One case for each way through the tests. Calls are replaced by what they ensure; the definition
 -- is left. Assumes nothing.
-use borrow.Author.Tests.{ne_eqb, not-true, not-false}
+use borrow.Author.Tests.{ne_eqb}
 use Rattle.bodies.specs.Kinds.{length_of}
 use Rattle.bodies.specs.Read.{step_of}
 use Rattle.bodies.specs.Rules.{step_in_rule, written_in_rule, body_in_rule, lacks_convention, lacks_epoch, lacks_duration, lowest_broken}

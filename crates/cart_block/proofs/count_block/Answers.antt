@@ -1,4 +1,3 @@
-use Prim.Native.Nat.{◌-◌}
 use mathlib.Core.Path.{ap, ◌∙◌}
 use mathlib.Core.Bool.{Bool, not, cond}
 use Rattle.blocks.proofs.Counts.{none_counted, one_counted, all_counted}

@@ -1,6 +1,5 @@
 use native.Mathlib.Omega.{arith}
 use mathlib.Core.Path.{sym, ap, ◌∙◌}
-use Prim.Native.Nat.{◌-◌}
 use native.Mathlib.Nat.{sub-zero}
 use Rattle.closure_report.specs.Report.{list_done, added_of}
 use Rattle.closure_report.proofs.Turns.{seen-on, seen_end}

@@ -1,5 +1,4 @@
 use borrow.Author.Rules.{rules}
-use Prim.Native.Nat.{◌-◌}
 use mathlib.Core.Path.{refl, ap}
 use Rattle.tuple.specs.declared.Tuple.{Tuple}
 use Rattle.blocks.proofs.Laws.{none_filled, one_more, all_filled}

@@ -1,7 +1,6 @@
 use native.Mathlib.Omega.{arith}
 use mathlib.Core.Path.{◌≡◌, refl, sym, ◌∙◌}
 use Prim.Native.Nat.{suc, ◌+◌, ◌-◌}
-use mathlib.Core.Bool.{true, false}
 use lib.Ieee.{of_bits, of_int, round, size}
 use Rattle.floats.specs.Number.{sign_of}
 use Rattle.decimal.specs.Places.{ten_to, digits_of, decimal_of}

@@ -1,4 +1,3 @@
-use Prim.Native.Nat.{◌-◌}
 use borrow.Author.Rules.{rules}
 use Rattle.blocks.proofs.Counts.{none_counted, one_counted, all_counted}
 use Rattle.deformation_block.proofs.count_block.Goals as goal

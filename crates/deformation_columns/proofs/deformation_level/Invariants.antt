@@ -34,11 +34,11 @@ invariant-loop-i l =
     × (length l.x ≡ length l.initial.x)
     × (l.i ≤ length l.x)
     × (l.n ≤ l.i)
-    × ((l : List Float) → Passed (later_turns l.first (moved_turns l.op l.inverse l.velocities l.marks)) 0 no_state l l.initial.i no_state (flat_of l.initial.x l.initial.y l.initial.z l.initial.t) l.initial.n
-    → Passed (later_turns l.first (moved_turns l.op l.inverse l.velocities l.marks)) 0 no_state l l.i no_state (flat_of l.x l.y l.z l.t) l.n)
+    × ((u : List Float) → Passed (later_turns l.first (moved_turns l.op l.inverse l.velocities l.marks)) 0 no_state u l.initial.i no_state (flat_of l.initial.x l.initial.y l.initial.z l.initial.t) l.initial.n
+    → Passed (later_turns l.first (moved_turns l.op l.inverse l.velocities l.marks)) 0 no_state u l.i no_state (flat_of l.x l.y l.z l.t) l.n)
     × (l.met ≤ l.i)
-    × ((l : List Float) → Passed (later_turns l.first (moved_met_turns l.op l.inverse l.velocities l.marks)) 0 no_state l l.initial.i no_state (flat_of l.initial.x l.initial.y l.initial.z l.initial.t) l.initial.met
-    → Passed (later_turns l.first (moved_met_turns l.op l.inverse l.velocities l.marks)) 0 no_state l l.i no_state (flat_of l.x l.y l.z l.t) l.met)
+    × ((u : List Float) → Passed (later_turns l.first (moved_met_turns l.op l.inverse l.velocities l.marks)) 0 no_state u l.initial.i no_state (flat_of l.initial.x l.initial.y l.initial.z l.initial.t) l.initial.met
+    → Passed (later_turns l.first (moved_met_turns l.op l.inverse l.velocities l.marks)) 0 no_state u l.i no_state (flat_of l.x l.y l.z l.t) l.met)
 
 abbrev pub decreases-loop-i : goal.decreases-loop-i
 decreases-loop-i l = length l.initial.x - l.i

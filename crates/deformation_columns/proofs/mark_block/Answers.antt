@@ -1,8 +1,6 @@
-use Prim.Native.Nat.{◌-◌}
 use borrow.Author.Rules.{rules}
 use mathlib.Core.Path.{refl}
 use Rattle.blocks.proofs.Laws.{none_filled, one_more, all_filled}
-use Rattle.turns.specs.Turns.{mark_at}
 use Rattle.deformation_columns.proofs.mark_block.Goals as goal
 
 pub loop-j-init : goal.loop-j-init

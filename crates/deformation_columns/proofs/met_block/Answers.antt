@@ -1,8 +1,5 @@
-use Prim.Native.Nat.{◌-◌}
 use borrow.Author.Rules.{rules}
-use Rattle.blocks.specs.Each.{at}
 use Rattle.blocks.proofs.Counts.{none_counted, one_counted, all_counted}
-use Rattle.reach.specs.Met.{place_out}
 use Rattle.deformation_columns.proofs.met_block.Goals as goal
 
 pub loop-i-init : goal.loop-i-init

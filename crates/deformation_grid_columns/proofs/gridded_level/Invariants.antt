@@ -29,8 +29,8 @@ invariant-loop-i l =
     × (length l.x ≡ length l.initial.x)
     × (l.i ≤ length l.x)
     × (l.n ≤ l.i)
-    × ((l : List Float) → Passed (plain_turns (gridded_in l.op l.inverse l.g l.rows l.columns)) 0 no_state l l.initial.i no_state (flat_of l.initial.x l.initial.y l.initial.z l.initial.t) l.initial.n
-    → Passed (plain_turns (gridded_in l.op l.inverse l.g l.rows l.columns)) 0 no_state l l.i no_state (flat_of l.x l.y l.z l.t) l.n)
+    × ((u : List Float) → Passed (plain_turns (gridded_in l.op l.inverse l.g l.rows l.columns)) 0 no_state u l.initial.i no_state (flat_of l.initial.x l.initial.y l.initial.z l.initial.t) l.initial.n
+    → Passed (plain_turns (gridded_in l.op l.inverse l.g l.rows l.columns)) 0 no_state u l.i no_state (flat_of l.x l.y l.z l.t) l.n)
 
 abbrev pub decreases-loop-i : goal.decreases-loop-i
 decreases-loop-i l = length l.initial.x - l.i

@@ -3,7 +3,6 @@
 -- (`highest_first`), so that one fewer is left (`going_on`). With none left the text has all k
 -- digits (`no_digits`, `going_ends`). Before the loop `put_bytes` writes nothing and only brings
 -- the place within the room (`then`). The measure is how many digits are left. Assumes nothing.
-use Prim.Native.Nat.{◌-◌}
 use Rattle.text.specs.Text.{text}
 use Rattle.text.specs.Digits.{digits_of}
 use Rattle.text.proofs.Laws.{Going}

@@ -1,4 +1,3 @@
-use Prim.Native.Nat.{◌-◌}
 use mathlib.Core.Path.{refl, ap}
 use Rattle.blocks.proofs.Laws.{none_filled, one_more, all_filled}
 use Rattle.geocart.specs.declared.Legs.{Legs}

@@ -1,6 +1,6 @@
 use Rattle.grid.specs.declared.Marked.{Marked}
 use Rattle.blocks.proofs.Laws.{none_filled, one_more, all_filled}
-use Rattle.std.proofs.Common.{◌-◌, refl, ap, rules}
+use Rattle.std.proofs.Common.{refl, ap, rules}
 use Rattle.grid.proofs.found_block.Goals as goal
 
 pub loop-j-init : goal.loop-j-init

@@ -1,5 +1,5 @@
 use Rattle.blocks.proofs.Laws.{none_filled, one_more, all_filled}
-use Rattle.std.proofs.Common.{◌-◌, refl, rules}
+use Rattle.std.proofs.Common.{refl, rules}
 use Rattle.grid.proofs.spacings_block.Goals as goal
 
 pub loop-j-init : goal.loop-j-init

@@ -1,6 +1,5 @@
 use Rattle.grid_rules.proofs.Patterns.{none_yet, none_there, all_asked, one_more_finite, eight_more_finite}
 use mathlib.Core.Path.{refl, ◌∙◌}
-use Prim.Native.Nat.{◌-◌}
 use borrow.Author.Rules.{rules}
 use Rattle.grid_rules.proofs.all_finite.Goals as goal
 

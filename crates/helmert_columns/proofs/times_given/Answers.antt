@@ -1,5 +1,4 @@
 use borrow.Author.Rules.{rules}
-use Prim.Native.Nat.{◌-◌}
 use Rattle.helmert_columns.proofs.Laws.{given_start, given_again, given_end}
 use Rattle.helmert_columns.proofs.times_given.Goals as goal
 

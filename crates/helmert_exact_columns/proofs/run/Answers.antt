@@ -1,7 +1,5 @@
-use Prim.Native.Nat.{◌-◌}
 use native.Mathlib.Omega.{arith}
 use mathlib.Core.Path.{refl, sym, ◌∙◌}
-use borrow.Author.Tests.{not-true, not-false}
 use Rattle.columns.proofs.Laws.{level_told, flat-uneven}
 use Rattle.columns.proofs.Passed.{passed_none, passed_on, passed_as}
 use Rattle.helmert_still_columns.proofs.Laws.{passed_through}

@@ -1,5 +1,4 @@
 use borrow.Author.Rules.{rules}
-use Prim.Native.Nat.{◌-◌}
 use mathlib.Core.Path.{◌≡◌, refl, ap, ◌∙◌}
 use Rattle.helmert_running_columns.specs.Lanes.{states_of}
 use Rattle.helmert_running_columns.proofs.Laws.{lanes_start, lanes-more, lanes_all, state-more, one_on}

@@ -1,7 +1,5 @@
 use borrow.Author.Rules.{rules}
-use Prim.Native.Nat.{◌-◌}
 use native.Mathlib.Omega.{arith}
-use mathlib.Core.Bool.{false}
 use Rattle.helmert_still_columns.proofs.Laws.{still-more}
 use Rattle.helmert_still_columns.proofs.run_end.Goals as goal
 

@@ -26,7 +26,7 @@ invariant-loop-i l =
     Level l.x l.y l.z l.t
     × (length l.x ≡ length l.initial.x)
     × (l.i ≤ length l.x)
-    × ((l : List Float) → Passed (all_turns (common_of l.op l.inverse)) 0 no_state l l.initial.i no_state (flat_of l.initial.x l.initial.y l.initial.z l.t) l.initial.i → Passed (all_turns (common_of l.op l.inverse)) 0 no_state l l.i no_state (flat_of l.x l.y l.z l.t) l.i)
+    × ((u : List Float) → Passed (all_turns (common_of l.op l.inverse)) 0 no_state u l.initial.i no_state (flat_of l.initial.x l.initial.y l.initial.z l.t) l.initial.i → Passed (all_turns (common_of l.op l.inverse)) 0 no_state u l.i no_state (flat_of l.x l.y l.z l.t) l.i)
 
 abbrev pub decreases-loop-i : goal.decreases-loop-i
 decreases-loop-i l = length l.initial.x - l.i

@@ -1,5 +1,4 @@
 use borrow.Author.Rules.{rules}
-use Prim.Native.Nat.{◌-◌}
 use mathlib.Core.Path.{refl}
 use Rattle.blocks.proofs.Laws.{none_filled, one_more, all_filled}
 use Rattle.permtide_columns.proofs.load_part.Goals as goal

@@ -24,7 +24,7 @@ abbrev pub invariant-loop-i-2 : goal.invariant-loop-i-2
 invariant-loop-i-2 l =
     Level l.x l.y l.z l.t
     × (l.i ≤ length l.x)
-    × ((l : List Float) → Passed (all_turns (shifted_of l.op l.inverse)) 0 no_state l l.initial.i no_state (flat_of l.x l.y l.initial.z l.t) l.initial.i → Passed (all_turns (shifted_of l.op l.inverse)) 0 no_state l l.i no_state (flat_of l.x l.y l.z l.t) l.i)
+    × ((u : List Float) → Passed (all_turns (shifted_of l.op l.inverse)) 0 no_state u l.initial.i no_state (flat_of l.x l.y l.initial.z l.t) l.initial.i → Passed (all_turns (shifted_of l.op l.inverse)) 0 no_state u l.i no_state (flat_of l.x l.y l.z l.t) l.i)
 
 abbrev pub decreases-loop-i-2 : goal.decreases-loop-i-2
 decreases-loop-i-2 l = length l.x - l.i

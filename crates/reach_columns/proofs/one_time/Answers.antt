@@ -1,5 +1,4 @@
 use borrow.Author.Rules.{rules}
-use Prim.Native.Nat.{◌-◌}
 use native.Mathlib.Omega.{arith}
 use Rattle.reach_columns.proofs.Times.{still_start, still-again, still_end}
 use Rattle.reach_columns.proofs.one_time.Goals as goal

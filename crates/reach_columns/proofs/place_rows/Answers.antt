@@ -1,5 +1,4 @@
 use borrow.Author.Rules.{rules}
-use Prim.Native.Nat.{◌-◌}
 use native.Mathlib.Omega.{arith}
 use Rattle.reach.specs.Met.{place_met}
 use Rattle.reach_columns.proofs.Along.{along_start, asked_again, asked_end}

@@ -1,7 +1,5 @@
 use borrow.Author.Rules.{rules}
-use Prim.Native.Nat.{◌-◌}
 use native.Mathlib.Omega.{arith}
-use mathlib.Core.Bool.{true}
 use Rattle.reach_columns.proofs.Times.{apart-start, apart-again, apart-end}
 use Rattle.reach_columns.proofs.running_apart.Goals as goal
 

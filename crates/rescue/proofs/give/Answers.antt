@@ -87,6 +87,6 @@ returns c =
     let fits : refusal15 s (length room) (length list) ≡ false = ap (λ (c : ℕ). ltb (length room) (length s) || ltb (length list) (3 * c)) (sym same) ∙ c.if-room-s.false in
     let read : c.check-refusal.result ≡ refusal_of (rebuilt_of s) = c.check-refusal.ensures ∙ ap refusal_of c.requires.1 in
     let number : (refusal_of (rebuilt_of s)).number ≡ 0 = ap (λ (x : Refusal). x.number) (sym read) ∙ c.if-refusal-ne0.false in
-    let sheet : c.copy.new.0 ≡ put room 0 (rebuilt_of s) = c.copy.ensures ∙ ap (put room 0) c.requires.1 in
-    let changes : c.list_changes.new.0 ≡ put list 0 (list_of (changes_of s)) = c.list_changes.ensures ∙ ap (λ l. put list 0 (list_of l)) all in
+    let sheet : c.copy.new.room ≡ put room 0 (rebuilt_of s) = c.copy.ensures ∙ ap (put room 0) c.requires.1 in
+    let changes : c.list_changes.new.list ≡ put list 0 (list_of (changes_of s)) = c.list_changes.ensures ∙ ap (λ l. put list 0 (list_of l)) all in
     rw (sheet, changes, read, same) (sym (gives-sheet s room list c.requires.0 fits number))

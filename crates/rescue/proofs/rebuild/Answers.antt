@@ -47,11 +47,11 @@ returns c =
     let n = c.wide-n.result in
     let rest : take (length s - (16 + 16 * n)) (drop (16 + 16 * n) s) ≡ drop (16 + 16 * n) s =
     take_all (length s - (16 + 16 * n)) (drop (16 + 16 * n) s) (simp length-drop (omega arith)) in
-    let put1 : c.put_words.new.0 ≡ put a.r.now 0 (header_bytes s) = rw (← word) c.put_words.ensures in
-    let put2 : c.put_directory.new.0 ≡ put c.put_words.new.0 16 (directory_bytes s (count_word s)) =
-    c.put_directory.ensures ∙ ap (λ (k : ℕ). put c.put_words.new.0 16 (directory_bytes s k)) count in
-    let put3 : c.copy.new.0 ≡ put c.put_directory.new.0 (head_length s) (drop (head_length s) s) =
-    c.copy.ensures ∙ ap (put c.put_directory.new.0 (16 + 16 * n)) rest ∙ ap (λ (k : ℕ). put c.put_directory.new.0 (16 + 16 * k) (drop (16 + 16 * k) s)) count in
+    let put1 : c.put_words.new.r ≡ put a.r.now 0 (header_bytes s) = rw (← word) c.put_words.ensures in
+    let put2 : c.put_directory.new.r ≡ put c.put_words.new.r 16 (directory_bytes s (count_word s)) =
+    c.put_directory.ensures ∙ ap (λ (k : ℕ). put c.put_words.new.r 16 (directory_bytes s k)) count in
+    let put3 : c.copy.new.room ≡ put c.put_directory.new.r (head_length s) (drop (head_length s) s) =
+    c.copy.ensures ∙ ap (put c.put_directory.new.r (16 + 16 * n)) rest ∙ ap (λ (k : ℕ). put c.put_directory.new.r (16 + 16 * k) (drop (16 + 16 * k) s)) count in
     put3
     ∙ ap (λ (l : List ℕ). put l (head_length s) (drop (head_length s) s))
     (put2 ∙ ap (λ (l : List ℕ). put l 16 (directory_bytes s (count_word s))) put1)

@@ -36,7 +36,7 @@ slice_bounds-rebuilt-end c =
     let room : List ℕ = replicate 4240 0 in
     let long : length (rebuilt_of a.s.now) ≡ length a.s.now = rebuilt-length a.s.now ok.inside in
     let fits : 0 + length (rebuilt_of a.s.now) ≤ length room = rw length-replicate (omega (arith, long, ok.at-most-long)) in
-    let wide : length c.rebuild.new.0 ≡ 4240 = ap length c.rebuild.ensures ∙ length-put room 0 (rebuilt_of a.s.now) fits ∙ length-replicate {A = ℕ} 4240 0 in
+    let wide : length c.rebuild.new.r ≡ 4240 = ap length c.rebuild.ensures ∙ length-put room 0 (rebuilt_of a.s.now) fits ∙ length-replicate {A = ℕ} 4240 0 in
     rw wide ok.at-most-long
 
 pub slice_bounds-give-end : goal.slice_bounds-give-end
@@ -47,7 +47,7 @@ slice_bounds-give-end c =
     let room : List ℕ = replicate 4240 0 in
     let long : length (rebuilt_of a.s.now) ≡ length a.s.now = rebuilt-length a.s.now ok.inside in
     let fits : 0 + length (rebuilt_of a.s.now) ≤ length room = rw length-replicate (omega (arith, long, ok.at-most-long)) in
-    let wide : length c.rebuild.new.0 ≡ 4240 = ap length c.rebuild.ensures ∙ length-put room 0 (rebuilt_of a.s.now) fits ∙ length-replicate {A = ℕ} 4240 0 in
+    let wide : length c.rebuild.new.r ≡ 4240 = ap length c.rebuild.ensures ∙ length-put room 0 (rebuilt_of a.s.now) fits ∙ length-replicate {A = ℕ} 4240 0 in
     sym (length-take-le _ _ (rw wide ok.at-most-long))
 
 pub give-requires : goal.give-requires
@@ -58,5 +58,5 @@ give-requires c =
     let room : List ℕ = replicate 4240 0 in
     let long : length (rebuilt_of a.s.now) ≡ length a.s.now = rebuilt-length a.s.now ok.inside in
     let fits : 0 + length (rebuilt_of a.s.now) ≤ length room = rw length-replicate (omega (arith, long, ok.at-most-long)) in
-    let wide : length c.rebuild.new.0 ≡ 4240 = ap length c.rebuild.ensures ∙ length-put room 0 (rebuilt_of a.s.now) fits ∙ length-replicate {A = ℕ} 4240 0 in
+    let wide : length c.rebuild.new.r ≡ 4240 = ap length c.rebuild.ensures ∙ length-put room 0 (rebuilt_of a.s.now) fits ∙ length-replicate {A = ℕ} 4240 0 in
     (kept, ap (take (length a.s.now)) c.rebuild.ensures ∙ put_stands room (rebuilt_of a.s.now) (length a.s.now) long)

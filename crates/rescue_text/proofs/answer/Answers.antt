@@ -76,14 +76,14 @@ returns c =
     let refusal : c.rescue-rescued.result.refusal ≡ rescue_refusal_of s (length sheet) (length list) = ap (λ (o : RescueOutcome). o.answer.refusal) e ∙ answered s sheet list in
     let number : (rescue_refusal_of s (length sheet) (length list)).number ≡ 0 = ap (λ (x : Refusal). x.number) (sym refusal) ∙ c.if-refusal-ne0.false in
     let counted : c.rescue-rescued.result.changed ≡ length (changes_of s) = ap (λ (o : RescueOutcome). o.answer.changed) e ∙ changes-counted s sheet list number in
-    let stands : take (length s) c.rescue-rescued.new.1.0 ≡ rebuilt_of s = ap (λ (o : RescueOutcome). take (length s) o.room) e ∙ sheet-stands s sheet list number in
-    let changes : take (3 * length (changes_of s)) c.rescue-rescued.new.1.1.0 ≡ list_of (changes_of s) =
+    let stands : take (length s) c.rescue-rescued.new.room ≡ rebuilt_of s = ap (λ (o : RescueOutcome). take (length s) o.room) e ∙ sheet-stands s sheet list number in
+    let changes : take (3 * length (changes_of s)) c.rescue-rescued.new.list ≡ list_of (changes_of s) =
     ap (λ (o : RescueOutcome). take (3 * length (changes_of s)) o.list) e ∙ changes-stand s sheet list number in
-    let lines : lines_from c.rescue-rescued.new.1.1.0 c.rescue-rescued.result.changed 0 ≡ change_lines (changes_of s) =
-    ap (λ (k : ℕ). lines_from c.rescue-rescued.new.1.1.0 k 0) counted ∙ lines_are c.rescue-rescued.new.1.1.0 (changes_of s) changes in
+    let lines : lines_from c.rescue-rescued.new.list c.rescue-rescued.result.changed 0 ≡ change_lines (changes_of s) =
+    ap (λ (k : ℕ). lines_from c.rescue-rescued.new.list k 0) counted ∙ lines_are c.rescue-rescued.new.list (changes_of s) changes in
     rw (eq-eqb (rescue_refusal_of s (length sheet) (length list)).number 0 number)
     (c.put_rescued.ensures
     ∙ ap (appended (text a.room.now 0))
-    (ap (λ (l : List ℕ). rescued_around c.rescue-rescued.result.changed l (take (length s) c.rescue-rescued.new.1.0)) lines
-    ∙ ap (λ (k : ℕ). rescued_around k (change_lines (changes_of s)) (take (length s) c.rescue-rescued.new.1.0)) counted
+    (ap (λ (l : List ℕ). rescued_around c.rescue-rescued.result.changed l (take (length s) c.rescue-rescued.new.room)) lines
+    ∙ ap (λ (k : ℕ). rescued_around k (change_lines (changes_of s)) (take (length s) c.rescue-rescued.new.room)) counted
     ∙ ap (rescued_around (length (changes_of s)) (change_lines (changes_of s))) stands))

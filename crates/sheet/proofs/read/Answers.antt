@@ -12,7 +12,7 @@ record-sheet-requires c = let s = c.args.s.now in
 
 pub returns-then-refusal-eq0 : goal.returns-then-refusal-eq0
 unfolding reading_of
-returns-then-refusal-eq0 c = rw (c.«record».ensures, ← c.check-refusal.ensures, eq-eqb _ _ c.if-refusal-eq0.true)
+returns-then-refusal-eq0 c = rw (c.record-sheet.ensures, ← c.check-refusal.ensures, eq-eqb _ _ c.if-refusal-eq0.true)
 
 pub returns : goal.returns
 unfolding reading_of

@@ -1,6 +1,5 @@
 use native.Mathlib.Omega.{arith}
 use mathlib.Core.Path.{◌≡◌, sym}
-use Prim.Native.Nat.{◌-◌}
 use Rattle.sheet.specs.Layout.{entries_from, record_of}
 use Rattle.sheet.proofs.Entries.{filled_next, filled_all}
 use Rattle.sheet.proofs.record.Goals as goal

@@ -1,9 +1,7 @@
-use Prim.Native.Nat.{◌-◌}
 use native.Mathlib.Omega.{arith}
 use mathlib.Core.Path.{refl, ◌∙◌}
 use lib.ListN.{length-set}
 use Rattle.plans.proofs.Arrays.{at_most_sixteen_lem, ready_first, ready-again}
-use Rattle.sheet_plans.specs.Sheets.{plan_at}
 use Rattle.sheet_plans.proofs.plans_of.Goals as goal
 
 pub loop-i-init : goal.loop-i-init

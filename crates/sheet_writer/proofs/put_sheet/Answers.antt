@@ -20,11 +20,11 @@ pub returns : goal.returns
 unfolding header_bytes
 returns c =
     let a = c.args in
-    let put1 : c.put_words.new.0 ≡ put a.room.now 0 (header_bytes a.sheet) = rw (← c.sheet_length-total.ensures.0) c.put_words.ensures in
-    let put2 : c.put_directory.new.0 ≡ put c.put_words.new.0 16 (directory_bytes a.sheet a.sheet.count) =
-    c.put_directory.ensures ∙ ap (λ (k : ℕ). put c.put_words.new.0 16 (directory_bytes a.sheet k)) c.wide-n.ensures.0 in
-    let put3 : c.put_bodies.new.0 ≡ put c.put_directory.new.0 (16 + 16 * a.sheet.count) (bodies_bytes a.sheet a.sheet.count) =
-    c.put_bodies.ensures ∙ ap (λ (k : ℕ). put c.put_directory.new.0 (16 + 16 * k) (bodies_bytes a.sheet k)) c.wide-n.ensures.0 in
+    let put1 : c.put_words.new.room ≡ put a.room.now 0 (header_bytes a.sheet) = rw (← c.sheet_length-total.ensures.0) c.put_words.ensures in
+    let put2 : c.put_directory.new.room ≡ put c.put_words.new.room 16 (directory_bytes a.sheet a.sheet.count) =
+    c.put_directory.ensures ∙ ap (λ (k : ℕ). put c.put_words.new.room 16 (directory_bytes a.sheet k)) c.wide-n.ensures.0 in
+    let put3 : c.put_bodies.new.room ≡ put c.put_directory.new.room (16 + 16 * a.sheet.count) (bodies_bytes a.sheet a.sheet.count) =
+    c.put_bodies.ensures ∙ ap (λ (k : ℕ). put c.put_directory.new.room (16 + 16 * k) (bodies_bytes a.sheet k)) c.wide-n.ensures.0 in
     put3
     ∙ ap (λ (l : List ℕ). put l (16 + 16 * a.sheet.count) (bodies_bytes a.sheet a.sheet.count))
     (put2 ∙ ap (λ (l : List ℕ). put l 16 (directory_bytes a.sheet a.sheet.count)) put1)

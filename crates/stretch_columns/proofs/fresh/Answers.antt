@@ -25,9 +25,9 @@ returns-then-level c =
     let beside = rows-beside old.list old.results 0 (length a.x.now) level.0 level.1 level.3 (omega arith) (omega arith) in
     let rows = of_rows_test (length a.t.now) a.kx.now a.ky.now a.kz.now a.kt.now level.2 (level.4 ∙ sym level.0.2) in
     let made = fresh-columns a.shift a.inverse a.x.now a.y.now a.z.now a.t.now level.0 (flat_of a.rx.now a.ry.now a.rz.now a.rt.now) (long ∙ ap (λ (n : ℕ). 4 * n) level.3) (rw start at (c.shift_between.ensures.0 beside)) (rw start at (c.track_all.ensures.0 rows).0) in
-    let r = c.shift_between.new.1.1.1.1.1.1.1 in
-    let k = c.track_all.new.1.1.1 in
-    fresh_kept a.shift a.inverse old r.0 r.1.0 r.1.1.0 r.1.1.1.0 k.0 k.1.0 k.1.1.0 k.1.1.1.0 told
+    let r = c.shift_between.new in
+    let k = c.track_all.new in
+    fresh_kept a.shift a.inverse old r.rx r.ry r.rz r.rt k.kx k.ky k.kz k.kt told
     (omega (arith, level.1.0), omega (arith, level.1.1), omega (arith, level.1.2))
     (omega (arith, level.2.0), omega (arith, level.2.1), omega (arith, level.2.2))
     made

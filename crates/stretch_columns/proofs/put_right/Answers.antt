@@ -32,19 +32,19 @@ returns-then-level-index c =
     let told : all_level_of old && ltb a.index (length a.x.now) ≡ true = rw c.all_level-level.ensures at c.if-level-index.true in
     let level = (fix-there old a.index told).0 in
     let w = c.write_row.new in
-    let list : Level w.0 w.1.0 w.1.1.0 w.1.1.1.0 = (omega (arith, level.0.0), omega (arith, level.0.1), omega (arith, level.0.2)) in
+    let list : Level w.x w.y w.z w.t = (omega (arith, level.0.0), omega (arith, level.0.1), omega (arith, level.0.2)) in
     let results = flat_of a.rx.now a.ry.now a.rz.now a.rt.now in
     let track = flat_of a.kx.now a.ky.now a.kz.now a.kt.now in
     let again = c.track_stretch-stretch.ensures in
     let n = c.track_stretch-stretch.result.count in
-    let beside = rows-beside (columns w.0 w.1.0 w.1.1.0 w.1.1.1.0) old.results a.index (a.index + n) list level.1 (omega (arith, level.3)) (omega arith) (omega (arith, again.2, list.2)) in
-    let r = c.shift_between.new.1.1.1.1.1.1.1 in
-    let k = c.track_stretch-stretch.new.1.1 in
-    right-put a.shift a.inverse old a.index a.fix w.0 w.1.0 w.1.1.0 w.1.1.1.0 r.0 r.1.0 r.1.1.0 r.1.1.1.0 k.0 k.1.0 k.1.1.0 k.1.1.1.0 told
+    let beside = rows-beside (columns w.x w.y w.z w.t) old.results a.index (a.index + n) list level.1 (omega (arith, level.3)) (omega arith) (omega (arith, again.2, list.2)) in
+    let r = c.shift_between.new in
+    let k = c.track_stretch-stretch.new in
+    right-put a.shift a.inverse old a.index a.fix w.x w.y w.z w.t r.rx r.ry r.rz r.rt k.kx k.ky k.kz k.kt told
     list
     (omega (arith, level.1.0), omega (arith, level.1.1), omega (arith, level.1.2))
     (omega (arith, level.2.0), omega (arith, level.2.1), omega (arith, level.2.2))
-    (redo-columns a.shift a.inverse w.0 w.1.0 w.1.1.0 w.1.1.1.0 list (before_of a.shift track a.index) results track a.index again.0 again.1 again.2 (rw again.3 at (c.shift_between.ensures.0 beside)) ∙ rw c.write_row.ensures)
+    (redo-columns a.shift a.inverse w.x w.y w.z w.t list (before_of a.shift track a.index) results track a.index again.0 again.1 again.2 (rw again.3 at (c.shift_between.ensures.0 beside)) ∙ rw c.write_row.ensures)
 
 pub returns : goal.returns
 unfolding all_level_of

@@ -6,5 +6,5 @@ use Rattle.stretch_flat.proofs.redo.Goals as goal
 pub returns : goal.returns
 returns c =
     let a = c.args in
-    redo_flat a.shift a.inverse a.from a.list.now a.results.now a.track.now a.index c.shift_list.new.1.1.1.1.0 c.retrack_list-n.new.1.1.1.0
+    redo_flat a.shift a.inverse a.from a.list.now a.results.now a.track.now a.index c.shift_list.new.results c.retrack_list-n.new.track
     c.retrack_list-n.ensures c.shift_list.ensures refl refl c.requires.0 c.requires.3 c.requires.1

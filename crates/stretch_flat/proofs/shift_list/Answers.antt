@@ -1,6 +1,6 @@
 use native.Mathlib.Omega.{arith}
-use Prim.Native.Nat.{◌+◌, ◌*◌, ◌-◌, ◌≤◌}
-use mathlib.Core.Path.{refl, sym, ◌∙◌}
+use Prim.Native.Nat.{◌+◌, ◌*◌, ◌≤◌}
+use mathlib.Core.Path.{refl}
 use lib.ListN.{length}
 use Rattle.stretch_flat.proofs.Shifting.{shifting_start, shifting-on, shifting-end}
 use Rattle.stretch_flat.proofs.shift_list.Goals as goal
@@ -18,7 +18,7 @@ loop-i-preserved c =
     let w = c.window-w.result in
     let made = c.shift_part-state.ensures in
     let fits : 4 * (l.i + w) ≤ length c.args.list.now = omega (arith, l.invariant.0, c.window-w.ensures.1, c.loop-i-test.true) in
-    (l.invariant.0, shifting-on l.invariant.1 w c.shift_part-state.new.1.1.1.1.0 fits (omega arith) made.0 made.1 refl c.in-loop-i.is)
+    (l.invariant.0, shifting-on l.invariant.1 w c.shift_part-state.new.results fits (omega arith) made.0 made.1 refl (omega arith))
 
 pub returns : goal.returns
 returns c = let l = c.loop-i in shifting-end l.invariant.1 (omega (arith, l.invariant.0, c.loop-i-test.false))

@@ -10,8 +10,8 @@ returns c =
     let into = in_columns a.list.now a.x.now a.y.now a.z.now a.t.now c.requires.0 c.requires.1 c.to_columns.ensures in
     let ran = rw into at c.run_helmert-went.ensures in
     let went = c.run_helmert-went.new in
-    let times = c.to_columns.new.1.1.1.1.0 in (
-      in_flat a.results.now went.0 went.1.0 went.1.1.0 times (omega (arith, c.requires.0.0), omega (arith, c.requires.0.1), omega (arith, c.requires.0.2)) (omega (arith, c.requires.1, c.requires.2)) c.to_flat.ensures
+    let times = c.to_columns.new.t in (
+      in_flat a.results.now went.x went.y went.z times (omega (arith, c.requires.0.0), omega (arith, c.requires.0.1), omega (arith, c.requires.0.2)) (omega (arith, c.requires.1, c.requires.2)) c.to_flat.ensures
           ∙ ran.0,
       ran.1,
     )

@@ -1,6 +1,6 @@
 use native.Mathlib.Omega.{arith}
-use Prim.Native.Nat.{◌+◌, ◌*◌, ◌-◌, ◌≤◌}
-use mathlib.Core.Path.{refl, sym, ap, ◌∙◌}
+use Prim.Native.Nat.{◌+◌, ◌*◌, ◌≤◌}
+use mathlib.Core.Path.{refl, ap}
 use lib.ListN.{length}
 use Rattle.tuple.specs.declared.Tuple.{Tuple}
 use Rattle.stretch.specs.Track.{Retracked}
@@ -24,7 +24,7 @@ overflow_add-i c =
     let w = c.window-w.result in
     let list = c.args.list.now in
     let made = c.retrack_part-again.ensures in
-    let p = c.retrack_part-again.new.1.1.1.0 in
+    let p = c.retrack_part-again.new.track in
     let fits : 4 * (l.i + w) ≤ length list = omega (arith, l.invariant.0, c.window-w.ensures.1, c.loop-i-test.true) in
     let few = window-few list l.invariant.2 w fits p made refl in
     omega (arith, few, l.invariant.0, c.window-w.ensures.1, c.loop-i-test.true, c)
@@ -35,7 +35,7 @@ returns-then-met c =
     let w = c.window-w.result in
     let list = c.args.list.now in
     let made = c.retrack_part-again.ensures in
-    let p = c.retrack_part-again.new.1.1.1.0 in
+    let p = c.retrack_part-again.new.track in
     let fits : 4 * (l.i + w) ≤ length list = omega (arith, l.invariant.0, c.window-w.ensures.1, c.loop-i-test.true) in
     let few = window-few list l.invariant.2 w fits p made refl in
     let done = retracking-window-met list l.invariant.2 w fits p made refl c.if-met.true in
@@ -47,7 +47,7 @@ loop-i-smaller c =
     let w = c.window-w.result in
     let list = c.args.list.now in
     let made = c.retrack_part-again.ensures in
-    let p = c.retrack_part-again.new.1.1.1.0 in
+    let p = c.retrack_part-again.new.track in
     let fits : 4 * (l.i + w) ≤ length list = omega (arith, l.invariant.0, c.window-w.ensures.1, c.loop-i-test.true) in
     let all = window-all list l.invariant.2 w fits p made refl c.if-met.false in
     omega (arith, all, c.window-w.ensures.0, c.window-w.ensures.1, c.loop-i-test.true)
@@ -58,9 +58,9 @@ loop-i-preserved c =
     let w = c.window-w.result in
     let list = c.args.list.now in
     let made = c.retrack_part-again.ensures in
-    let p = c.retrack_part-again.new.1.1.1.0 in
+    let p = c.retrack_part-again.new.track in
     let fits : 4 * (l.i + w) ≤ length list = omega (arith, l.invariant.0, c.window-w.ensures.1, c.loop-i-test.true) in
-    (l.invariant.0, c.in-loop-i.is ∙ l.invariant.1, retracking-window list l.invariant.2 w fits p made refl c.if-met.false)
+    (l.invariant.0, omega arith, retracking-window list l.invariant.2 w fits p made refl c.if-met.false)
 
 pub returns : goal.returns
 returns c =

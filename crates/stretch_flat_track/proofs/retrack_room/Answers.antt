@@ -1,7 +1,6 @@
 -- The times and the track are the list's, and the columns' track is written anew. Assumes nothing.
 use native.Mathlib.Omega.{arith}
 use lib.ListN.{length}
-use mathlib.Core.Path.{◌∙◌}
 use Rattle.columns.proofs.Laws.{in_columns}
 use Rattle.stretch.proofs.Fits.{of_rows_test}
 use Rattle.stretch_flat_track.proofs.retrack_room.Goals as goal
@@ -10,5 +9,5 @@ pub returns : goal.returns
 returns c =
     let a = c.args in
     let into = in_columns a.track.now a.kx.now a.ky.now a.kz.now a.kt.now c.requires.0 (omega (arith, c.requires.1, c.requires.2, c.requires.3)) c.to_columns.ensures in
-    let last = c.to_columns.new.1 in
-    rw (into, c.times.ensures) at (c.track_again.ensures.0 (of_rows_test (length c.times.new.1.0) last.0 last.1.0 last.1.1.0 last.1.1.1.0 (omega (arith, c.requires.0.0), omega (arith, c.requires.0.1), omega (arith, c.requires.0.2)) (omega (arith, c.requires.1))))
+    let last = c.to_columns.new in
+    rw (into, c.times.ensures) at (c.track_again.ensures.0 (of_rows_test (length c.times.new.t) last.x last.y last.z last.t (omega (arith, c.requires.0.0), omega (arith, c.requires.0.1), omega (arith, c.requires.0.2)) (omega (arith, c.requires.1))))

@@ -1,6 +1,6 @@
 use native.Mathlib.Omega.{arith}
-use Prim.Native.Nat.{◌+◌, ◌*◌, ◌-◌, ◌≤◌}
-use mathlib.Core.Path.{refl, sym, ◌∙◌}
+use Prim.Native.Nat.{◌+◌, ◌*◌, ◌≤◌}
+use mathlib.Core.Path.{refl}
 use lib.ListN.{length}
 use Rattle.tuple.specs.declared.Tuple.{Tuple}
 use Rattle.stretch.proofs.Track.{tracking_start, tracking-list}
@@ -22,7 +22,7 @@ loop-i-preserved c =
     let w = c.window-w.result in
     let made = c.track_part-state.ensures in
     let fits : 4 * (l.i + w) ≤ length c.args.list.now = omega (arith, l.invariant.0, c.window-w.ensures.1, c.loop-i-test.true) in
-    (l.invariant.0, c.in-loop-i.is ∙ l.invariant.1, tracking-window c.args.list.now l.invariant.2 w c.track_part-state.new.1.1.1.0 fits (omega arith) made.0 made.1 refl c.in-loop-i.is)
+    (l.invariant.0, omega arith, tracking-window c.args.list.now l.invariant.2 w c.track_part-state.new.track fits (omega arith) made.0 made.1 refl (omega arith))
 
 pub returns : goal.returns
 returns c =

@@ -12,17 +12,11 @@ pub offset_bounds-rt-start : goal.offset_bounds-rt-start
 offset_bounds-rt-start c = record { fits = omega (arith, c) }
 
 pub shift_rows-requires : goal.shift_rows-requires
-shift_rows-requires c =
-    let one = sym c.shift_rows-arg-1.given.2 in
-    let five = sym c.shift_rows-arg-5-1.given.2 in (
-      (c.shift_rows-arg-2-1.given.2 ∙ one, c.shift_rows-arg-3-1.given.2 ∙ one, c.shift_rows-arg-4-1.given.2 ∙ one),
-      (c.shift_rows-arg-6-1.given.2 ∙ five, c.shift_rows-arg-7-1.given.2 ∙ five, c.shift_rows-arg-8-1.given.2 ∙ five),
-      c.shift_rows-arg-5-1.given.2 ∙ one,
-    )
+shift_rows-requires c = ((omega arith, omega arith, omega arith), (omega arith, omega arith, omega arith), omega arith)
 
 pub returns : goal.returns
 returns c =
     let a = c.args in
-    let last = c.shift_rows.new.1.1.1.1.1.1.1 in
-    flat-between a.rx.now a.ry.now a.rz.now a.rt.now c.requires.1 a.start a.end c.requires.3 (omega (arith, c.requires.4, c.requires.2)) last.0 last.1.0 last.1.1.0 last.1.1.1.0 (omega arith) (omega arith) (omega arith) (omega arith)
+    let last = c.shift_rows.new in
+    flat-between a.rx.now a.ry.now a.rz.now a.rt.now c.requires.1 a.start a.end c.requires.3 (omega (arith, c.requires.4, c.requires.2)) last.rx last.ry last.rz last.rt (omega arith) (omega arith) (omega arith) (omega arith)
     (c.shift_rows.ensures ∙ ap (ran_of (helmert_turns a.inverse a.shift) 0 a.from) (flat_mid a.x.now a.y.now a.z.now a.t.now c.requires.0 a.start (a.end - a.start)))

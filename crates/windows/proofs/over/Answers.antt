@@ -56,10 +56,10 @@ loop-i-preserved c =
     let fits = fits-list l.i m l.invariant.0 l.invariant.6.long r.0 more in
     let k = part-taken l.list l.i m in (
       omega (arith, l.invariant.0, r.0, more),
-      room_back l.x w.1.1.1.1.1.1.0 m l.invariant.1 (omega arith),
-      room_back l.y w.1.1.1.1.1.1.1.0 m l.invariant.2 (omega arith),
-      room_back l.z w.1.1.1.1.1.1.1.1.0 m l.invariant.3 (omega arith),
-      room_back l.t w.1.1.1.1.1.1.1.1.1.0 m l.invariant.4 (omega arith),
+      room_back l.x w.x m l.invariant.1 (omega arith),
+      room_back l.y w.y m l.invariant.2 (omega arith),
+      room_back l.z w.z m l.invariant.3 (omega arith),
+      room_back l.t w.t m l.invariant.4 (omega arith),
       l.invariant.5,
       going-again m (passes_few _ _ l.invariant.5) fits (part-put l.list l.i m _) (rw k at e.0) (rw k at e.1) l.invariant.6,
       l.invariant.7,

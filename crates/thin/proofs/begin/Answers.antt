@@ -1,0 +1,5 @@
+-- Calls are replaced by what they ensure; the definition is left. Assumes nothing.
+use Rattle.thin.proofs.begin.Goals as goal
+
+pub returns : goal.returns
+returns c = rw (c.none-tally.ensures, c.start_of-state.ensures)

@@ -1,0 +1,56 @@
+use native.Mathlib.Omega.{arith}
+use mathlib.Core.Path.{◌≡◌}
+use Prim.Native.Nat.{◌<◌, ◌≤◌}
+use Rattle.thin.specs.Sheets.{step_index_of}
+use Rattle.thin.proofs.Laws.{place_below, todo_place, going_few, going_start, going-again, going_end}
+use Rattle.thin.proofs.shift.Goals as goal
+
+pub loop-i-init : goal.loop-i-init
+loop-i-init c =
+    let a = c.args in
+    let few = going_few a.s.now a.velocities.now a.marks.now a.list.now _ _ c.refusal_of-refusal.ensures c.steps_of-n.ensures in
+    going_start a.inverse a.s.now a.velocities.now a.marks.now a.list.now _ _ few _ c.answer_of-answer.ensures
+
+-- a step's place is below the number of steps, of which there are at most sixteen
+pub noted-answer-requires : goal.noted-answer-requires
+noted-answer-requires c =
+    let a = c.args in
+    let few = going_few a.s.now a.velocities.now a.marks.now a.list.now _ _ c.refusal_of-refusal.ensures c.steps_of-n.ensures in
+    let below = place_below a.inverse c.steps_of-n.result c.loop-i.i c.loop-i-test.true in
+    let place = todo_place a.inverse a.s.now c.steps_of-n.result c.loop-i.i _ c.next_step-e.ensures in
+    omega (arith, few, below, place)
+
+pub loop-i-preserved : goal.loop-i-preserved
+loop-i-preserved c =
+    let a = c.args in
+    let few = going_few a.s.now a.velocities.now a.marks.now a.list.now _ _ c.refusal_of-refusal.ensures c.steps_of-n.ensures in
+    going-again
+    a.inverse
+    a.s.now
+    a.velocities.now
+    a.marks.now
+    a.list.now
+    _
+    _
+    few
+    c.loop-i.i
+    c.loop-i.list
+    c.run_step-tally.new.list
+    c.loop-i.answer
+    _
+    _
+    _
+    c.loop-i-test.true
+    c.next_step-e.ensures
+    (omega arith)
+    c.run_step-tally.ensures
+    c.noted-answer.ensures
+    c.loop-i.invariant
+
+pub shape_of-list : goal.shape_of-list
+shape_of-list c = c.loop-i.invariant.long
+
+pub returns : goal.returns
+returns c =
+    let a = c.args in
+    going_end a.inverse a.s.now a.velocities.now a.marks.now a.list.now _ _ c.refusal_of-refusal.ensures c.steps_of-n.ensures c.loop-i.i c.loop-i.list c.loop-i.answer c.loop-i-test.false c.loop-i.invariant
