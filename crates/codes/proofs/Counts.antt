@@ -19,5 +19,6 @@ narrow_length (n ∷ counts) = ap suc (narrow_length counts)
 
 pub narrow_at : (counts : List ℕ) (i : ℕ) → i < length counts → get_or (narrow_of counts) i 0 ≡ get_or counts i 0 % 4294967296
 unfolding narrow_of
+narrow_at [] i inside = elim inside [ ]
 narrow_at (n ∷ counts) zero inside = refl
 narrow_at (n ∷ counts) (suc i) inside = narrow_at counts i (omega arith)

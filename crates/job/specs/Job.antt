@@ -1,6 +1,6 @@
 -- Document 01's job, from its bytes: four words; sheet; tuples; velocities; marks, a byte each;
 -- then the end.
-use Rattle.std.specs.Prelude.{ℕ, zero, suc, ◌+◌, ◌*◌, Bool, not, ◌||◌, List, [], ◌∷◌, eqb, ltb, length, take, drop, Float}
+use Rattle.std.specs.Prelude.{ℕ, zero, suc, ◌+◌, ◌*◌, Bool, not, ◌||◌, List, [], ◌∷◌, eqb, ltb, take, drop, Float}
 use Rattle.words.specs.Words.{word32, number_at}
 use Rattle.job.specs.declared.Head.{Head}
 

@@ -106,11 +106,11 @@ begins_more sheet tidy few inverted step =
     }
 
 module _ (a b : Sheet) (begin : Begins a b) where
-  step_in : (i : ℕ) → i < a.count → step_in b i ≡ step_in a i
-  step_in i h = ap (λ (x : Entry). x.step) (begin.same i h)
+  step_in_lem : (i : ℕ) → i < a.count → step_in b i ≡ step_in a i
+  step_in_lem i h = ap (λ (x : Entry). x.step) (begin.same i h)
 
   kind-in : (i : ℕ) → i < a.count → kind_in b i ≡ kind_in a i
-  kind-in i h = ap kind_of (step_in i h)
+  kind-in i h = ap kind_of (step_in_lem i h)
 
   -- what the writer asks of the longer record it asks of the shorter
   pub taken-before : 0 < a.count → Taken b → Taken a
@@ -121,7 +121,7 @@ module _ (a b : Sheet) (begin : Begins a b) where
         some-step = some;
         few-steps = omega (arith, begin.fewer, t.few-steps);
         turned = λ i h. rw (← begin.same i h) (t.turned i (in_b i h));
-        steps = λ i h. rw (← step_in i h) (t.steps i (in_b i h));
+        steps = λ i h. rw (← step_in_lem i h) (t.steps i (in_b i h));
         one-deformation = λ i h. sym (eleven-same (kind_in b) (kind_in a) a.count kind-in i h) ∙ t.one-deformation i (in_b i h);
       }
 

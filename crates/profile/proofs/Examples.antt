@@ -1,10 +1,10 @@
 -- Known sheets under profiles, evaluated. Assumes nothing.
 use mathlib.Core.Path.{◌≡◌, refl}
-use mathlib.Core.List.{List, [], ◌∷◌, ◌++◌}
+use mathlib.Core.List.{List, ◌++◌}
 use mathlib.Core.Bool.{true, false}
 use Prim.Native.Nat.{ℕ}
 use lib.Ieee.{of_bits, is_nan, ne, mul, div}
-use Rattle.words.specs.Words.{le32, word32, word64, number_at, one_nan_at}
+use Rattle.words.specs.Words.{le32, word32, word64}
 use Rattle.helmert.specs.Record.{zeros_with, blank_helmert}
 use Rattle.helmert.specs.Units.{parameters_of, winner_of, lengths_of, angles_of}
 use Rattle.helmert.specs.Rules.{dynamic_of, some_of}

@@ -5,14 +5,14 @@ use Prim.Native.Nat.{ℕ, zero, suc, ◌+◌, ◌<◌, ◌≤◌}
 use mathlib.Core.List.{List, [], ◌∷◌, ◌++◌}
 use mathlib.Core.Bool.{Bool, true, false, not, cond, ◌&&◌, true≢false}
 use native.Mathlib.Omega.{arith}
-use borrow.Author.Tests.{eqb-true, eqb-false, not-true, not-false}
+use borrow.Author.Tests.{eqb-true, eqb-false, not-true}
 use lib.Dec.{eqb}
 use Rattle.bodies.specs.declared.Step.{Step}
 use Rattle.sheet.specs.declared.Refusal.{Refusal}
 use Rattle.sheet.specs.Layout.{step_count_of, kind_at, step_at}
-use Rattle.sheet.specs.Rules.{Rule, rule, accepted, of_call, of_step, refusal3, refusal5_at, five_to_eight, elevens, reader_order, first_broken, refusal_of}
+use Rattle.sheet.specs.Rules.{Rule, rule, accepted, of_call, of_step, refusal3, refusal5_at, elevens, reader_order, first_broken, refusal_of}
 use Rattle.sheet.specs.Given.{Unbroken}
-use Rattle.sheet.proofs.Order.{Without, Numbered, without_rule, without_append, without-steps, without_elevens, kept_then, broken_first, all_kept, never_given, count_kept}
+use Rattle.sheet.proofs.Order.{Without, Numbered, without_rule, without-steps, without_elevens, kept_then, broken_first, all_kept, never_given, count_kept}
 use Rattle.profile.specs.Profile.{refusal25, twenty_fives, profile_rules, up_to_eight, profile_order, profile_refusal_of}
 
 -- ---- a turn of the loop

@@ -3,12 +3,12 @@
 -- reader's. Assumes nothing.
 use mathlib.Core.Path.{◌≡◌, refl, sym, ap, ◌∙◌, subst}
 use mathlib.Core.Logic.{◌↔◌}
-use Prim.Native.Nat.{ℕ, zero, suc, ◌+◌, ◌<◌, ◌≤◌}
-use mathlib.Core.List.{List, [], ◌∷◌, ◌++◌}
-use mathlib.Core.Bool.{Bool, true, false, not, cond, ◌&&◌, ◌||◌, true≢false}
+use Prim.Native.Nat.{ℕ, zero, suc, ◌+◌, ◌<◌}
+use mathlib.Core.List.{List, ◌++◌}
+use mathlib.Core.Bool.{Bool, true, false, not, ◌&&◌, ◌||◌, true≢false}
 use native.Mathlib.Omega.{arith}
 use native.Mathlib.Nat.{add-zero, zero-add}
-use borrow.Author.Tests.{eqb-true, eqb-false, eq-eqb, ne_eqb}
+use borrow.Author.Tests.{eqb-true, eqb-false, ne_eqb}
 use lib.Dec.{eqb}
 use Rattle.helmert.specs.declared.Helmert.{Helmert as HelmertRecord}
 use Rattle.helmert.specs.Record.{exact_of, own_epoch_of}
@@ -18,12 +18,12 @@ use Rattle.bodies.specs.declared.Step.{Step}
 use Rattle.bodies.specs.declared.Step.TheVariants.{Cart, Permtide, Deformation, Molodensky, Badekas, Helmert}
 use Rattle.sheet.specs.declared.Refusal.{Refusal}
 use Rattle.sheet.specs.Layout.{step_count_of, kind_at, step_at}
-use Rattle.sheet.specs.Rules.{Rule, rule, accepted, of_call, of_step, elevens, reader_order, first_broken, refusal_of}
+use Rattle.sheet.specs.Rules.{Rule, of_call, of_step, elevens, reader_order, first_broken, refusal_of}
 use Rattle.sheet.specs.Given.{Unbroken}
-use Rattle.sheet.proofs.Order.{Numbered, without_append, without_elevens, kept_then, broken_first, all_kept, none_broken, kept_append, kept_left, kept_right, neither, none_given_exactly_when, never_given, numbered_reader}
+use Rattle.sheet.proofs.Order.{Numbered, without_append, without_elevens, kept_then, broken_first, all_kept, none_broken, kept_append, kept_left, kept_right, neither, never_given}
 use Rattle.profile.specs.Profile.{helmert_offends, refusal25, twenty_fives, profile_rules, up_to_eight, profile_order, profile_refusal_of}
 use Rattle.profile.specs.Chart.{LetsThrough, FirstOffence}
-use Rattle.profile.proofs.Judging.{numbered_eight, without_eight, without_25s, without_profile, reader-is, reader-left, reader-first, eight-answers, profile-answers}
+use Rattle.profile.proofs.Judging.{numbered_eight, without_eight, without_25s, without_profile, reader-is, reader-first, eight-answers, profile-answers}
 
 -- ---- without a profile
 

@@ -100,6 +100,7 @@ has_either (d ∷ l) m p q Has.first = p Has.first
 has_either (d ∷ l) m p q (Has.later h) = has_either l m (λ x. p (Has.later x)) q h
 
 only_one : {c d : Change} → Has c (d ∷ []) → c ≡ d
+only_one (Has.later h) = elim h [ ]
 only_one Has.first = refl
 
 module _ (s r : List ℕ) where
@@ -108,11 +109,13 @@ module _ (s r : List ℕ) where
 
   at_place : (n : ℕ) {c : Change} (t : Bool) → eqb (word32 s (4 * n)) (word32 r (4 * n)) ≡ t
       → Has c (cond t [] (change_of (4 * n) (word32 s (4 * n)) (word32 r (4 * n)) ∷ [])) → Differs s r (suc n) c
+  at_place n {c = c} true e h = elim h [ ]
   at_place n false e h = (n, (omega arith, (eqb-false _ _ e, only_one h)))
 
   -- a change that is listed is of a word that differs
   pub listed-differs : (n : ℕ) (c : Change) → Has c (changes_in s r n) → Differs s r n c
   unfolding changes_in changed_of
+  listed-differs zero c h = elim h [ ]
   listed-differs (suc n) c h =
       has_either (changes_in s r n) (change_at s r (4 * n)) (λ x. later (omega arith) (listed-differs n c x))
       (at_place n (eqb (word32 s (4 * n)) (word32 r (4 * n))) refl) h

@@ -278,7 +278,7 @@ module _ (sheet : Sheet) (ok : Taken sheet) (held : (i : ℕ) → i < sheet.coun
       let within : (i : ℕ) → i < step_count_of w → i < n = λ i h. omega (arith, count-back) in
       record {
         at_least = omega (arith, length-w, long);
-        at_most_lem = omega (arith, length-w, small n (omega arith));
+        at_most = omega (arith, length-w, small n (omega arith));
         total = total-back ∙ sym length-w;
         form = form-back;
         some-step = omega (arith, count-back, ok.some-step);

@@ -1,6 +1,6 @@
 -- The steps of a sheet, one after another. Assumes nothing.
-use mathlib.Core.Path.{◌≡◌, refl}
-use Prim.Native.Nat.{ℕ, zero, suc, ◌+◌}
+use mathlib.Core.Path.{◌≡◌}
+use Prim.Native.Nat.{ℕ, suc, ◌+◌}
 use mathlib.Core.List.{List, [], ◌++◌}
 use Rattle.show.specs.Show.{step_text, steps_text}
 

@@ -1,11 +1,11 @@
 -- The invariants of the loops of this crate, by the steps that are left. Assumes nothing.
-use Prim.Native.Nat.{ℕ, zero, suc, ◌+◌, ◌*◌, ◌-◌, ◌/◌, ◌≤◌, ◌<◌}
+use Prim.Native.Nat.{ℕ, zero, suc, ◌+◌, ◌*◌, ◌-◌, ◌≤◌, ◌<◌}
 use native.Mathlib.Omega.{arith}
 use mathlib.Core.Path.{◌≡◌, refl, sym, ap, ◌∙◌}
-use mathlib.Core.Bool.{Bool, true, false, cond}
+use mathlib.Core.Bool.{Bool, true, false}
 use mathlib.Core.List.{List, [], ◌∷◌, ◌++◌, append_assoc, append-nil}
-use lib.ListN.{length, take, drop, get_or, set, replicate, length-set, length-take, length-drop, length-append, take-append-drop, drop_of_length-le}
-use lib.Seq.{take-suc-set, drop-set-lt, take-set-le, drop-cons, drop-drop, get_or-set_same, get_or-take, get_or-drop, take-take, take-add, take_all, length-take-le, take_at, drop_at, drop-append-le}
+use lib.ListN.{length, take, drop, get_or, set, replicate, length-set, length-drop, length-append, take-append-drop, drop_of_length-le}
+use lib.Seq.{take-suc-set, drop-set-lt, take-set-le, drop-cons, drop-drop, get_or-set_same, get_or-take, get_or-drop, take-take, take_all, length-take-le, take_at, drop_at}
 use lib.Ieee.{Float, nan}
 use Rattle.lists.specs.Run.{Turns, ran_of, count_of}
 use Rattle.lists.proofs.Laws.{ran_length}
@@ -16,7 +16,7 @@ use Rattle.tally.specs.Tallies.{no_tally}
 use Rattle.plans.specs.declared.Plan.{Plan}
 use Rattle.plans.specs.declared.Standing.{Standing}
 use Rattle.plans.specs.Passes.{Pass}
-use Rattle.plans.specs.Windows.{moved_on, Gone, gone_of}
+use Rattle.plans.specs.Windows.{moved_on, gone_of}
 use Rattle.plans.proofs.Windows.{in_parts, in_no_part, gone_length, gone_standings, count_few, tally_few}
 use Rattle.windows.specs.Steps.{passes_from, at_start, no_standing, starts_from, starts_of, tallies_of, FewIn, Few}
 

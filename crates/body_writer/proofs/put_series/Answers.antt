@@ -11,5 +11,5 @@ returns c =
     let r1 = run_starts_vec3 {n = 96} a.series (omega arith) tt c.put_vec3.ensures in
     let r2 = run_vec3 a.singles r1 tt c.put_vec3-2.ensures in
     let r3 = run_vec3 a.rate r2 tt c.put_vec3-3.ensures in
-    let r4 = run_vec3 a.rate-singles r3 tt c.put_vec3-4.ensures in
+    let r4 = run_vec3 a.rate_singles r3 tt c.put_vec3-4.ensures in
     r4.became

@@ -1,6 +1,5 @@
 use native.Mathlib.Omega.{arith}
 use mathlib.Core.Path.{refl, sym, ◌∙◌}
-use Prim.Native.Nat.{◌-◌}
 use Rattle.closure_page.proofs.Figures.{check_on, check_end}
 use Rattle.closure_page.proofs.check_word.Goals as goal
 

@@ -1,6 +1,5 @@
 -- No number where the bytes hold no counts. Assumes nothing.
 use native.Mathlib.Omega.{arith}
-use Prim.Native.Nat.{◌-◌}
 use Rattle.grid_lines.proofs.numbers.Goals as goal
 
 pub returns-then-g-lt8 : goal.returns-then-g-lt8

@@ -1,6 +1,5 @@
 use borrow.Author.Rules.{rules}
 use mathlib.Core.Path.{refl}
-use Prim.Native.Nat.{◌-◌}
 use lib.ListN.{length, length-set}
 use Rattle.job.proofs.Laws.{none_yet, one_more, all_read}
 use Rattle.job.proofs.numbers.Goals as goal

@@ -1,6 +1,5 @@
 use borrow.Author.Rules.{rules}
 use mathlib.Core.Path.{◌∙◌}
-use Prim.Native.Nat.{◌-◌}
 use Rattle.text.proofs.Laws.{going_here, going_on, going_ends, then, place_within, same_room}
 use Rattle.report.proofs.Laws.{next_tuple, no_tuple}
 use Rattle.report.proofs.put_tuples.Goals as goal

@@ -24,6 +24,12 @@ put_directory-requires c =
     let count = c.wide-n.ensures.0 ∙ c.read32-count.ensures in
     (omega (arith, count, ok.few-steps), (count, omega (arith, count, ok.inside, c.requires.1)))
 
+pub slice_bounds-copy-start : goal.slice_bounds-copy-start
+slice_bounds-copy-start c =
+    let ok = can_be_rebuilt c.args.s.now c.requires.0 in
+    let count = c.wide-n.ensures.0 ∙ c.read32-count.ensures in
+    omega (arith, count, ok.inside)
+
 pub slice_bounds-copy-count : goal.slice_bounds-copy-count
 slice_bounds-copy-count c =
     let ok = can_be_rebuilt c.args.s.now c.requires.0 in

@@ -1,6 +1,5 @@
 -- By `length-small`, from what the calls ensure. Assumes nothing.
 use Rattle.sheet_writer.proofs.Writing.{length-small}
-use Rattle.sheet.specs.Layout.{kind_in}
 use mathlib.Core.Path.{refl}
 use Rattle.sheet_writer.proofs.length_in.Goals as goal
 

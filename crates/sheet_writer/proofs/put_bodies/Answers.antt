@@ -1,6 +1,6 @@
 use native.Mathlib.Omega.{arith}
 use mathlib.Core.Path.{◌≡◌, refl, sym, ap, ◌∙◌}
-use Prim.Native.Nat.{ℕ, ◌+◌, ◌*◌, ◌-◌, ◌≤◌}
+use Prim.Native.Nat.{ℕ, ◌+◌, ◌*◌, ◌≤◌}
 use Rattle.sheet_writer.specs.Bytes.{body_start, bodies_bytes}
 use Rattle.sheet_writer.proofs.Writing.{start-next, bodies-next, ends-within}
 use lib.ListN.{length}

@@ -1,6 +1,5 @@
 use native.Mathlib.Omega.{arith}
 use mathlib.Core.Path.{◌≡◌, ap, ◌∙◌}
-use Prim.Native.Nat.{◌-◌}
 use Rattle.sheet_writer.specs.Bytes.{body_start}
 use Rattle.sheet_writer.proofs.Writing.{start-next}
 use Rattle.sheet_writer.proofs.sheet_length.Goals as goal

@@ -1,8 +1,7 @@
-use Prim.Native.Nat.{◌-◌}
 use native.Mathlib.Omega.{arith}
 use mathlib.Core.Path.{refl, sym, ◌∙◌}
 use Rattle.columns.proofs.Passed.{passed_none, passed_on}
-use Rattle.plans.specs.Plans.{plan_pass_of}
+use Rattle.plans.specs.Plans.{plan_turns_of, plan_reach_of, plan_pass_of}
 use Rattle.step_windows.proofs.Parts.{room_rows, room_back, fits-list, last_left, part-taken, part_length, part-put, passed-window, passed-met, part-few, passed-list, passed-count}
 use Rattle.plans.specs.Lent.{lent_of}
 use borrow.Author.Rules.{rules}
@@ -43,7 +42,7 @@ overflow_add-count c =
     let e = c.window-part.ensures in
     let more = c.loop-i-test.true in
     let fits = fits-list l.i m l.invariant.0 l.invariant.5 r.0 more in
-    search (rules, l.invariant.0, l.invariant.7, l.invariant.6.few, part-few _ _ _ l.list l.i m fits e.2, r.0, more)
+    search (rules, l.invariant.0, l.invariant.7, l.invariant.6.few, part-few (plan_turns_of (lent_of c.args.velocities.now c.args.marks.now c.args.grid.now) c.args.plan) l.i l.state l.list l.i m fits e.2, r.0, more)
 
 pub overflow_add-met : goal.overflow_add-met
 overflow_add-met c =
@@ -53,7 +52,7 @@ overflow_add-met c =
     let e = c.window-part.ensures in
     let more = c.loop-i-test.true in
     let fits = fits-list l.i m l.invariant.0 l.invariant.5 r.0 more in
-    search (rules, l.invariant.0, l.invariant.7, l.invariant.8.few, part-few _ _ _ l.list l.i m fits e.3, r.0, more)
+    search (rules, l.invariant.0, l.invariant.7, l.invariant.8.few, part-few (plan_reach_of (lent_of c.args.velocities.now c.args.marks.now c.args.grid.now) c.args.plan) l.i l.state l.list l.i m fits e.3, r.0, more)
 
 pub overflow_add-i : goal.overflow_add-i
 overflow_add-i c = search (rules, c.loop-i.invariant.0, c.loop-i.invariant.7, c.rows_of-m.ensures.0, c.loop-i-test.true)

@@ -20,8 +20,8 @@ returns c =
     let pz = last.kz in
     let pt = last.kt in
     let e = rw start at (c.track_again-again.ensures.0 (of_rows_test (length (take (length a.t.now - a.index) (drop a.index a.t.now))) (take (length a.kx.now - a.index) (drop a.index a.kx.now)) (take (length a.ky.now - a.index) (drop a.index a.ky.now)) (take (length a.kz.now - a.index) (drop a.index a.kz.now)) (take (length a.kt.now - a.index) (drop a.index a.kt.now)) (omega (arith, c.requires.0.0), omega (arith, c.requires.0.1), omega (arith, c.requires.0.2)) (omega (arith, c.requires.1)))) in (
-      from-track a.shift from a.t.now a.kx.now a.ky.now a.kz.now a.kt.now c.requires.0 c.requires.1 a.index c.requires.2 px py pz pt x y z t e,
-      from-count a.shift from a.t.now a.kx.now a.ky.now a.kz.now a.kt.now c.requires.0 c.requires.1 a.index c.requires.2 px py pz pt x y z t e,
-      from_within a.shift from a.t.now a.kx.now a.ky.now a.kz.now a.kt.now c.requires.0 c.requires.1 a.index c.requires.2 px py pz pt x y z t e,
+      from-track a.shift from a.t.now a.kx.now a.ky.now a.kz.now a.kt.now c.requires.0 c.requires.1 a.index c.requires.2 px py pz pt (omega arith) (omega arith) (omega arith) (omega arith) e,
+      from-count a.shift from a.t.now a.kx.now a.ky.now a.kz.now a.kt.now c.requires.0 c.requires.1 a.index c.requires.2 px py pz pt (omega arith) (omega arith) (omega arith) (omega arith) e,
+      from_within a.shift from a.t.now a.kx.now a.ky.now a.kz.now a.kt.now c.requires.0 c.requires.1 a.index c.requires.2 px py pz pt (omega arith) (omega arith) (omega arith) (omega arith) e,
       start,
     )

@@ -1,4 +1,3 @@
-use Prim.Native.Nat.{◌-◌}
 use lib.Ieee.{nan}
 use Rattle.stretch.proofs.Copied.{copied_start, copied_again, copied_end}
 use Rattle.stretch_results.proofs.copy.Goals as goal

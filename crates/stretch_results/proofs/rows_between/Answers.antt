@@ -2,7 +2,7 @@
 -- (`flat-between`). Assumes nothing.
 use Prim.Native.Nat.{◌-◌}
 use native.Mathlib.Omega.{arith}
-use mathlib.Core.Path.{sym, ap, ◌∙◌}
+use mathlib.Core.Path.{ap, ◌∙◌}
 use Rattle.helmert.specs.Turns.{helmert_turns}
 use Rattle.lists.specs.Run.{ran_of}
 use Rattle.stretch.proofs.Parts.{flat_mid, flat-between}

@@ -1,7 +1,6 @@
 -- Where the columns fit together and have such rows (`rows-beside-told`), `rows_between` writes
 -- them; else nothing is written. Assumes nothing.
 use mathlib.Core.Path.{refl}
-use mathlib.Core.Bool.{true, false}
 use Rattle.columns.specs.Columns.{columns}
 use Rattle.stretch.specs.KeptColumns.{rows_beside_of}
 use Rattle.stretch.proofs.Fits.{rows-beside-told, where-true, where-false}

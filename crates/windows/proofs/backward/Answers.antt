@@ -1,7 +1,6 @@
 use Prim.Native.Nat.{◌-◌}
 use native.Mathlib.Omega.{arith}
 use mathlib.Core.Path.{refl}
-use mathlib.Core.Bool.{true}
 use Rattle.windows.proofs.Steps.{absent_standing, backward_start, backward-few, backward-again, backward-end}
 use borrow.Author.Rules.{rules}
 use Rattle.windows.proofs.backward.Goals as goal

@@ -1,7 +1,6 @@
 -- Invariant (`Backward`): the window is what the steps from index i on have made of it, the last
 -- first; the standings from i on are theirs, and those before i are as they were. A turn runs the
 -- step before i (`backward-again`). The measure is i. Assumes nothing.
-use Prim.Native.Nat.{◌-◌}
 use mathlib.Core.Path.{◌≡◌}
 use lib.ListN.{length}
 use Rattle.columns.specs.Columns.{Level, flat_of}

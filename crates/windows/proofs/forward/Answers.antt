@@ -1,7 +1,5 @@
-use Prim.Native.Nat.{◌-◌}
 use native.Mathlib.Omega.{arith}
 use mathlib.Core.Path.{refl}
-use mathlib.Core.Bool.{true}
 use Rattle.windows.proofs.Steps.{absent_standing, forward_start, forward-few, forward-again, forward-end}
 use borrow.Author.Rules.{rules}
 use Rattle.windows.proofs.forward.Goals as goal

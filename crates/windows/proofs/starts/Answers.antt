@@ -1,4 +1,3 @@
-use Prim.Native.Nat.{◌-◌}
 use Rattle.windows.proofs.Steps.{started_none, started-again, started-end}
 use borrow.Author.Rules.{rules}
 use Rattle.windows.proofs.starts.Goals as goal

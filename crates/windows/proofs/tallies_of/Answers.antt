@@ -1,4 +1,3 @@
-use Prim.Native.Nat.{◌-◌}
 use mathlib.Core.Path.{refl}
 use Rattle.windows.proofs.Steps.{absent_standing, read_start, read_again, read_end}
 use borrow.Author.Rules.{rules}
