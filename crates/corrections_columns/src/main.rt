@@ -13,9 +13,8 @@ ghost use Rattle.std.specs.Prelude.{◌<◌, ◌≤◌};
 
 use kept::Corrected;
 use sheet::Refusal;
+use std::io;
 use tuple::Tuple;
-
-const OUT: i32 = 1;
 
 // ----- chance ---------------------------------------------------------------------------------
 
@@ -424,15 +423,10 @@ fn runs() -> Tally {
     now
 }
 
-fn main() {
+fn main(rt: HostRuntime) -> io::Result<()> {
     let now = runs();
-    io::write_all(OUT, b"320 runs: ");
-    io::print_decimal(OUT, now.taken as u64);
-    io::write_all(OUT, b" corrected, ");
-    io::print_decimal(OUT, now.redone as u64);
-    io::write_all(OUT, b" fixes redone; ");
-    io::print_decimal(OUT, now.refused as u64);
-    io::write_all(OUT, b" refused\n");
-    io::print_decimal(OUT, now.parted as u64);
-    io::write_all(OUT, b" parted\n");
+    print!(rt; "320 runs: {} corrected, ", now.taken)?;
+    print!(rt; "{} fixes redone; ", now.redone)?;
+    println!(rt; "{} refused", now.refused)?;
+    println!(rt; "{} parted", now.parted)
 }
