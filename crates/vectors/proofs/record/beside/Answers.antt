@@ -13,4 +13,4 @@ returns c =
     ∙ ap (compared_of c.args.told.now)
     (c.shift-answer.ensures
     ∙ rw (c.fill.ensures, c.fill-2.ensures)
-    (lent c.args.job.now c.read32.ensures c.length_at-tuples_at.ensures.0 c.requires.list_len.0 c.requires.list_len.1 c.length_at-end.ensures.0))
+    (lent c.args.job.now c.read32-inverse.ensures c.length_at.ensures.0 c.requires.list_len.0 c.requires.list_len.1 c.length_at-2.ensures.0))
