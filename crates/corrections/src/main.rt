@@ -96,7 +96,7 @@ fn index_of(seed: usize, fixes: usize) -> usize {
 
 // ----- a sheet of one Helmert step ---------------------------------------------------------------
 
-// Modes: 0 static, 1 fixed, 2 own_epoch, 3 running.
+// Modes: 0 static, 1 fixed, 2 own-epoch, 3 running.
 fn flags(mode: usize, exact: usize, seed: usize) -> usize
     ensures { result < 16 }
 {
@@ -524,7 +524,7 @@ fn told(out: &impl Print, k: usize, t: Tally) -> io::Result<Tally> {
     Ok(t)
 }
 
-// Four modes, small_angle and exact, forward and inverse: how many comparisons parted.
+// Four modes, small-angle and exact, forward and inverse: how many comparisons parted.
 fn replayed(
     out: &impl Print,
     s: &mut [u8],

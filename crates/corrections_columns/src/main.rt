@@ -116,7 +116,7 @@ fn flags(mode: usize, exact: bool) -> u32 {
     if exact { 1 } else { 0 }
 }
 
-// Modes: 0 static, 1 fixed, 2 own_epoch, 3 running; small_angle or exact.
+// Modes: 0 static, 1 fixed, 2 own-epoch, 3 running; small-angle or exact.
 fn put_sheet(s: &mut [u8], mode: usize, exact: bool) {
     put_words(s, flags(mode, exact));
     put_numbers(
@@ -390,7 +390,7 @@ fn five(
     now
 }
 
-// Run k of 320: the four modes, small_angle and exact, forward and inverse, wild times and calm.
+// Run k of 320: the four modes, small-angle and exact, forward and inverse, wild times and calm.
 fn run(k: usize, was: Tally) -> Tally {
     let inverse = k / 8 % 2 == 1;
     let mut s = [0u8; 280];
