@@ -57,7 +57,7 @@ new_place : Tuple
 unfolding fix
 new_place = fix 0x4143_74bd_3a47_854d 0xc155_ef09_f7b3_2109 0x4130_1742_d0a3_cc7a
 
--- X 2550408.960033, Y -5749912.259981, Z 1054891.110083: the transpose of a small_angle matrix is
+-- X 2550408.960033, Y -5749912.259981, Z 1054891.110083: the transpose of a small-angle matrix is
 -- its inverse to first order
 place_again : Tuple
 unfolding fix

@@ -4,7 +4,7 @@
 // Method, letters and sequence of roundings are those of `cart`: each tuple and the count are
 // proved to be what `cart_fwd` and `cart_inv` give, in every bit. The kernels are called by their
 // blocks, and between them are short loops of arithmetic alone, which a compiler turns into vector
-// instructions. For every point both the on_axis and the off-axis result are computed and one is
+// instructions. For every point both the on-axis and the off-axis result are computed and one is
 // selected, so the loops have no branch. Used by the loops over a list.
 #![tactic(auto)]
 

@@ -66,7 +66,7 @@ y2001 = bits 0x409f_4400_0000_0000
 unfoldable pub y2002 : Float
 y2002 = bits 0x409f_4800_0000_0000
 
--- DT = (1, 0, 0), t_epoch 2000, in running mode or with the own_epoch flag: the resulting X of
+-- DT = (1, 0, 0), t_epoch 2000, in running mode or with the own-epoch flag: the resulting X of
 -- fixes at these times
 unfoldable pub shifted_x : ℕ → List Float → List Float
 shifted_x flags times = xs (shift_of false (helmert_sheet flags 0x3ff00000 0 0x409f4000) (fixes times) [] []).list
@@ -84,7 +84,7 @@ OfTheChain =
     ≡ outcome (ran_answer (only 1)) (bits 0x4158_54a6_4000_0000 ∷ bits 0 ∷ bits 0 ∷ bits 0 ∷ []))
     -- P2: times 2001, 2002, 2001 running
     × (shifted_x 0 (y2001 ∷ y2002 ∷ y2001 ∷ []) ≡ one ∷ bits 0x4008_0000_0000_0000 ∷ bits 0x4010_0000_0000_0000 ∷ [])
-    -- P3: own_epoch
+    -- P3: own-epoch
     × (shifted_x 8 (y2001 ∷ y2002 ∷ y2001 ∷ []) ≡ one ∷ bits 0x4000_0000_0000_0000 ∷ one ∷ [])
     -- P4: 2001, 2001 running
     × (shifted_x 0 (y2001 ∷ y2001 ∷ []) ≡ one ∷ one ∷ [])
@@ -106,7 +106,7 @@ OfTheChain =
     -- P12: dx = 1, no epoch
     × (shift_of false (helmert_sheet 0 0x3ff00000 0 0x7ff80000) [] [] [] ≡ outcome (refused_answer (of_step 7 0)) [])
 
--- ---- document 02, A3: own_epoch, times 2001, NaN, 2001. The fix without a time is three NaNs, its
+-- ---- document 02, A3: own-epoch, times 2001, NaN, 2001. The fix without a time is three NaNs, its
 -- time kept, and two are counted.
 
 abbrev pub MissingTime : Type 0

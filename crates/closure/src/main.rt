@@ -8,12 +8,15 @@
 // word of more than 16 letters is no profile's: its first ones are not compared.
 #![tactic(auto)]
 
-fn main() {
+use std::io;
+use std::rt::Env;
+
+fn main(rt: HostRuntime) -> io::Result<()> {
     let mut word = [0u8; 16];
-    let w = os::arg(1, &mut word);
-    let mut job = io::large_buffer();
-    let n = io::read_full(0, &mut job);
-    let mut room = io::large_buffer();
+    let w = rt.arg(1, &mut word).unwrap_or(0);
+    let mut job = [0u8; 65536];
+    let n = input::read_full(&mut rt.stdin(), &mut job)?;
+    let mut room = [0u8; 65536];
     let m = closure_answer::answer(&word[..w], &job[..n], &mut room);
-    io::write_all(1, &room[..m]);
+    rt.write_all(&room[..m])
 }

@@ -15,9 +15,8 @@ ghost use Rattle.corrections.specs.Room.{Roomy};
 
 use kept::Corrected;
 use sheet::Refusal;
+use std::io;
 use tuple::Tuple;
-
-const OUT: i32 = 1;
 
 // ----- chance ----------------------------------------------------------------------------------
 
@@ -97,7 +96,7 @@ fn index_of(seed: usize, fixes: usize) -> usize {
 
 // ----- a sheet of one Helmert step ---------------------------------------------------------------
 
-// Modes: 0 static, 1 fixed, 2 own_epoch, 3 running.
+// Modes: 0 static, 1 fixed, 2 own-epoch, 3 running.
 fn flags(mode: usize, exact: usize, seed: usize) -> usize
     ensures { result < 16 }
 {
@@ -474,45 +473,33 @@ fn cut(
 
 // ----- every mode ---------------------------------------------------------------------------------------
 
-fn print_mode(mode: usize) {
+fn print_mode(out: &impl Print, mode: usize) -> io::Result<()> {
     match mode {
-        0 => {
-            io::write_all(OUT, b"static, ");
-        }
-        1 => {
-            io::write_all(OUT, b"fixed, ");
-        }
-        2 => {
-            io::write_all(OUT, b"own-epoch, ");
-        }
-        _ => {
-            io::write_all(OUT, b"running, ");
-        }
+        0 => print!(out; "static, "),
+        1 => print!(out; "fixed, "),
+        2 => print!(out; "own-epoch, "),
+        _ => print!(out; "running, "),
     }
 }
 
-fn print_form(exact: usize, inverse: usize) {
+fn print_form(out: &impl Print, exact: usize, inverse: usize) -> io::Result<()> {
     if exact == 0 {
-        io::write_all(OUT, b"small-angle, ");
+        print!(out; "small-angle, ")?;
     } else {
-        io::write_all(OUT, b"exact, ");
+        print!(out; "exact, ")?;
     }
     if inverse == 0 {
-        io::write_all(OUT, b"forward: ");
+        print!(out; "forward: ")
     } else {
-        io::write_all(OUT, b"inverse: ");
+        print!(out; "inverse: ")
     }
 }
 
-fn print_tally(t: Tally) {
-    io::print_decimal(OUT, t.taken as u64);
-    io::write_all(OUT, b" corrected, ");
-    io::print_decimal(OUT, t.redone as u64);
-    io::write_all(OUT, b" fixes redone, ");
-    io::print_decimal(OUT, t.longer as u64);
-    io::write_all(OUT, b" times more than one; ");
-    io::print_decimal(OUT, t.refused as u64);
-    io::write_all(OUT, b" refused\n");
+fn print_tally(out: &impl Print, t: Tally) -> io::Result<()> {
+    print!(out; "{} corrected, ", t.taken)?;
+    print!(out; "{} fixes redone, ", t.redone)?;
+    print!(out; "{} times more than one; ", t.longer)?;
+    println!(out; "{} refused", t.refused)
 }
 
 fn begun(seed: usize, parted: usize) -> Tally {
@@ -527,18 +514,19 @@ fn begun(seed: usize, parted: usize) -> Tally {
 }
 
 // After the last case of a mode its line, and a new count.
-fn told(k: usize, t: Tally) -> Tally {
+fn told(out: &impl Print, k: usize, t: Tally) -> io::Result<Tally> {
     if k % 60 == 59 {
-        print_mode(k / 240);
-        print_form(k / 120 % 2, k / 60 % 2);
-        print_tally(t);
-        return begun(t.seed, t.parted);
+        print_mode(out, k / 240)?;
+        print_form(out, k / 120 % 2, k / 60 % 2)?;
+        print_tally(out, t)?;
+        return Ok(begun(t.seed, t.parted));
     }
-    t
+    Ok(t)
 }
 
-// Four modes, small_angle and exact, forward and inverse: how many comparisons parted.
+// Four modes, small-angle and exact, forward and inverse: how many comparisons parted.
 fn replayed(
+    out: &impl Print,
     s: &mut [u8],
     list: &mut [f64],
     own: &mut [f64],
@@ -547,13 +535,14 @@ fn replayed(
     old: &mut [f64],
     fresh_results: &mut [f64],
     fresh_track: &mut [f64],
-) -> usize
+) -> io::Result<usize>
     requires { Roomy list.old own.old results.old track.old old.old fresh_results.old fresh_track.old }
 {
     let mut now = begun(1, 0);
     let mut k: usize = 0;
     while k < 960 {
         now = told(
+            out,
             k,
             cut(
                 k,
@@ -567,13 +556,13 @@ fn replayed(
                 fresh_track,
                 now,
             ),
-        );
+        )?;
         k += 1;
     }
-    now.parted
+    Ok(now.parted)
 }
 
-fn main() {
+fn main(rt: HostRuntime) -> io::Result<()> {
     let mut s = [0u8; 280];
     let mut list = [0.0; 8192];
     let mut own = [0.0; 8192];
@@ -583,6 +572,7 @@ fn main() {
     let mut fresh_results = [0.0; 8192];
     let mut fresh_track = [0.0; 8192];
     let parted = replayed(
+        &rt,
         &mut s,
         &mut list,
         &mut own,
@@ -591,7 +581,6 @@ fn main() {
         &mut old,
         &mut fresh_results,
         &mut fresh_track,
-    );
-    io::print_decimal(OUT, parted as u64);
-    io::write_all(OUT, b" parted\n");
+    )?;
+    println!(rt; "{parted} parted")
 }

@@ -13,9 +13,8 @@ ghost use Rattle.std.specs.Prelude.{◌<◌, ◌≤◌};
 
 use kept::Corrected;
 use sheet::Refusal;
+use std::io;
 use tuple::Tuple;
-
-const OUT: i32 = 1;
 
 // ----- chance ---------------------------------------------------------------------------------
 
@@ -117,7 +116,7 @@ fn flags(mode: usize, exact: bool) -> u32 {
     if exact { 1 } else { 0 }
 }
 
-// Modes: 0 static, 1 fixed, 2 own_epoch, 3 running; small_angle or exact.
+// Modes: 0 static, 1 fixed, 2 own-epoch, 3 running; small-angle or exact.
 fn put_sheet(s: &mut [u8], mode: usize, exact: bool) {
     put_words(s, flags(mode, exact));
     put_numbers(
@@ -391,7 +390,7 @@ fn five(
     now
 }
 
-// Run k of 320: the four modes, small_angle and exact, forward and inverse, wild times and calm.
+// Run k of 320: the four modes, small-angle and exact, forward and inverse, wild times and calm.
 fn run(k: usize, was: Tally) -> Tally {
     let inverse = k / 8 % 2 == 1;
     let mut s = [0u8; 280];
@@ -424,15 +423,10 @@ fn runs() -> Tally {
     now
 }
 
-fn main() {
+fn main(rt: HostRuntime) -> io::Result<()> {
     let now = runs();
-    io::write_all(OUT, b"320 runs: ");
-    io::print_decimal(OUT, now.taken as u64);
-    io::write_all(OUT, b" corrected, ");
-    io::print_decimal(OUT, now.redone as u64);
-    io::write_all(OUT, b" fixes redone; ");
-    io::print_decimal(OUT, now.refused as u64);
-    io::write_all(OUT, b" refused\n");
-    io::print_decimal(OUT, now.parted as u64);
-    io::write_all(OUT, b" parted\n");
+    print!(rt; "320 runs: {} corrected, ", now.taken)?;
+    print!(rt; "{} fixes redone; ", now.redone)?;
+    println!(rt; "{} refused", now.refused)?;
+    println!(rt; "{} parted", now.parted)
 }

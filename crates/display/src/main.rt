@@ -14,6 +14,7 @@ ghost use Rattle.job.specs.Job.{marks_at};
 
 use job::Head;
 use sheet::Refusal;
+use std::io;
 
 // ----- columns of a job -----------------------------------------------------------------------
 
@@ -252,10 +253,10 @@ fn display(job: &[u8], room: &mut [u8]) -> usize
     draw(room, job, head, words::wide(head.tuples))
 }
 
-fn main() {
-    let mut job = io::large_buffer();
-    let n = io::read_full(0, &mut job);
-    let mut room = io::large_buffer();
+fn main(rt: HostRuntime) -> io::Result<()> {
+    let mut job = [0u8; 65536];
+    let n = input::read_full(&mut rt.stdin(), &mut job)?;
+    let mut room = [0u8; 65536];
     let m = display(&job[..n], &mut room);
-    io::write_all(1, &room[..m]);
+    rt.write_all(&room[..m])
 }

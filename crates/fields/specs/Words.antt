@@ -17,7 +17,7 @@ flag4 flags = eqb (flags / 4 % 2) 1
 abbrev pub flag8 : ℕ → Bool
 flag8 flags = eqb (flags / 8 % 2) 1
 
--- kind 1: 1 exact, 2 uas, 4 mm, 8 own_epoch
+-- kind 1: 1 exact, 2 uas, 4 mm, 8 own-epoch
 unfoldable pub helmert_flags : ℕ → List ℕ
 helmert_flags flags =
     ascii "  flags: "

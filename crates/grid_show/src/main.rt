@@ -6,49 +6,51 @@
 // longer input is told from it; the rooms for the texts are longer than any of them.
 #![tactic(auto)]
 
-fn main() {
+use std::io;
+
+fn main(rt: HostRuntime) -> io::Result<()> {
     let mut bytes = [0u8; 98345];
-    let n = io::read_full(0, &mut bytes);
-    tell(&bytes[..n]);
+    let n = input::read_full(&mut rt.stdin(), &mut bytes)?;
+    tell(&rt, &bytes[..n])
 }
 
-fn tell(g: &[u8]) {
+fn tell(out: &impl Print, g: &[u8]) -> io::Result<()> {
     let refusal = grid_rules::check_grid(g);
     if refusal == 0 {
-        tell_head(g);
-        tell_nodes(g);
-        return;
+        tell_head(out, g)?;
+        return tell_nodes(out, g);
     }
-    tell_refusal(g, refusal);
+    tell_refusal(out, g, refusal)
 }
 
-fn tell_head(g: &[u8]) {
-    let mut room = io::large_buffer();
+fn tell_head(out: &impl Print, g: &[u8]) -> io::Result<()> {
+    let mut room = [0u8; 65536];
     let m = grid_lines::put_head(&mut room, 0, g);
-    io::write_all(1, &room[..m]);
+    out.write_all(&room[..m])
 }
 
-fn tell_node(g: &[u8], k: u32) {
+fn tell_node(out: &impl Print, g: &[u8], k: u32) -> io::Result<()> {
     let mut room = [0u8; 4096];
     let m = grid_lines::put_node(&mut room, 0, g, k);
-    io::write_all(1, &room[..m]);
+    out.write_all(&room[..m])
 }
 
 // A grid in rule has 24 bytes a node after the first 40, and at most 4,096 nodes.
-fn tell_nodes(g: &[u8]) {
+fn tell_nodes(out: &impl Print, g: &[u8]) -> io::Result<()> {
     let mut k: u32 = 0;
     while k < 4096 {
         if g.len() < 64 + 24 * (k as usize) {
-            return;
+            return Ok(());
         }
-        tell_node(g, k);
+        tell_node(out, g, k)?;
         k += 1;
     }
+    Ok(())
 }
 
-fn tell_refusal(g: &[u8], refusal: u32) {
-    let mut room = io::large_buffer();
+fn tell_refusal(out: &impl Print, g: &[u8], refusal: u32) -> io::Result<()> {
+    let mut room = [0u8; 65536];
     let p = grid_lines::put_refusal(&mut room, 0, g, refusal);
     let m = grid_lines::put_seen(&mut room, p, g);
-    io::write_all(1, &room[..m]);
+    out.write_all(&room[..m])
 }

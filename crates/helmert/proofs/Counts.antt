@@ -1,7 +1,7 @@
 -- What a step over a list counts, where it goes by the tuple alone: as many as there are tuples of
 -- which that holds. So a step that counts every tuple counts as many as the list has, a rest
 -- shorter than a tuple being none; and Helmert counts every tuple in static, fixed and running
--- mode, and in own_epoch mode those whose time is given. Assumes nothing.
+-- mode, and in own-epoch mode those whose time is given. Assumes nothing.
 use Prim.Native.Nat.{ℕ, suc, ◌+◌, ◌/◌, ◌≤◌}
 use mathlib.Core.Path.{◌≡◌, refl, ap}
 use mathlib.Core.Bool.{Bool, true, false, cond}
@@ -48,7 +48,7 @@ module _ (inverse : Bool) (shift : Shift) (k : ℕ) (state : State) (l : List Fl
   pub helmert-count : count_of (helmert_turns inverse shift) k state l ≡ number_of (counted_of shift) l
   helmert-count = count_by_tuple (helmert_turns inverse shift) (counted_of shift) (λ k state v. refl) k state l
 
-  -- in own_epoch mode: the tuples whose time is given
+  -- in own-epoch mode: the tuples whose time is given
   pub own-epoch-count : is_own_epoch_of shift ≡ true → count_of (helmert_turns inverse shift) k state l ≡ number_of timed_of l
   own-epoch-count own = count_by_tuple (helmert_turns inverse shift) timed_of (λ k state v. counts_if_timed shift v own) k state l
 

@@ -74,7 +74,7 @@ unfolding running_of forward_of inverse_of
 unrotated_turn shift true state v h m met e = rw (e, met.held.scale, met.next, h)
 unrotated_turn shift false state v h m met e = rw (e, met.held.scale, met.next, h)
 
--- ---- own_epoch: the same at a tuple's own time, and with no test where it has none
+-- ---- own-epoch: the same at a tuple's own time, and with no test where it has none
 
 pub own_epoch_turn : (shift : Shift) (inverse : Bool) (v : Tuple) {w : Tuple}
     → w ≡ apply_of inverse (grown_of shift.parameters.t (v.t ⊖ shift.epoch) shift.parameters.dt) (scale_of shift v.t) shift.rotated (matrix_of shift v.t) v

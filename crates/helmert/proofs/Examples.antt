@@ -60,7 +60,7 @@ sheet flags dx rx ds epoch obs =
 
 -- ---- P2 to P5: DT = (1, 0, 0), t_epoch 2000, X = 0, forward, resulting X
 
--- such a sheet, in running mode or with the own_epoch flag
+-- such a sheet, in running mode or with the own-epoch flag
 running : Shift
 unfolding sheet one y2000
 running = prepare_of (sheet 0 one (bits 0) (bits 0) y2000 nan)
@@ -89,12 +89,12 @@ marked :
     × (xs running (y2001 ∷ y2001 ∷ []) ≡ one ∷ one ∷ [])
     -- P5
     × (xs running (y2001 ∷ nan ∷ y2001 ∷ []) ≡ one ∷ nan ∷ nan ∷ [])
-    -- in own_epoch mode the same times give 1, NaN, 1: a fix without a time is lost, and no other
+    -- in own-epoch mode the same times give 1, NaN, 1: a fix without a time is lost, and no other
     × (xs own_epoch (y2001 ∷ nan ∷ y2001 ∷ []) ≡ one ∷ nan ∷ one ∷ [])
 unfolding one y2000 y2001 y2002 along_x sheet running own_epoch from xs prepare_of parameters_of winner_of lengths_of angles_of rotated_of dynamic_of some_of start_of step_of running_of next_of own_epoch_step_of grown_of scale_at_of rotation_matrix_of first_order_of rows_of forward_of offset_of of_bits add sub mul div eq ne is_nan
 marked = (refl, refl, refl, refl, refl)
 
--- ---- a missing time: the same sheet with the own_epoch flag, and with t_obs 2001 given besides
+-- ---- a missing time: the same sheet with the own-epoch flag, and with t_obs 2001 given besides
 
 fixed : Shift
 unfolding sheet one y2000 y2001
@@ -221,7 +221,7 @@ old_place = record { x = bits 0x414b_e7de_547a_e148; y = bits 0x410f_38c4_6666_6
 new_place : Tuple
 new_place = record { x = bits 0x414b_e7de_6314_a0d2; y = bits 0x410f_3913_70a8_4270; z = bits 0x4153_d77a_eff1_4c60; t = nan }
 
--- X 3657660.660026, Y 255768.550002, Z 5201382.11: the transpose of a small_angle matrix is its
+-- X 3657660.660026, Y 255768.550002, Z 5201382.11: the transpose of a small-angle matrix is its
 -- inverse to first order
 place_again : Tuple
 place_again = record { x = bits 0x414b_e7de_547b_bea0; y = bits 0x410f_38c4_6667_5e0b; z = bits 0x4153_d779_870a_3d71; t = nan }

@@ -27,7 +27,7 @@ pub step_in_own_epoch : (shift : Shift) (inv : Bool) (state : State) (v : Tuple)
 unfolding step_of
 step_in_own_epoch shift inv state v h = rw (one_of_two (time_varying_of shift) shift.own_epoch h, h)
 
--- a static or fixed sheet ignores the own_epoch flag
+-- a static or fixed sheet ignores the own-epoch flag
 pub step_in_static_or_fixed : (shift : Shift) (inv : Bool) (state : State) (v : Tuple) → time_varying_of shift ≡ false
     → step_of shift inv state v ≡ record { state = state; tuple = fixed_step_of shift inv v }
 unfolding step_of
@@ -41,7 +41,7 @@ fixed_without_pivot shift inv v none = rw none
 
 -- ---- what a step carries
 
--- in static, fixed and own_epoch mode the state passes through unchanged
+-- in static, fixed and own-epoch mode the state passes through unchanged
 pub state_stays : (shift : Shift) (inv : Bool) (state : State) (v : Tuple) → is_running_of shift ≡ false → (step_of shift inv state v).state ≡ state
 unfolding step_of
 state_stays shift inv state v h = rw h
@@ -137,7 +137,7 @@ lost_by_T true s false m v = rw (plus_nan v.x, plus_nan v.y, plus_nan v.z)
 lost_by_T false s true m v = rw (plus_nan, plus_nan, plus_nan)
 lost_by_T false s false m v = rw (plus_nan, plus_nan, plus_nan)
 
--- ---- own_epoch: a fix whose time is missing
+-- ---- own-epoch: a fix whose time is missing
 
 -- one NaN is as good as another: a number that is not a number is `nan`
 is_nan_lem : (x : Float) → is_nan x ≡ true → x ≡ nan

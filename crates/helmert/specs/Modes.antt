@@ -1,4 +1,4 @@
--- The prepared shift and its four modes on one tuple: static, fixed, running, own_epoch. A state
+-- The prepared shift and its four modes on one tuple: static, fixed, running, own-epoch. A state
 -- goes in and comes out: the last time, and T.
 use Rattle.std.specs.Prelude.{Bool, false, not, cond, ◌&&◌, eqb, Float}
 use Rattle.std.specs.Float.{nan}
@@ -110,7 +110,7 @@ running_of shift inv state v =
     let p = shift.parameters in
     record { state = now; tuple = shifted_of shift inv now.t (rotation_at_of p dt) (scale_at_of p dt) v }
 
--- ---- own_epoch: in running's place
+-- ---- own-epoch: in running's place
 
 -- A fix whose time is missing is lost: three NaNs, its time kept.
 abbrev pub lost_of : Tuple → Tuple
@@ -126,7 +126,7 @@ own_epoch_step_of shift inv v =
 
 -- ---- the step: the mode that the shift calls for
 
--- dynamic and not fixed; a static or fixed sheet ignores the own_epoch flag
+-- dynamic and not fixed; a static or fixed sheet ignores the own-epoch flag
 abbrev pub time_varying_of : Shift → Bool
 time_varying_of shift = shift.dynamic && not shift.fixed
 
@@ -142,6 +142,6 @@ step_of shift inv state v =
     cond (is_running_of shift) (running_of shift inv state v)
     (record { state = state; tuple = cond (is_own_epoch_of shift) (own_epoch_step_of shift inv v) (fixed_step_of shift inv v) })
 
--- Every tuple counts, save in own_epoch mode one whose time is missing.
+-- Every tuple counts, save in own-epoch mode one whose time is missing.
 unfoldable pub counted_of : Shift → Tuple → Bool
 counted_of shift v = not (is_own_epoch_of shift && is_nan v.t)

@@ -5,7 +5,7 @@ use Rattle.floats.specs.Binary64.{bits}
 use Rattle.rotation.specs.declared.Vec3.{Vec3}
 use Rattle.helmert.specs.declared.Helmert.{Helmert}
 
--- ---- flags: 1 exact, 2 uas, 4 mm, 8 own_epoch
+-- ---- flags: 1 exact, 2 uas, 4 mm, 8 own-epoch
 
 abbrev pub exact_of : Helmert → Bool
 exact_of h = eqb (h.flags % 2) 1
@@ -45,7 +45,7 @@ zeros_with flags =
       t_obs = nan;
     }
 
--- The blank record: own_epoch, so that a fitter who begins here meets no order effect.
+-- The blank record: own-epoch, so that a fitter who begins here meets no order effect.
 unfoldable pub blank_helmert : Helmert
 blank_helmert = zeros_with 8
 

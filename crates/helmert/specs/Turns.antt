@@ -25,7 +25,7 @@ all_turns f k state v = record { state = state; tuple = f v; counted = true }
 abbrev pub stepped_turns : (State → Tuple → Stepped) → Turns State
 stepped_turns f k state v = record { state = (f state v).state; tuple = (f state v).tuple; counted = true }
 
--- Helmert: the step by its mode, which counts every tuple save in own_epoch mode one without a time
+-- Helmert: the step by its mode, which counts every tuple save in own-epoch mode one without a time
 abbrev pub helmert_turns : Bool → Shift → Turns State
 helmert_turns inverse shift k state v =
     record { state = (step_of shift inverse state v).state; tuple = (step_of shift inverse state v).tuple; counted = counted_of shift v }

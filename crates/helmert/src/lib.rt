@@ -9,7 +9,7 @@
 // Four differences from IOGP are the Rust's and are kept (docs/DIFFERENCES.md). In running mode T
 // grows from tuple to tuple. t_obs moves S three times. The inverse undoes the forward step, where
 // IOGP runs the same formula with negated parameters. The exact rotation takes sines and cosines of
-// the angles. The own_epoch mode is ours.
+// the angles. The own-epoch mode is ours.
 //
 // A step sees one tuple and never the list: a state goes in and comes out. A loop over a list
 // decides the mode once, by `is_running` and `is_own_epoch`, and builds the matrix anew only when
@@ -36,7 +36,7 @@ const PI: f64 = 3.141592653589793;
 
 // The record as the sheet carries it. The singles x, y, z are xyz, and so on; t_epoch and t_obs are
 // NaN where they are not given.
-// flags: 1 exact, 2 uas, 4 mm, 8 own_epoch. convention: 0 none, 1 position vector, 2 coordinate
+// flags: 1 exact, 2 uas, 4 mm, 8 own-epoch. convention: 0 none, 1 position vector, 2 coordinate
 // frame.
 #[derive(Clone, Copy)]
 pub struct Helmert {
@@ -99,7 +99,7 @@ fn zeros_with(flags: u32) -> Helmert
 }
 
 impl Helmert {
-    // The record that a fitter begins with: the crate's defaults, in own_epoch mode, where no fix's
+    // The record that a fitter begins with: the crate's defaults, in own-epoch mode, where no fix's
     // result depends on the fixes before it. Without flag 8 the sheet shifts as the crate does.
     pub fn blank() -> Self
         ensures { result ≡ blank_helmert }
@@ -623,7 +623,7 @@ pub fn own_epoch_step(shift: Shift, inv: bool, v: Tuple) -> Tuple
     shifted(shift, inv, t, rotation_at(p, dt), scale_at(p, dt), v)
 }
 
-// Dynamic and not fixed, with the own_epoch flag.
+// Dynamic and not fixed, with the own-epoch flag.
 pub fn is_own_epoch(shift: Shift) -> bool
     ensures { result ≡ is_own_epoch_of shift }
 {
@@ -658,7 +658,7 @@ pub fn step(shift: Shift, inv: bool, state: State, v: Tuple) -> Stepped
     }
 }
 
-// Whether a tuple counts: every one, save in own_epoch mode one whose time is missing.
+// Whether a tuple counts: every one, save in own-epoch mode one whose time is missing.
 pub fn counted(shift: Shift, v: Tuple) -> bool
     ensures { result ≡ counted_of shift v }
 {

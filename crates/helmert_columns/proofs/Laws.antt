@@ -1,5 +1,5 @@
 -- A step's own loop, by its mode, makes the list, the state and the count that the definition says.
--- A static, fixed or own_epoch step sees the tuple alone and leaves the state. Assumes nothing.
+-- A static, fixed or own-epoch step sees the tuple alone and leaves the state. Assumes nothing.
 use Prim.Native.Nat.{ℕ, suc, ◌+◌, ◌/◌, ◌≤◌, ◌<◌}
 use native.Mathlib.Nat.{add_assoc, add-zero, zero-add}
 use native.Mathlib.Omega.{arith}

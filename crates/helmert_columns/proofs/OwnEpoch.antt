@@ -1,4 +1,4 @@
--- A row in own_epoch mode, with T, S and the matrix of small angles at its own time, has passed the
+-- A row in own-epoch mode, with T, S and the matrix of small angles at its own time, has passed the
 -- step. Assumes nothing.
 use Prim.Native.Nat.{ℕ, ◌+◌, ◌*◌, ◌<◌}
 use mathlib.Core.Path.{◌≡◌, sym, ap, ◌∙◌}

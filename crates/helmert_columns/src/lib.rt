@@ -22,7 +22,7 @@ use helmert::{Shift, State};
 use rotation::Vec3;
 use tuple::Tuple;
 
-// ----- the count of own_epoch mode -------------------------------------------------------------
+// ----- the count of own-epoch mode -------------------------------------------------------------
 
 fn given(time: f64) -> usize
     ensures { result ≡ cond (not (is_nan time)) 1 0 }
@@ -46,7 +46,7 @@ fn times_given(t: &[f64]) -> usize
     n
 }
 
-// ----- own_epoch mode --------------------------------------------------------------------------
+// ----- own-epoch mode --------------------------------------------------------------------------
 
 // One row through T, S and a matrix, reached without a test (see `helmert_still_columns`).
 fn row(
@@ -136,7 +136,7 @@ pub struct Went {
     pub state: State,
 }
 
-// Only running mode changes the state; a row without a time counts in every mode but own_epoch.
+// Only running mode changes the state; a row without a time counts in every mode but own-epoch.
 fn in_mode(
     x: &mut [f64],
     y: &mut [f64],

@@ -1,4 +1,4 @@
--- The step of both modes makes the definition's list in own_epoch mode; a row that has passed
+-- The step of both modes makes the definition's list in own-epoch mode; a row that has passed
 -- through it, at another time and at the same; sixteen rows' states, sines and matrices. Assumes
 -- nothing.
 use Prim.Native.Nat.{ℕ, suc, ◌+◌, ◌*◌, ◌<◌}
@@ -29,7 +29,7 @@ use Rattle.helmert.proofs.Current.{Current, matrix_of}
 use Rattle.helmert_still_columns.proofs.Laws.{turned-row}
 use Rattle.helmert_exact_columns.specs.Exact.{met_of, exact_turns, states_of, lapse_of, sines_at, Sined}
 
--- ---- own_epoch mode: the step's tuple is the definition's
+-- ---- own-epoch mode: the step's tuple is the definition's
 
 own_tuple : (shift : Shift) (inverse : Bool) (k : ℕ) (state : State) (v : Tuple) → (exact_turns true shift inverse k state v).tuple ≡ own_epoch_step_of shift inverse v
 unfolding met_of

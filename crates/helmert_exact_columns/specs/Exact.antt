@@ -1,4 +1,4 @@
--- Helmert with an exact rotation from row to row, running or own_epoch: the state that a row goes
+-- Helmert with an exact rotation from row to row, running or own-epoch: the state that a row goes
 -- by, the step by it, and the sines and cosines of R for sixteen rows.
 use Rattle.std.specs.Prelude.{ℕ, zero, suc, ◌+◌, ◌<◌, ◌≡◌, Bool, true, cond, List, Float}
 use Rattle.floats.specs.Binary64.{◌⊖◌}
@@ -17,7 +17,7 @@ met_of own shift state time =
     cond own (record { last = time; t = grown_of shift.parameters.t (time ⊖ shift.epoch) shift.parameters.dt }) (next_of shift state time)
 
 -- One step for both modes: T is the state's at the row; R and S are the sheet's at the last time's
--- dt. In running mode it is `running_of`; in own_epoch mode its tuple is that of `own_epoch_step_of`
+-- dt. In running mode it is `running_of`; in own-epoch mode its tuple is that of `own_epoch_step_of`
 -- (proofs/Laws.antt).
 abbrev pub exact_turns : Bool → Shift → Bool → Turns State
 exact_turns own shift inverse k state v =

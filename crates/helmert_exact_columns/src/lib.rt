@@ -1,7 +1,7 @@
-// Helmert over columns where the rotation is exact, in running and in own_epoch mode.
+// Helmert over columns where the rotation is exact, in running and in own-epoch mode.
 //
 // Three sines and three cosines a fix are what such a shift costs. Where times change from fix to
-// fix, and always in own_epoch mode, they are taken for sixteen fixes at once
+// fix, and always in own-epoch mode, they are taken for sixteen fixes at once
 // (`trig_block::sin_cos_block`): R goes by the last time alone, so it does not wait for T, which is
 // carried on from fix to fix. Fixes of one time in a row share one matrix. Both modes and both
 // directions go through one loop; the modes differ only in the last time and T that a fix goes by
@@ -224,7 +224,7 @@ fn sixteen(
 
 // ----- a run of one time -----------------------------------------------------------------------
 
-// Where the rows that go by the last time end. In own_epoch mode no row does.
+// Where the rows that go by the last time end. In own-epoch mode no row does.
 fn run_end(own: bool, t: &[f64], i: usize, last: f64) -> usize
     requires { i ≤ length t.now }
     ensures { (i ≤ result) × (result ≤ length t.now)

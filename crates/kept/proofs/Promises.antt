@@ -441,7 +441,7 @@ module _ (inverse : Bool) (s : List ℕ) (old : Kept) (passes : (keep_refusal_of
       list-is
       (count-is-the-stretch inverse s kept-before index fix nothing-refuses))
 
--- ---- static, fixed and own_epoch
+-- ---- static, fixed and own-epoch
 
 pub still_is_not_running : (shift : Shift) → Still shift → is_running_of shift ≡ false
 still_is_not_running shift = by_mode shift.dynamic shift.fixed shift.own_epoch

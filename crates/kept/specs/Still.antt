@@ -1,4 +1,4 @@
--- The modes in which the kept run carries no state from fix to fix: static, fixed and own_epoch.
+-- The modes in which the kept run carries no state from fix to fix: static, fixed and own-epoch.
 use Rattle.std.specs.Prelude.{◌≡◌, ◌⊎◌, true, false}
 use Rattle.helmert.specs.declared.Shift.{Shift}
 

@@ -9,50 +9,44 @@ ghost use Rattle.std.specs.Prelude.{◌≡◌, ◌<◌, ◌≤◌, length};
 
 use cart::Inverse;
 use ellipsoid::Ellipsoid;
+use std::io;
 use tuple::Tuple;
-
-const OUT: i32 = 1;
 
 // ----- printing --------------------------------------------------------------------------------
 
-fn print_number(x: f64) {
-    io::write_all(OUT, b" ");
-    io::print_hex(OUT, floats::to_bits(x), 16);
+fn print_number(out: &impl Print, x: f64) -> io::Result<()> {
+    print!(out; " {:016x}", floats::to_bits(x))
 }
 
-fn print_tuple(v: Tuple) {
-    print_number(v.x);
-    print_number(v.y);
-    print_number(v.z);
-    print_number(v.t);
-    io::write_all(OUT, b"\n");
+fn print_tuple(out: &impl Print, v: Tuple) -> io::Result<()> {
+    print_number(out, v.x)?;
+    print_number(out, v.y)?;
+    print_number(out, v.z)?;
+    print_number(out, v.t)?;
+    println!(out;)
 }
 
-fn print_refusal(number: u32, step: u32) {
-    io::write_all(OUT, b"  refused ");
-    io::print_decimal(OUT, number as u64);
-    io::write_all(OUT, b" step ");
-    io::print_decimal(OUT, step as u64);
-    io::write_all(OUT, b"\n");
+fn print_refusal(out: &impl Print, number: u32, step: u32) -> io::Result<()> {
+    println!(out; "  refused {number} step {step}")
 }
 
-fn print_count(n: usize) {
-    io::write_all(OUT, b" ");
-    io::print_decimal(OUT, n as u64);
+fn print_count(out: &impl Print, n: usize) -> io::Result<()> {
+    print!(out; " {n}")
 }
 
-fn print_each(counts: [usize; 16]) {
+fn print_each(out: &impl Print, counts: [usize; 16]) -> io::Result<()> {
     let mut i = 0;
     while i < 16 {
-        print_count(counts[i]);
+        print_count(out, counts[i])?;
         i += 1;
     }
+    Ok(())
 }
 
-fn print_counts(counts: [usize; 16]) {
-    io::write_all(OUT, b"  counts");
-    print_each(counts);
-    io::write_all(OUT, b"\n");
+fn print_counts(out: &impl Print, counts: [usize; 16]) -> io::Result<()> {
+    print!(out; "  counts")?;
+    print_each(out, counts)?;
+    println!(out;)
 }
 
 // ----- sheets -----------------------------------------------------------------------------------
@@ -123,27 +117,34 @@ fn spread(list: &mut [f64]) {
 }
 
 // A sheet over a list: the refusal, the counts, the first and the last tuple.
-fn run(s: &[u8], list: &mut [f64], velocities: &[f64], marks: &[u8]) {
+fn run(
+    out: &impl Print,
+    s: &[u8],
+    list: &mut [f64],
+    velocities: &[f64],
+    marks: &[u8],
+) -> io::Result<()> {
     let said = chain::shift(false, s, list, velocities, marks);
     let refusal = said.refusal;
-    print_refusal(refusal.number, refusal.step);
+    print_refusal(out, refusal.number, refusal.step)?;
     let tallies = said.tallies;
     let counts = tally::counts(tallies);
-    print_counts(counts);
-    io::write_all(OUT, b"  first");
-    print_tuple(lists::read4(list, 0));
-    io::write_all(OUT, b"  last ");
+    print_counts(out, counts)?;
+    print!(out; "  first")?;
+    print_tuple(out, lists::read4(list, 0))?;
+    print!(out; "  last ")?;
     if 4 <= list.len() {
-        print_tuple(lists::read4(list, list.len() - 4));
+        print_tuple(out, lists::read4(list, list.len() - 4))?;
     }
+    Ok(())
 }
 
 // A sheet without deformation, over fixes a step apart.
-fn run_spread(s: &[u8], list: &mut [f64]) {
+fn run_spread(out: &impl Print, s: &[u8], list: &mut [f64]) -> io::Result<()> {
     spread(list);
     let none = [0.0f64; 3];
     let unmarked = [0u8; 1];
-    run(s, list, &none[..0], &unmarked[..0]);
+    run(out, s, list, &none[..0], &unmarked[..0])
 }
 
 fn sheet_room() -> [u8; 424]
@@ -153,7 +154,7 @@ fn sheet_room() -> [u8; 424]
 }
 
 // n cart steps over some tuples, of which there are at most 2,049.
-fn carts(n: usize, tuples: usize)
+fn carts(out: &impl Print, n: usize, tuples: usize) -> io::Result<()>
     requires { (n ≤ 17) × (tuples ≤ 2049) }
 {
     let mut s = sheet_room();
@@ -161,7 +162,7 @@ fn carts(n: usize, tuples: usize)
     let mut list = room();
     let total = length_of(n);
     let numbers = 4 * tuples;
-    run_spread(&s[..total], &mut list[..numbers]);
+    run_spread(out, &s[..total], &mut list[..numbers])
 }
 
 // (1e-11, 0, z, 0): on the axis for cart's inverse, which then counts nothing; off it for
@@ -175,25 +176,25 @@ fn near_the_axis(z: f64) -> Tuple {
     }
 }
 
-fn print_counted(counted: bool) {
+fn print_counted(out: &impl Print, counted: bool) -> io::Result<()> {
     if counted {
-        io::write_all(OUT, b"  cart, counted    ");
+        print!(out; "  cart, counted    ")
     } else {
-        io::write_all(OUT, b"  cart, not counted");
+        print!(out; "  cart, not counted")
     }
 }
 
-fn inverses(z: f64) {
+fn inverses(out: &impl Print, z: f64) -> io::Result<()> {
     let grs80 = Ellipsoid::named(1);
     let by_cart = cart::cart_inv(Inverse::new(grs80), near_the_axis(z));
-    print_counted(by_cart.counted);
-    print_tuple(by_cart.tuple);
-    io::write_all(OUT, b"  geographic       ");
-    print_tuple(geocart::geographic(grs80, near_the_axis(z)));
+    print_counted(out, by_cart.counted)?;
+    print_tuple(out, by_cart.tuple)?;
+    print!(out; "  geographic       ")?;
+    print_tuple(out, geocart::geographic(grs80, near_the_axis(z)))
 }
 
 // Up 1000 mm/year from the epoch 2000, at (6378137, 0, 0, 2010).
-fn risen() {
+fn risen(out: &impl Print) -> io::Result<()> {
     let mut s = [0u8; 56];
     put_header(&mut s, 1, 56);
     words::put32(&mut s, 16, 5);
@@ -205,23 +206,20 @@ fn risen() {
     let mut list = [6378137.0, 0.0, 0.0, 2010.0];
     let up = [0.0, 0.0, 1000.0];
     let present = [1u8; 1];
-    run(&s, &mut list, &up, &present);
+    run(out, &s, &mut list, &up, &present)
 }
 
-fn main() {
-    io::write_all(OUT, b"2048 tuples, 16 steps\n");
-    carts(16, 2048);
-    io::write_all(OUT, b"2049 tuples, 16 steps: 9\n");
-    carts(16, 2049);
-    io::write_all(OUT, b"1 tuple, 17 steps: 3\n");
-    carts(17, 1);
-    io::write_all(OUT, b"p = 1e-11 by both inverses, Z = 6400000\n");
-    inverses(6400000.0);
-    io::write_all(OUT, b"p = 1e-11 by both inverses, Z = 0\n");
-    inverses(0.0);
-    io::write_all(
-        OUT,
-        b"deformation up 1000 for ten years: X = 6378147, 415854a8c0000000\n",
-    );
-    risen();
+fn main(rt: HostRuntime) -> io::Result<()> {
+    println!(rt; "2048 tuples, 16 steps")?;
+    carts(&rt, 16, 2048)?;
+    println!(rt; "2049 tuples, 16 steps: 9")?;
+    carts(&rt, 16, 2049)?;
+    println!(rt; "1 tuple, 17 steps: 3")?;
+    carts(&rt, 17, 1)?;
+    println!(rt; "p = 1e-11 by both inverses, Z = 6400000")?;
+    inverses(&rt, 6400000.0)?;
+    println!(rt; "p = 1e-11 by both inverses, Z = 0")?;
+    inverses(&rt, 0.0)?;
+    println!(rt; "deformation up 1000 for ten years: X = 6378147, 415854a8c0000000")?;
+    risen(&rt)
 }

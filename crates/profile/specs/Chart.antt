@@ -9,7 +9,7 @@ use Rattle.bodies.specs.declared.Step.{Step}
 use Rattle.bodies.specs.declared.Step.TheVariants.{Cart, Helmert}
 use Rattle.profile.specs.Profile.{refusal25}
 
--- "Helmert and cart only, no exact flag, own_epoch or not dynamic"
+-- "Helmert and cart only, no exact flag, own-epoch or not dynamic"
 pub data LetsThrough : Step → Type 0 where
   a-cart : {r : CartRecord} → LetsThrough (Cart r)
   own_epoch : {h : HelmertRecord} → exact_of h ≡ false → own_epoch_of h ≡ true → LetsThrough (Helmert h)

@@ -1,4 +1,4 @@
--- The chart profile of document 02's A14 ("Helmert and cart only, no exact flag, own_epoch or not
+-- The chart profile of document 02's A14 ("Helmert and cart only, no exact flag, own-epoch or not
 -- dynamic"), and the order in which a sheet is judged where a profile is asked for. `refusal25`
 -- says when a step offends.
 use Rattle.std.specs.Prelude.{ℕ, zero, suc, ◌+◌, List, [], ◌∷◌, ◌++◌, Bool, true, false, not, cond, ◌&&◌, ◌||◌, eqb}
@@ -14,7 +14,7 @@ use Rattle.sheet.specs.Rules.{Rule, rule, of_call, of_step, refusal1, refusal2, 
 
 -- ---- the chart profile
 
--- A Helmert step offends by its exact flag, and where it is dynamic without the own_epoch flag.
+-- A Helmert step offends by its exact flag, and where it is dynamic without the own-epoch flag.
 -- The flag is asked, not the mode: a dynamic step that t_obs fixes offends without it.
 unfoldable pub helmert_offends : HelmertRecord → Bool
 helmert_offends h = exact_of h || (dynamic_of (parameters_of h) && not (own_epoch_of h))

@@ -1,6 +1,6 @@
 // The chart profile: which sheets a chart's box takes, beside the reader's own rules.
 //
-// Document 02, A14: "Helmert and cart only, no exact flag, own_epoch or not dynamic. A sheet passes
+// Document 02, A14: "Helmert and cart only, no exact flag, own-epoch or not dynamic. A sheet passes
 // exactly when those rules hold; else the first offending step is named. Refusal 25, profile,
 // carries that step and comes after 8 and before 11, only where the profile was asked for." A
 // profile is asked for by its number: 0 none, 1 the chart's; another one refuses every sheet that
@@ -25,7 +25,7 @@ pub const NONE: u32 = 0;
 
 pub const CHART: u32 = 1;
 
-// An exact flag, or rates without the own_epoch flag.
+// An exact flag, or rates without the own-epoch flag.
 pub fn helmert_offends(h: Helmert) -> bool
     ensures { result ≡ helmert_offends h }
 {

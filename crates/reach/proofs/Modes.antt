@@ -68,7 +68,7 @@ pub running_met : (shift : Shift) (state : State) (v : Tuple) → is_running_of 
 running_met shift state v running rotated exact seen =
     seen.held ∙ ap (λ (q : State). out_at shift q.last) seen.next ∙ running_met_at shift state v running rotated exact
 
--- own_epoch: by the fix's own time
+-- own-epoch: by the fix's own time
 pub own_met : (shift : Shift) (state : State) (v : Tuple) → is_own_epoch_of shift ≡ true → shift.rotated ≡ true → shift.exact ≡ true
     → own_out shift v.t ≡ matrix_out shift state v
 unfolding matrix_out own_out

@@ -81,7 +81,7 @@ moved_met_turns op inverse velocities marks = meeting_of (deformation_met op mar
 abbrev pub rotation_out : Vec3 → Bool
 rotation_out r = out_of_reach r.x || out_of_reach r.y || out_of_reach r.z
 
--- the angles whose matrix a fix uses: in running mode at the last time, in own_epoch mode at the
+-- the angles whose matrix a fix uses: in running mode at the last time, in own-epoch mode at the
 -- fix's own, else the sheet's
 abbrev pub rotation_used : Shift → State → Tuple → Vec3
 rotation_used shift state v =
@@ -89,16 +89,16 @@ rotation_used shift state v =
     cond (is_running_of shift) (rotation_at_of p ((next_of shift state v.t).last ⊖ shift.epoch))
     (cond (is_own_epoch_of shift) (rotation_at_of p (v.t ⊖ shift.epoch)) p.r)
 
--- a fix uses a matrix where the shift is rotated, save in own_epoch mode one without a time
+-- a fix uses a matrix where the shift is rotated, save in own-epoch mode one without a time
 abbrev pub uses_matrix : Shift → Tuple → Bool
 uses_matrix shift v = shift.rotated && not (is_own_epoch_of shift && is_nan v.t)
 
--- an exact matrix that is used, one of whose three angles is out of reach; a small_angle matrix
+-- an exact matrix that is used, one of whose three angles is out of reach; a small-angle matrix
 -- takes no sine
 unfoldable pub matrix_out : Shift → State → Tuple → Bool
 matrix_out shift state v = shift.exact && uses_matrix shift v && rotation_out (rotation_used shift state v)
 
--- the same of a fix in own_epoch mode, by its time
+-- the same of a fix in own-epoch mode, by its time
 unfoldable pub own_out : Shift → Float → Bool
 own_out shift time = not (is_nan time) && rotation_out (rotation_at_of shift.parameters (time ⊖ shift.epoch))
 

@@ -111,7 +111,7 @@ pub fn own_out(shift: Shift, time: f64) -> bool
 }
 
 // Helmert: an exact matrix that the fix uses, by the angles at the last time in running mode and at
-// the fix's own in own_epoch mode, else by the sheet's. The state is the one before the fix.
+// the fix's own in own-epoch mode, else by the sheet's. The state is the one before the fix.
 pub fn helmert_met(shift: Shift, state: State, v: Tuple) -> bool
     ensures { result ≡ matrix_out shift state v }
 {

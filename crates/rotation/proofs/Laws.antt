@@ -21,7 +21,7 @@ pub position_vector_is_transpose : (r : Vec3) (exact : Bool) → rotation_matrix
 unfolding rotation_matrix_of rows_of transposed
 position_vector_is_transpose r exact = refl
 
--- In the small_angle form the coordinate frame rows are (1, rz, -ry), (-rz, 1, rx), (ry, -rx, 1),
+-- In the small-angle form the coordinate frame rows are (1, rz, -ry), (-rz, 1, rx), (ry, -rx, 1),
 -- for any three binary64 numbers, infinities and NaN too.
 pub small_angle_rows : (r : Vec3) → T (fits binary64 r.x) → T (fits binary64 r.y) → T (fits binary64 r.z)
     → rotation_matrix_of r false false
@@ -38,7 +38,7 @@ small_angle_rows r fx fy fz =
       one_times one (of_bits-fits binary64 0x3ff0_0000_0000_0000),
     )
 
--- In the small_angle form the position vector rows are (1, -rz, ry), (rz, 1, -rx), (-ry, rx, 1).
+-- In the small-angle form the position vector rows are (1, -rz, ry), (rz, 1, -rx), (-ry, rx, 1).
 pub small_angle_columns : (r : Vec3) → T (fits binary64 r.x) → T (fits binary64 r.y) → T (fits binary64 r.z)
     → rotation_matrix_of r false true
     ≡ (one ∷ neg r.z ∷ r.y ∷ []) ∷ (r.z ∷ one ∷ neg r.x ∷ []) ∷ (neg r.y ∷ r.x ∷ one ∷ []) ∷ []

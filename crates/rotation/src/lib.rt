@@ -61,7 +61,7 @@ fn exact_sines(r: Vec3) -> Sines
     }
 }
 
-// Leaves out the second order infinitesimals in the rotation matrix elements, as small_angle
+// Leaves out the second order infinitesimals in the rotation matrix elements, as small-angle
 // approximations do.
 fn first_order(a: Sines) -> Entries
     ensures { result ≡ first_order_of a }
@@ -123,7 +123,7 @@ pub fn exact_matrix(a: Sines, position_vector: bool) -> [[f64; 3]; 3]
 
 // The matrix M of M·v, for a data sheet's three angles in radians.
 //
-// The small_angle matrices stand here as IOGP 373-7-2 prints them, so that a fitter can lay them
+// The small-angle matrices stand here as IOGP 373-7-2 prints them, so that a fitter can lay them
 // beside the data sheet: rows X, Y, Z, and in each the factors of the x, y and z that come in.
 // Position vector (EPSG method 1033): a positive angle turns the point about its axis,
 // anticlockwise as seen from the axis's positive end towards the origin; rz > 0 moves a point on

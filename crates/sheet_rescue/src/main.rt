@@ -9,17 +9,27 @@
 // the text is longer than any text of a sheet.
 #![tactic(auto)]
 
-fn main() {
-    let mut damaged = io::large_buffer();
-    let n = io::read_full(0, &mut damaged);
-    let mut sheet = io::large_buffer();
+use std::env::FillError;
+use std::io;
+use std::rt::Env;
+
+// Whether a word stands behind the program's name, be it of no letters.
+fn has_word(rt: &impl Env) -> bool {
+    let mut word = [0u8; 1];
+    !matches!(rt.arg(1, &mut word), Err(FillError::NotPresent))
+}
+
+fn main(rt: HostRuntime) -> io::Result<()> {
+    let mut damaged = [0u8; 65536];
+    let n = input::read_full(&mut rt.stdin(), &mut damaged)?;
+    let mut sheet = [0u8; 65536];
     let mut list = [0u32; 105];
-    if 1 < os::arg_count() {
+    if has_word(&rt) {
         let m = rescue_text::mend(&damaged[..n], &mut sheet, &mut list);
-        io::write_all(1, &sheet[..m]);
+        rt.write_all(&sheet[..m])
     } else {
-        let mut room = io::large_buffer();
+        let mut room = [0u8; 65536];
         let m = rescue_text::answer(&damaged[..n], &mut sheet, &mut list, &mut room);
-        io::write_all(1, &room[..m]);
+        rt.write_all(&room[..m])
     }
 }

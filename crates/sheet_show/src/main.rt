@@ -6,10 +6,12 @@
 // longer input is told from it; the room for the text is longer than any text of a sheet.
 #![tactic(auto)]
 
-fn main() {
-    let mut sheet = io::large_buffer();
-    let n = io::read_full(0, &mut sheet);
-    let mut room = io::large_buffer();
+use std::io;
+
+fn main(rt: HostRuntime) -> io::Result<()> {
+    let mut sheet = [0u8; 65536];
+    let n = input::read_full(&mut rt.stdin(), &mut sheet)?;
+    let mut room = [0u8; 65536];
     let m = show::put_sheet(&mut room, 0, &sheet[..n]);
-    io::write_all(1, &room[..m]);
+    rt.write_all(&room[..m])
 }

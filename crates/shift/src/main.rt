@@ -5,10 +5,12 @@
 // has, so that a longer input is told from it; the room for the text is longer than any text.
 #![tactic(auto)]
 
-fn main() {
-    let mut job = io::large_buffer();
-    let n = io::read_full(0, &mut job);
-    let mut room = io::large_buffer();
+use std::io;
+
+fn main(rt: HostRuntime) -> io::Result<()> {
+    let mut job = [0u8; 65536];
+    let n = input::read_full(&mut rt.stdin(), &mut job)?;
+    let mut room = [0u8; 65536];
     let m = answer::answer(&job[..n], &mut room);
-    io::write_all(1, &room[..m]);
+    rt.write_all(&room[..m])
 }

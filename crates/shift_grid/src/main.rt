@@ -6,10 +6,12 @@
 // the grid's length, rule 17; the room for the text is longer than any text.
 #![tactic(auto)]
 
-fn main() {
+use std::io;
+
+fn main(rt: HostRuntime) -> io::Result<()> {
     let mut bytes = [0u8; 131785];
-    let n = io::read_full(0, &mut bytes);
-    let mut room = io::large_buffer();
+    let n = input::read_full(&mut rt.stdin(), &mut bytes)?;
+    let mut room = [0u8; 65536];
     let m = answer::answer_grid(&bytes[..n], &mut room);
-    io::write_all(1, &room[..m]);
+    rt.write_all(&room[..m])
 }

@@ -31,7 +31,7 @@ use Rattle.stretch.proofs.Start.{before-first, before_running, before_else}
 
 -- ---- the state before an index
 
--- a static, fixed or own_epoch step hands its state on as it is
+-- a static, fixed or own-epoch step hands its state on as it is
 pub step_stays : (shift : Shift) (inverse : Bool) → is_running_of shift ≡ false
     → (k : ℕ) (state : State) (v : Tuple) → (helmert_turns inverse shift k state v).state ≡ state
 unfolding step_of
@@ -265,7 +265,7 @@ module _ (shift : Shift) (inverse : Bool) (old : Kept) (index : ℕ) (fix : Tupl
         long = put-length old.list (4 * index) fix h;
       }
 
--- ---- static, fixed and own_epoch
+-- ---- static, fixed and own-epoch
 
 module _ (shift : Shift) (inverse : Bool) (l : List Float) (still : is_running_of shift ≡ false) where
   abbrev stays : (k : ℕ) (state : State) (v : Tuple) → (helmert_turns inverse shift k state v).state ≡ state

@@ -1,6 +1,6 @@
 -- A record of the fixed answers, told beside what the library's definitions make of its job.
 -- README.md has the layout of both files.
-use Rattle.std.specs.Prelude.{ℕ, zero, suc, ◌+◌, ◌*◌, Bool, cond, not, ◌&&◌, List, [], ◌∷◌, length, take, drop, ◌==◌, nat_le, slice_index, slice_index_or, to_bits, Float}
+use Rattle.std.specs.Prelude.{ℕ, zero, suc, ◌+◌, ◌*◌, Bool, cond, ◌&&◌, List, [], ◌∷◌, length, take, drop, ◌==◌, nat_le, slice_index, slice_index_or, to_bits, Float}
 use Rattle.std.specs.Float.{nan, binary64}
 use Rattle.words.specs.Words.{word32, word64, number_at}
 use Rattle.tuple.specs.declared.Tuple.{Tuple}

@@ -12,7 +12,9 @@ mod record;
 
 ghost use Rattle.std.specs.Prelude.{◌<◌, ◌≤◌, length};
 
-const OUT: i32 = 1;
+use std::io::Read;
+use std::rt::Files;
+use std::{fs, io};
 
 // What a record was: its line of the report, its tuples, and in how many words it differed; or that
 // the file ended too soon.
@@ -39,40 +41,32 @@ fn widest(n: usize) -> u64 {
 
 // ----- the report ---------------------------------------------------------------------------
 
-fn print_name(line: usize) {
+fn print_name(out: &impl Print, line: usize) -> io::Result<()> {
     match line / 2 {
-        0 => io::write_all(OUT, b"  Helmert"),
-        1 => io::write_all(OUT, b"  cart"),
-        2 => io::write_all(OUT, b"  Molodensky"),
-        3 => io::write_all(OUT, b"  permtide"),
-        4 => io::write_all(OUT, b"  deformation"),
-        _ => io::write_all(OUT, b"  chains"),
-    };
+        0 => print!(out; "  Helmert")?,
+        1 => print!(out; "  cart")?,
+        2 => print!(out; "  Molodensky")?,
+        3 => print!(out; "  permtide")?,
+        4 => print!(out; "  deformation")?,
+        _ => print!(out; "  chains")?,
+    }
     if line % 2 == 0 {
-        io::write_all(OUT, b" forward: ");
+        print!(out; " forward: ")
     } else {
-        io::write_all(OUT, b" inverse: ");
+        print!(out; " inverse: ")
     }
 }
 
-fn print_totals(jobs: u64, tuples: u64, differences: u64) {
-    io::print_decimal(OUT, jobs);
-    io::write_all(OUT, b" jobs, ");
-    io::print_decimal(OUT, tuples);
-    io::write_all(OUT, b" tuples, ");
-    io::print_decimal(OUT, differences);
-    io::write_all(OUT, b" differences\n");
+fn print_totals(out: &impl Print, jobs: u64, tuples: u64, differences: u64) -> io::Result<()> {
+    println!(out; "{jobs} jobs, {tuples} tuples, {differences} differences")
 }
 
-fn print_record(number: u32, found: Found) {
-    io::write_all(OUT, b"record ");
-    io::print_decimal(OUT, number as u64);
+fn print_record(out: &impl Print, number: u32, found: Found) -> io::Result<()> {
+    print!(out; "record {number}")?;
     if found.whole {
-        io::write_all(OUT, b": ");
-        io::print_decimal(OUT, found.differences);
-        io::write_all(OUT, b" differences\n");
+        println!(out; ": {} differences", found.differences)
     } else {
-        io::write_all(OUT, b" is cut short\n");
+        println!(out; " is cut short")
     }
 }
 
@@ -92,38 +86,44 @@ fn sum(totals: &[u64; 12]) -> u64 {
     all
 }
 
-fn print_lines(jobs: &[u64; 12], tuples: &[u64; 12], differences: &[u64; 12]) {
+fn print_lines(
+    out: &impl Print,
+    jobs: &[u64; 12],
+    tuples: &[u64; 12],
+    differences: &[u64; 12],
+) -> io::Result<()> {
     for line in 0..12 {
-        print_name(line);
-        print_totals(jobs[line], tuples[line], differences[line]);
+        print_name(out, line)?;
+        print_totals(out, jobs[line], tuples[line], differences[line])?;
     }
+    Ok(())
 }
 
 // ----- the files --------------------------------------------------------------------------------
 
 // Whether the file had as many bytes left as the room has.
-fn read_whole(fd: i32, room: &mut [u8]) -> bool {
-    io::read_full(fd, room) == room.len()
+fn read_whole<R: Read>(file: &mut R, room: &mut [u8]) -> io::Result<bool> {
+    Ok(input::read_full(file, room)? == room.len())
 }
 
 // How many records the file says it has; none where it is not of form 1.
-fn record_count(fd: i32) -> u32 {
+fn record_count<R: Read>(file: &mut R) -> io::Result<u32> {
     let mut head = [0u8; 8];
-    if read_whole(fd, &mut head) {
+    if read_whole(file, &mut head)? {
         if words::read32(&head, 0) == 1 {
-            return words::read32(&head, 4);
+            return Ok(words::read32(&head, 4));
         }
     }
-    0
+    Ok(0)
 }
 
 // Closes the file; what stands after the last record is told.
-fn close(fd: i32) {
+fn close<R: Read + Drop>(out: &impl Print, mut file: R) -> io::Result<()> {
     let mut more = [0u8; 1];
-    if read_whole(fd, &mut more) {
-        io::write_all(OUT, b"bytes after the last record\n");
+    if read_whole(&mut file, &mut more)? {
+        println!(out; "bytes after the last record")?;
     }
-    libc::close(fd);
+    Ok(())
 }
 
 // ----- answers.bin ------------------------------------------------------------------------------
@@ -170,45 +170,46 @@ fn judged(both: &[u8], size: usize) -> Found
 }
 
 // The next bytes of the file are a record: the room is as long as it.
-fn judged_in(fd: i32, room: &mut [u8], size: usize) -> Found
+fn judged_in<R: Read>(file: &mut R, room: &mut [u8], size: usize) -> io::Result<Found>
     requires { size ≤ length room.old }
 {
-    if read_whole(fd, room) {
-        return judged(room, size);
+    if read_whole(file, room)? {
+        return Ok(judged(room, size));
     }
-    cut_short()
+    Ok(cut_short())
 }
 
 // A record's two lengths, and then the record.
-fn job_into(fd: i32, room: &mut [u8]) -> Found {
+fn job_into<R: Read>(file: &mut R, room: &mut [u8]) -> io::Result<Found> {
     let mut head = [0u8; 8];
-    if read_whole(fd, &mut head) {
+    if read_whole(file, &mut head)? {
         let size = words::read32(&head, 0) as usize;
         let end = size + words::read32(&head, 4) as usize;
         if end <= room.len() {
-            return judged_in(fd, &mut room[0..end], size);
+            return judged_in(file, &mut room[0..end], size);
         }
     }
-    cut_short()
+    Ok(cut_short())
 }
 
-fn next_job(fd: i32) -> Found {
-    let mut room = io::buffer();
-    job_into(fd, &mut room)
+fn next_job<R: Read>(file: &mut R) -> io::Result<Found> {
+    let mut room = [0u8; 4096];
+    job_into(file, &mut room)
 }
 
-fn replay_jobs(
-    fd: i32,
+fn replay_jobs<R: Read>(
+    out: &impl Print,
+    file: &mut R,
     count: u32,
     jobs: &mut [u64; 12],
     tuples: &mut [u64; 12],
     differences: &mut [u64; 12],
-) {
+) -> io::Result<()> {
     let mut i = 0;
     while i < count {
-        let found = next_job(fd);
+        let found = next_job(file)?;
         if found.differences != 0 {
-            print_record(i, found);
+            print_record(out, i, found)?;
         }
         if found.whole {
             add(jobs, found.line, 1);
@@ -216,78 +217,87 @@ fn replay_jobs(
             add(differences, found.line, found.differences);
             i += 1;
         } else {
-            print_record(i, found);
+            print_record(out, i, found)?;
             i = count;
         }
     }
+    Ok(())
 }
 
-fn replay_answers() {
+fn replay_answers(rt: &(impl Files + Print)) -> io::Result<()> {
     let mut jobs = [0u64; 12];
     let mut tuples = [0u64; 12];
     let mut differences = [0u64; 12];
-    let fd = os::open_read(b"answers.bin");
+    let mut file = fs::open(rt, "answers.bin")?;
+    let count = record_count(&mut file)?;
     replay_jobs(
-        fd,
-        record_count(fd),
+        rt,
+        &mut file,
+        count,
         &mut jobs,
         &mut tuples,
         &mut differences,
-    );
-    close(fd);
-    io::write_all(OUT, b"answers.bin: ");
-    print_totals(sum(&jobs), sum(&tuples), sum(&differences));
-    print_lines(&jobs, &tuples, &differences);
+    )?;
+    close(rt, file)?;
+    print!(rt; "answers.bin: ")?;
+    print_totals(rt, sum(&jobs), sum(&tuples), sum(&differences))?;
+    print_lines(rt, &jobs, &tuples, &differences)
 }
 
 // ----- geographic.bin ---------------------------------------------------------------------------
 
 // A tuple of `geographic`, which belongs to no line.
-fn next_place(fd: i32) -> Found {
+fn next_place<R: Read>(file: &mut R) -> io::Result<Found> {
     let mut place = [0u8; 72];
-    if read_whole(fd, &mut place) {
-        return Found {
+    if read_whole(file, &mut place)? {
+        return Ok(Found {
             whole: true,
             line: 0,
             tuples: 1,
             differences: widest(record::place(&place)),
-        };
+        });
     }
-    cut_short()
+    Ok(cut_short())
 }
 
-fn replay_places(fd: i32, count: u32, tuples: &mut [u64; 12], differences: &mut [u64; 12]) {
+fn replay_places<R: Read>(
+    out: &impl Print,
+    file: &mut R,
+    count: u32,
+    tuples: &mut [u64; 12],
+    differences: &mut [u64; 12],
+) -> io::Result<()> {
     let mut i = 0;
     while i < count {
-        let found = next_place(fd);
+        let found = next_place(file)?;
         if found.differences != 0 {
-            print_record(i, found);
+            print_record(out, i, found)?;
         }
         if found.whole {
             add(tuples, found.line, found.tuples);
             add(differences, found.line, found.differences);
             i += 1;
         } else {
-            print_record(i, found);
+            print_record(out, i, found)?;
             i = count;
         }
     }
+    Ok(())
 }
 
-fn replay_geographic() {
+fn replay_geographic(rt: &(impl Files + Print)) -> io::Result<()> {
     let mut tuples = [0u64; 12];
     let mut differences = [0u64; 12];
-    let fd = os::open_read(b"geographic.bin");
-    replay_places(fd, record_count(fd), &mut tuples, &mut differences);
-    close(fd);
-    io::write_all(OUT, b"geographic.bin: ");
-    io::print_decimal(OUT, sum(&tuples));
-    io::write_all(OUT, b" tuples, ");
-    io::print_decimal(OUT, sum(&differences));
-    io::write_all(OUT, b" differences\n");
+    let mut file = fs::open(rt, "geographic.bin")?;
+    let count = record_count(&mut file)?;
+    replay_places(rt, &mut file, count, &mut tuples, &mut differences)?;
+    close(rt, file)?;
+    let tuples = sum(&tuples);
+    let differences = sum(&differences);
+    println!(rt; "geographic.bin: {tuples} tuples, {differences} differences")
 }
 
-fn main() {
-    replay_answers();
-    replay_geographic();
+fn main(rt: HostRuntime) -> io::Result<()> {
+    replay_answers(&rt)?;
+    replay_geographic(&rt)
 }

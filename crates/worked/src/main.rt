@@ -11,9 +11,8 @@ use ellipsoid::Ellipsoid;
 use helmert::Helmert;
 use molodensky::{Molodensky, Moped};
 use rotation::Vec3;
+use std::io;
 use tuple::Tuple;
-
-const OUT: i32 = 1;
 
 // seconds of arc in a radian, thousandths of them, and π/648000
 const SECONDS: f64 = 206264.80624709636;
@@ -23,58 +22,52 @@ fn thousandths(x: f64) -> u64 {
     floats::to_bits(floats::abs(x) * 1000.0 + 4503599627370496.0) % 4503599627370496
 }
 
-fn print_digit(n: u64) {
-    io::print_decimal(OUT, n % 10);
+fn print_digit(out: &impl Print, n: u64) -> io::Result<()> {
+    print!(out; "{}", n % 10)
 }
 
 // 0 to 999, three digits
-fn print_part(n: u64) {
-    print_digit(n / 100);
-    print_digit(n / 10);
-    print_digit(n);
+fn print_part(out: &impl Print, n: u64) -> io::Result<()> {
+    print_digit(out, n / 100)?;
+    print_digit(out, n / 10)?;
+    print_digit(out, n)
 }
 
-fn print_length(x: f64) {
+fn print_length(out: &impl Print, x: f64) -> io::Result<()> {
     let n = thousandths(x);
     if floats::negative(x) {
-        io::write_all(OUT, b"-");
+        print!(out; "-")?;
     }
-    io::print_decimal(OUT, n / 1000);
-    io::write_all(OUT, b".");
-    print_part(n);
+    print!(out; "{}.", n / 1000)?;
+    print_part(out, n)
 }
 
-fn print_angle(x: f64) {
+fn print_angle(out: &impl Print, x: f64) -> io::Result<()> {
     let n = thousandths(x * SECONDS);
     if floats::negative(x) {
-        io::write_all(OUT, b"-");
+        print!(out; "-")?;
     }
-    io::print_decimal(OUT, n / 3600000);
-    io::write_all(OUT, b" ");
-    io::print_decimal(OUT, n / 60000 % 60);
-    io::write_all(OUT, b" ");
-    io::print_decimal(OUT, n / 1000 % 60);
-    io::write_all(OUT, b".");
-    print_part(n);
+    print!(out; "{} {} {}.", n / 3600000, n / 60000 % 60, n / 1000 % 60)?;
+    print_part(out, n)
 }
 
-fn print_cartesian(v: Tuple) {
-    print_length(v.x);
-    io::write_all(OUT, b"  ");
-    print_length(v.y);
-    io::write_all(OUT, b"  ");
-    print_length(v.z);
-    io::write_all(OUT, b"\n");
+fn print_cartesian(out: &impl Print, v: Tuple) -> io::Result<()> {
+    print_length(out, v.x)?;
+    print!(out; "  ")?;
+    print_length(out, v.y)?;
+    print!(out; "  ")?;
+    print_length(out, v.z)?;
+    println!(out;)
 }
 
 // latitude first, as the document has it
-fn print_geographic(v: Tuple) {
-    print_angle(v.y);
-    io::write_all(OUT, b" N  ");
-    print_angle(v.x);
-    io::write_all(OUT, b" E  ");
-    print_length(v.z);
-    io::write_all(OUT, b"\n");
+fn print_geographic(out: &impl Print, v: Tuple) -> io::Result<()> {
+    print_angle(out, v.y)?;
+    print!(out; " N  ")?;
+    print_angle(out, v.x)?;
+    print!(out; " E  ")?;
+    print_length(out, v.z)?;
+    println!(out;)
 }
 
 fn radians(degrees: f64, minutes: f64, seconds: f64) -> f64 {
@@ -91,16 +84,16 @@ fn north_sea() -> Tuple {
     }
 }
 
-fn geocentric() {
+fn geocentric(out: &impl Print) -> io::Result<()> {
     let wgs84 = Ellipsoid::named(2);
     let there = cart::cart_fwd(wgs84, north_sea());
-    io::write_all(OUT, b"geographic to geocentric, WGS 84\n  ours       ");
-    print_cartesian(there.tuple);
-    io::write_all(OUT, b"  published  3771793.968  140253.342  5124304.349\n");
+    print!(out; "geographic to geocentric, WGS 84\n  ours       ")?;
+    print_cartesian(out, there.tuple)?;
+    println!(out; "  published  3771793.968  140253.342  5124304.349")?;
     let back = cart::cart_inv(cart::Inverse::new(wgs84), there.tuple);
-    io::write_all(OUT, b"and back\n  ours       ");
-    print_geographic(back.tuple);
-    io::write_all(OUT, b"  published  53 48 33.820 N  2 7 46.380 E  73.000\n");
+    print!(out; "and back\n  ours       ")?;
+    print_geographic(out, back.tuple)?;
+    println!(out; "  published  53 48 33.820 N  2 7 46.380 E  73.000")
 }
 
 // WGS 72 to WGS 84: 4.5 m along Z, rz of an arc second's part, 0.219 ppm
@@ -129,13 +122,13 @@ fn wgs72(convention: u32, rz: f64) -> Tuple {
     helmert::fixed_step(helmert::prepare(h), false, v)
 }
 
-fn helmert_shifts() {
-    io::write_all(OUT, b"position vector, WGS 72 to WGS 84\n  ours       ");
-    print_cartesian(wgs72(1, 0.554));
-    io::write_all(OUT, b"  published  3657660.78  255778.43  5201387.75\n");
-    io::write_all(OUT, b"coordinate frame, the same\n  ours       ");
-    print_cartesian(wgs72(2, -0.554));
-    io::write_all(OUT, b"  published  3657660.78  255778.43  5201387.75\n");
+fn helmert_shifts(out: &impl Print) -> io::Result<()> {
+    print!(out; "position vector, WGS 72 to WGS 84\n  ours       ")?;
+    print_cartesian(out, wgs72(1, 0.554))?;
+    println!(out; "  published  3657660.78  255778.43  5201387.75")?;
+    print!(out; "coordinate frame, the same\n  ours       ")?;
+    print_cartesian(out, wgs72(2, -0.554))?;
+    println!(out; "  published  3657660.78  255778.43  5201387.75")
 }
 
 // La Canoa to REGVEN by the coordinate frame about a pivot in Venezuela, EPSG method 1034
@@ -164,7 +157,7 @@ fn regven(inverse: bool, v: Tuple) -> Tuple {
     helmert::fixed_step(badekas::prepare(b), inverse, v)
 }
 
-fn badekas_shift() {
+fn badekas_shift(out: &impl Print) -> io::Result<()> {
     let la_canoa = Tuple {
         x: 2550408.96,
         y: -5749912.26,
@@ -172,15 +165,12 @@ fn badekas_shift() {
         t: 0.0,
     };
     let there = regven(false, la_canoa);
-    io::write_all(
-        OUT,
-        b"Molodensky-Badekas, La Canoa to REGVEN\n  ours       ",
-    );
-    print_cartesian(there);
-    io::write_all(OUT, b"  published  2550138.45  -5749799.87  1054530.82\n");
-    io::write_all(OUT, b"and back\n  ours       ");
-    print_cartesian(regven(true, there));
-    io::write_all(OUT, b"  published  2550408.96  -5749912.26  1054891.11\n");
+    print!(out; "Molodensky-Badekas, La Canoa to REGVEN\n  ours       ")?;
+    print_cartesian(out, there)?;
+    println!(out; "  published  2550138.45  -5749799.87  1054530.82")?;
+    print!(out; "and back\n  ours       ")?;
+    print_cartesian(out, regven(true, there))?;
+    println!(out; "  published  2550408.96  -5749912.26  1054891.11")
 }
 
 // WGS 84 to ED50
@@ -195,18 +185,18 @@ fn ed50(flags: u32) -> Tuple {
     molodensky::common(Moped::new(m), false, north_sea())
 }
 
-fn molodensky_shifts() {
-    io::write_all(OUT, b"abridged Molodensky, WGS 84 to ED50\n  ours       ");
-    print_geographic(ed50(3));
-    io::write_all(OUT, b"  published  53 48 36.563 N  2 7 51.477 E  28.091\n");
-    io::write_all(OUT, b"full Molodensky, the same\n  ours       ");
-    print_geographic(ed50(2));
-    io::write_all(OUT, b"  by PROJ    53 48 36.565 N  2 7 51.477 E  28.021\n");
+fn molodensky_shifts(out: &impl Print) -> io::Result<()> {
+    print!(out; "abridged Molodensky, WGS 84 to ED50\n  ours       ")?;
+    print_geographic(out, ed50(3))?;
+    println!(out; "  published  53 48 36.563 N  2 7 51.477 E  28.091")?;
+    print!(out; "full Molodensky, the same\n  ours       ")?;
+    print_geographic(out, ed50(2))?;
+    println!(out; "  by PROJ    53 48 36.565 N  2 7 51.477 E  28.021")
 }
 
-fn main() {
-    geocentric();
-    helmert_shifts();
-    badekas_shift();
-    molodensky_shifts();
+fn main(rt: HostRuntime) -> io::Result<()> {
+    geocentric(&rt)?;
+    helmert_shifts(&rt)?;
+    badekas_shift(&rt)?;
+    molodensky_shifts(&rt)
 }

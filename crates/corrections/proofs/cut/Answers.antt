@@ -1,9 +1,6 @@
--- What the body does is, step by step, what the definition says. Assumes nothing.
+-- Each list has room for the longest, and m is at most that. Assumes nothing.
 use Rattle.std.proofs.Common.{sym, arith, length-take-le}
 use Rattle.corrections.proofs.cut.Goals as goal
-
-pub size-m-requires : goal.size-m-requires
-size-m-requires c = tt
 
 pub slice_bounds-case-end-2 : goal.slice_bounds-case-end-2
 slice_bounds-case-end-2 c = sym (length-take-le _ _ (omega (arith, c.size-m.ensures, c.requires.list-long)))
@@ -25,9 +22,3 @@ slice_bounds-case-end-12 c = sym (length-take-le _ _ (omega (arith, c.size-m.ens
 
 pub slice_bounds-case-end-14 : goal.slice_bounds-case-end-14
 slice_bounds-case-end-14 c = sym (length-take-le _ _ (omega (arith, c.size-m.ensures, c.requires.fresh-track-long)))
-
-pub case-requires : goal.case-requires
-case-requires c = tt
-
-pub returns : goal.returns
-returns c = tt

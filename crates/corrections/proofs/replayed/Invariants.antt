@@ -6,9 +6,8 @@ use Rattle.std.proofs.Common.{◌≡◌, ◌-◌, ◌≤◌, length}
 use Rattle.corrections.proofs.replayed.Given as goal
 
 abbrev pub invariant-loop-k : goal.invariant-loop-k
-invariant-loop-k l =
+invariant-loop-k g l =
     (l.k ≤ 960) × (length l.s ≡ length l.initial.s) × (length l.list ≡ length l.initial.list) × (length l.own ≡ length l.initial.own) × (length l.results ≡ length l.initial.results) × (length l.track ≡ length l.initial.track) × (length l.old ≡ length l.initial.old) × (length l.fresh_results ≡ length l.initial.fresh_results) × (length l.fresh_track ≡ length l.initial.fresh_track)
 
 abbrev pub decreases-loop-k : goal.decreases-loop-k
-decreases-loop-k l =
-    960 - l.k
+decreases-loop-k g l = 960 - l.k

@@ -9,5 +9,4 @@ invariant-loop-k l =
     (l.k ≤ 6) × (length l.list ≡ length l.initial.list) × (length l.own ≡ length l.initial.own) × (length l.results ≡ length l.initial.results) × (length l.track ≡ length l.initial.track) × (length l.old ≡ length l.initial.old) × (length l.fresh_results ≡ length l.initial.fresh_results) × (length l.fresh_track ≡ length l.initial.fresh_track)
 
 abbrev pub decreases-loop-k : goal.decreases-loop-k
-decreases-loop-k l =
-    6 - l.k
+decreases-loop-k l = 6 - l.k

@@ -1,4 +1,4 @@
-use Rattle.std.proofs.Common.{◌-◌, length-set, rules}
+use Rattle.std.proofs.Common.{length-set, rules}
 use Rattle.corrections_columns.proofs.columns_of.Goals as goal
 
 pub loop-i-preserved : goal.loop-i-preserved

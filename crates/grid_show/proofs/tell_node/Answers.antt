@@ -5,7 +5,7 @@ use Rattle.text.proofs.Laws.{place_within}
 use Rattle.grid_show.proofs.tell_node.Goals as goal
 
 pub slice_bounds-room-end : goal.slice_bounds-room-end
-slice_bounds-room-end c = place_within _ _ c.put_node-m.ensures
+slice_bounds-room-end g c = place_within _ _ c.put_node-m.ensures
 
 pub slice_bounds-write_all-end : goal.slice_bounds-write_all-end
-slice_bounds-write_all-end c = sym (length-take-le _ _ (place_within _ _ c.put_node-m.ensures))
+slice_bounds-write_all-end g c = sym (length-take-le _ _ (place_within _ _ c.put_node-m.ensures))

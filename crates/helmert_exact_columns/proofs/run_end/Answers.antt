@@ -1,4 +1,4 @@
--- In own_epoch mode no row is told of; in running mode the call tells of them. Assumes nothing.
+-- In own-epoch mode no row is told of; in running mode the call tells of them. Assumes nothing.
 use borrow.Author.Rules.{rules}
 use native.Mathlib.Omega.{arith}
 use Rattle.helmert_exact_columns.proofs.run_end.Goals as goal

@@ -1,4 +1,4 @@
--- The list that the step of both modes makes is, in own_epoch mode, the definition's (`own_list`).
+-- The list that the step of both modes makes is, in own-epoch mode, the definition's (`own_list`).
 -- Assumes nothing.
 use mathlib.Core.Path.{◌∙◌}
 use Rattle.columns.specs.Columns.{flat_of}

@@ -1,4 +1,4 @@
--- Exact angles go to `exact_matrix`. The two small_angle matrices are written out in the code; that the
+-- Exact angles go to `exact_matrix`. The two small-angle matrices are written out in the code; that the
 -- definition's products with 1.0 give the same nine numbers, for every angle that binary64 holds, is
 -- `small_angle_rows` and, transposed, `small_angle_columns`. Assumes nothing.
 use Rattle.rotation.specs.Matrix.{rotation_matrix_of}

@@ -10,5 +10,5 @@ slice_bounds-write_all-end c = sym (length-take-le _ _ c.mend-m.ensures.1.0)
 pub slice_bounds-room-end : goal.slice_bounds-room-end
 slice_bounds-room-end c = place_within _ _ c.answer-m.ensures
 
-pub slice_bounds-write_all-end-else-arg_count-gt1 : goal.slice_bounds-write_all-end-else-arg_count-gt1
-slice_bounds-write_all-end-else-arg_count-gt1 c = sym (length-take-le _ _ (place_within _ _ c.answer-m.ensures))
+pub slice_bounds-write_all-end-else-has_word : goal.slice_bounds-write_all-end-else-has_word
+slice_bounds-write_all-end-else-has_word c = sym (length-take-le _ _ (place_within _ _ c.answer-m.ensures))
