@@ -107,7 +107,7 @@ pub fn meridian(k: Inverse, p: f64, s0: f64, c0: f64, a: f64) -> Legs
     }
 }
 
-// The height, with two hypotenuses at hand: inner that of CC and typeof.ar.S1, outer that of CC and S1.
+// The height, with two hypotenuses at hand: inner that of CC and ar·S1, outer that of CC and S1.
 pub fn height_with(k: Inverse, p: f64, z: f64, m: Legs, inner: f64, outer: f64) -> f64
     ensures { result ≡ height_with k p z m inner outer }
 {

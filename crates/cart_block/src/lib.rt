@@ -135,7 +135,7 @@ fn level_block(
     outer: &[f64; WIDTH],
     h: &mut [f64; WIDTH],
 )
-    ensures { Each h.new (λ (j : ℕ). level_of k (at p.now j) (at z.now j) (height_with k (at p.now j) (at z.now j) (record { s1 = at s1.entry.now j; cc = at cc.now j }) (at inner.now j) (at outer.now j))) }
+    ensures { Each h.new (λ (j : ℕ). level_of k (at p.now j) (at z.now j) (height_with k (at p.now j) (at z.now j) (record { s1 = at s1.now j; cc = at cc.now j }) (at inner.now j) (at outer.now j))) }
 {
     *h = [0.0; WIDTH];
     let mut i = 0;
@@ -162,7 +162,7 @@ fn height_block(
     outer: &mut [f64; WIDTH],
     h: &mut [f64; WIDTH],
 )
-    ensures { Each h.new (λ (j : ℕ). level_of k (at p.now j) (at z.now j) (height_of k (at p.now j) (at z.now j) (record { s1 = at s1.entry.now j; cc = at cc.now j }))) }
+    ensures { Each h.new (λ (j : ℕ). level_of k (at p.now j) (at z.now j) (height_of k (at p.now j) (at z.now j) (record { s1 = at s1.now j; cc = at cc.now j }))) }
 {
     blocks::scaled(k.ar, s1, h);
     hypot_block::hypot_block(cc, h, inner);

@@ -213,7 +213,9 @@ fn short(
     )
 }
 
-// A sheet of one step over a long list: its plan alone is made.
+// A sheet of one step over a long list: its plan alone is made. It stays a call of its own, so that
+// a list that takes another way has no room for this one.
+#[inline(never)]
 fn alone(
     inverse: bool,
     s: &[u8],

@@ -30,7 +30,9 @@ pub fn plan_at(inverse: bool, s: &[u8], i: usize) -> Plan
 }
 
 // The first n steps, sixteen at most. The other places have the first step's plan, and no one reads
-// them.
+// them. It stays a call of its own: the room in which the array is made is free again when the steps
+// run.
+#[inline(never)]
 pub fn plans_of(inverse: bool, s: &[u8], n: usize) -> [Plan; 16]
     ensures { Ready (plan_at inverse s.now) (at_most_sixteen n) result }
 {
