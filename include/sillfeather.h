@@ -41,13 +41,13 @@
  *             program that is linked with -ffast-math may set both. The archive rounds each
  *             multiplication and each addition apart; whoever compiles it again must not let the
  *             compiler contract the two into one operation.
- *   Stack     sillfeather_check needs up to 4 kB of stack, sillfeather_shift up to 24 kB,
+ *   Stack     sillfeather_check needs up to 4 kB of stack, sillfeather_shift up to 20 kB,
  *             sillfeather_keep up to 12 kB, sillfeather_correct up to 10 kB, and so does each of
  *             these by the name that ends in _reach; over columns sillfeather_shift_columns up to
  *             10 kB, the kept run's two up to 6 kB, and by the name that ends in _reach 8 kB;
  *             sillfeather_rescue up to 6 kB, sillfeather_check_profile up to 4 kB,
- *             sillfeather_closure up to 24 kB, sillfeather_check_grid up to 4 kB,
- *             sillfeather_shift_grid and sillfeather_closure_grid up to 24 kB, each
+ *             sillfeather_closure up to 20 kB, sillfeather_check_grid up to 4 kB,
+ *             sillfeather_shift_grid and sillfeather_closure_grid up to 20 kB, each
  *             sillfeather_add_ function up to 32 kB. examples/c/stack.c holds these limits.
  */
 #ifndef SILLFEATHER_H

@@ -203,7 +203,7 @@ int main(void) {
         uint32_t (*call)(void);
         size_t limit;
     } calls[] = {{"check", check, 4096},
-                 {"shift", shift, 24576},
+                 {"shift", shift, 20480},
                  {"keep", keep, 12288},
                  {"correct", correct, 10240},
                  {"shift over columns", shift_columns, 10240},
@@ -213,10 +213,10 @@ int main(void) {
                  {"correct over columns, with its numbers", correct_columns_reach, 8192},
                  {"rescue", rescue, 6144},
                  {"check with a profile", check_profile, 4096},
-                 {"closure", closure, 24576},
+                 {"closure", closure, 20480},
                  {"check of a grid", check_grid, 4096},
-                 {"shift with a grid", shift_grid, 24576},
-                 {"closure with a grid", closure_grid, 24576},
+                 {"shift with a grid", shift_grid, 20480},
+                 {"closure with a grid", closure_grid, 20480},
                  {"add", add, 32768}};
     int passed = 0, failed = 0;
     void *stack;

@@ -254,7 +254,7 @@ fn over_list(
         return alone(inverse, s, list, velocities, marks, grid);
     }
     let plans = sheet_plans::plans_of(inverse, s, n);
-    windows::over(inverse, plans, n, list, velocities, marks, grid)
+    windows::over(inverse, &plans, n, list, velocities, marks, grid)
 }
 
 // ----- without a grid --------------------------------------------------------------------------

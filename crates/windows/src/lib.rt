@@ -46,9 +46,9 @@ fn at_start(plan: Plan) -> Standing
     }
 }
 
-fn starts(plans: [Plan; 16], n: usize) -> [Standing; 16]
+fn starts(plans: &[Plan; 16], n: usize) -> [Standing; 16]
     requires { n ≤ 16 }
-    ensures { result ≡ starts_of (plan_in plans) n }
+    ensures { result ≡ starts_of (plan_in plans.now) n }
 {
     let mut standings = [no_standing(); 16];
     let mut i = 0;
@@ -61,8 +61,8 @@ fn starts(plans: [Plan; 16], n: usize) -> [Standing; 16]
 }
 
 // Each step's tally.
-fn tallies_of(standings: [Standing; 16]) -> [Tally; 16]
-    ensures { result ≡ tallies_of standings }
+fn tallies_of(standings: &[Standing; 16]) -> [Tally; 16]
+    ensures { result ≡ tallies_of standings.now }
 {
     let mut tallies = [tally::none(); 16];
     let mut i = 0;
@@ -122,10 +122,10 @@ fn moved_on(
 // All steps over a window in columns, whose first fix has index `first`, from the standings before
 // it.
 fn forward(
-    plans: [Plan; 16],
+    plans: &[Plan; 16],
     n: usize,
     first: usize,
-    before: [Standing; 16],
+    standings: &mut [Standing; 16],
     x: &mut [f64],
     y: &mut [f64],
     z: &mut [f64],
@@ -133,13 +133,12 @@ fn forward(
     velocities: &[f64],
     marks: &[u8],
     grid: &[u8],
-) -> [Standing; 16]
-    requires { (n ≤ 16) × Level x.old y.old z.old t.old × (first + length x.old < 4611686018427387904) × Few first before }
+)
+    requires { (n ≤ 16) × Level x.old y.old z.old t.old × (first + length x.old < 4611686018427387904) × Few first standings.old }
     ensures { (flat_of x.new y.new z.new t.new
-        ≡ (gone_of false first (passes_from (pass_in (lent_of velocities.now marks.now grid.now) plans) n 0) before (flat_of x.old y.old z.old t.old)).list)
-        × (result ≡ (gone_of false first (passes_from (pass_in (lent_of velocities.now marks.now grid.now) plans) n 0) before (flat_of x.old y.old z.old t.old)).standings) }
+        ≡ (gone_of false first (passes_from (pass_in (lent_of velocities.now marks.now grid.now) plans.now) n 0) standings.old (flat_of x.old y.old z.old t.old)).list)
+        × (standings.new ≡ (gone_of false first (passes_from (pass_in (lent_of velocities.now marks.now grid.now) plans.now) n 0) standings.old (flat_of x.old y.old z.old t.old)).standings) }
 {
-    let mut standings = before;
     let mut i = 0;
     while i < n {
         let plan = plans[i]; // the first step first
@@ -148,15 +147,14 @@ fn forward(
         standings[i] = next; // from there the next window goes on
         i += 1;
     }
-    standings
 }
 
 // The same inverse. Two loops, since the list that a step gets is in each what another step left.
 fn backward(
-    plans: [Plan; 16],
+    plans: &[Plan; 16],
     n: usize,
     first: usize,
-    before: [Standing; 16],
+    standings: &mut [Standing; 16],
     x: &mut [f64],
     y: &mut [f64],
     z: &mut [f64],
@@ -164,13 +162,12 @@ fn backward(
     velocities: &[f64],
     marks: &[u8],
     grid: &[u8],
-) -> [Standing; 16]
-    requires { (n ≤ 16) × Level x.old y.old z.old t.old × (first + length x.old < 4611686018427387904) × Few first before }
+)
+    requires { (n ≤ 16) × Level x.old y.old z.old t.old × (first + length x.old < 4611686018427387904) × Few first standings.old }
     ensures { (flat_of x.new y.new z.new t.new
-        ≡ (gone_of true first (passes_from (pass_in (lent_of velocities.now marks.now grid.now) plans) n 0) before (flat_of x.old y.old z.old t.old)).list)
-        × (result ≡ (gone_of true first (passes_from (pass_in (lent_of velocities.now marks.now grid.now) plans) n 0) before (flat_of x.old y.old z.old t.old)).standings) }
+        ≡ (gone_of true first (passes_from (pass_in (lent_of velocities.now marks.now grid.now) plans.now) n 0) standings.old (flat_of x.old y.old z.old t.old)).list)
+        × (standings.new ≡ (gone_of true first (passes_from (pass_in (lent_of velocities.now marks.now grid.now) plans.now) n 0) standings.old (flat_of x.old y.old z.old t.old)).standings) }
 {
-    let mut standings = before;
     let mut i = n;
     while 0 < i {
         i -= 1;
@@ -179,16 +176,15 @@ fn backward(
         let next = moved_on(plan, first, standing, x, y, z, t, velocities, marks, grid);
         standings[i] = next;
     }
-    standings
 }
 
 // Either way.
 fn all_steps(
     inverse: bool,
-    plans: [Plan; 16],
+    plans: &[Plan; 16],
     n: usize,
     first: usize,
-    before: [Standing; 16],
+    standings: &mut [Standing; 16],
     x: &mut [f64],
     y: &mut [f64],
     z: &mut [f64],
@@ -196,25 +192,30 @@ fn all_steps(
     velocities: &[f64],
     marks: &[u8],
     grid: &[u8],
-) -> [Standing; 16]
-    requires { (n ≤ 16) × Level x.old y.old z.old t.old × (first + length x.old < 4611686018427387904) × Few first before }
+)
+    requires { (n ≤ 16) × Level x.old y.old z.old t.old × (first + length x.old < 4611686018427387904) × Few first standings.old }
     ensures { (flat_of x.new y.new z.new t.new
-        ≡ (gone_of inverse first (passes_from (pass_in (lent_of velocities.now marks.now grid.now) plans) n 0) before (flat_of x.old y.old z.old t.old)).list)
-        × (result ≡ (gone_of inverse first (passes_from (pass_in (lent_of velocities.now marks.now grid.now) plans) n 0) before (flat_of x.old y.old z.old t.old)).standings) }
+        ≡ (gone_of inverse first (passes_from (pass_in (lent_of velocities.now marks.now grid.now) plans.now) n 0) standings.old (flat_of x.old y.old z.old t.old)).list)
+        × (standings.new ≡ (gone_of inverse first (passes_from (pass_in (lent_of velocities.now marks.now grid.now) plans.now) n 0) standings.old (flat_of x.old y.old z.old t.old)).standings) }
 {
     if inverse {
-        return backward(plans, n, first, before, x, y, z, t, velocities, marks, grid);
+        backward(
+            plans, n, first, standings, x, y, z, t, velocities, marks, grid,
+        )
+    } else {
+        forward(
+            plans, n, first, standings, x, y, z, t, velocities, marks, grid,
+        )
     }
-    forward(plans, n, first, before, x, y, z, t, velocities, marks, grid)
 }
 
 // A window of a flat list, through columns that have its rows.
 fn window(
     inverse: bool,
-    plans: [Plan; 16],
+    plans: &[Plan; 16],
     n: usize,
     first: usize,
-    before: [Standing; 16],
+    standings: &mut [Standing; 16],
     list: &mut [f64],
     x: &mut [f64],
     y: &mut [f64],
@@ -223,17 +224,16 @@ fn window(
     velocities: &[f64],
     marks: &[u8],
     grid: &[u8],
-) -> [Standing; 16]
-    requires { (n ≤ 16) × Level x.old y.old z.old t.old × (length list.old ≡ 4 * length x.old) × (first + length x.old < 4611686018427387904) × Few first before }
-    ensures { (list.new ≡ (gone_of inverse first (passes_from (pass_in (lent_of velocities.now marks.now grid.now) plans) n 0) before list.old).list)
-        × (result ≡ (gone_of inverse first (passes_from (pass_in (lent_of velocities.now marks.now grid.now) plans) n 0) before list.old).standings) }
+)
+    requires { (n ≤ 16) × Level x.old y.old z.old t.old × (length list.old ≡ 4 * length x.old) × (first + length x.old < 4611686018427387904) × Few first standings.old }
+    ensures { (list.new ≡ (gone_of inverse first (passes_from (pass_in (lent_of velocities.now marks.now grid.now) plans.now) n 0) standings.old list.old).list)
+        × (standings.new ≡ (gone_of inverse first (passes_from (pass_in (lent_of velocities.now marks.now grid.now) plans.now) n 0) standings.old list.old).standings) }
 {
     columns::to_columns(list, x, y, z, t);
-    let standings = all_steps(
-        inverse, plans, n, first, before, x, y, z, t, velocities, marks, grid,
+    all_steps(
+        inverse, plans, n, first, standings, x, y, z, t, velocities, marks, grid,
     );
     columns::to_flat(x, y, z, t, list);
-    standings
 }
 
 // ----- window after window ---------------------------------------------------------------------
@@ -242,15 +242,15 @@ fn window(
 // places.
 pub fn over(
     inverse: bool,
-    plans: [Plan; 16],
+    plans: &[Plan; 16],
     n: usize,
     list: &mut [f64],
     velocities: &[f64],
     marks: &[u8],
     grid: &[u8],
 ) -> [Tally; 16]
-    ensures { (list.new ≡ (gone_over inverse (lent_of velocities.now marks.now grid.now) plans n list.old).list)
-        × (result ≡ tallies_of (gone_over inverse (lent_of velocities.now marks.now grid.now) plans n list.old).standings) }
+    ensures { (list.new ≡ (gone_over inverse (lent_of velocities.now marks.now grid.now) plans.now n list.old).list)
+        × (result ≡ tallies_of (gone_over inverse (lent_of velocities.now marks.now grid.now) plans.now n list.old).standings) }
 {
     let mut x = step_windows::room();
     let mut y = step_windows::room();
@@ -264,12 +264,12 @@ pub fn over(
         let m = step_windows::rows_of(rows - i);
         let a = 4 * i;
         let e = 4 * (i + m);
-        let after = window(
+        window(
             inverse,
             plans,
             steps,
             i, // the index of the window's first fix
-            standings,
+            &mut standings,
             &mut list[a..e],
             &mut x[..m],
             &mut y[..m],
@@ -279,8 +279,7 @@ pub fn over(
             marks,
             grid,
         );
-        standings = after;
         i += m;
     }
-    tallies_of(standings)
+    tallies_of(&standings)
 }

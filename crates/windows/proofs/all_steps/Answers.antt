@@ -4,5 +4,5 @@ use Rattle.windows.proofs.all_steps.Goals as goal
 pub returns-then-inverse : goal.returns-then-inverse
 returns-then-inverse c = rw c.if-inverse.true c.backward.ensures
 
-pub returns : goal.returns
-returns c = rw c.if-inverse.false c.forward.ensures
+pub returns-else-inverse : goal.returns-else-inverse
+returns-else-inverse c = rw c.if-inverse.false c.forward.ensures

@@ -25,8 +25,8 @@ slice_bounds-window-end-in-loop-i-3 c = let l = c.loop-i in sym (room_rows l.z c
 pub slice_bounds-window-end-in-loop-i-4 : goal.slice_bounds-window-end-in-loop-i-4
 slice_bounds-window-end-in-loop-i-4 c = let l = c.loop-i in sym (room_rows l.t c.rows_of-m.result l.invariant.4 c.rows_of-m.ensures.1)
 
-pub window-after-requires : goal.window-after-requires
-window-after-requires c =
+pub window-requires : goal.window-requires
+window-requires c =
     let l = c.loop-i in
     let r = c.rows_of-m.ensures in
     let m = c.rows_of-m.result in
@@ -49,8 +49,8 @@ loop-i-preserved c =
     let l = c.loop-i in
     let r = c.rows_of-m.ensures in
     let m = c.rows_of-m.result in
-    let e = c.window-after.ensures in
-    let w = c.window-after.new in
+    let e = c.window.ensures in
+    let w = c.window.new in
     let more = c.loop-i-test.true in
     let fits = fits-list l.i m l.invariant.0 l.invariant.6.long r.0 more in
     let k = part-taken l.list l.i m in (
