@@ -253,7 +253,8 @@ fn over_list(
     if n == 1 {
         return alone(inverse, s, list, velocities, marks, grid);
     }
-    let plans = sheet_plans::plans_of(inverse, s, n);
+    let mut plans = [sheet_plans::NO_PLAN; 16];
+    sheet_plans::plans_of(inverse, s, n, &mut plans);
     windows::over(inverse, &plans, n, list, velocities, marks, grid)
 }
 

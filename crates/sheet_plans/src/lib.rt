@@ -10,7 +10,17 @@ ghost use Rattle.std.specs.Prelude.{◌≡◌, not, cond, eqb};
 ghost use Rattle.plans.specs.Plans.{Ready, at_most_sixteen};
 ghost use Rattle.sheet_plans.specs.Sheets.{plan_at};
 
+use ellipsoid::Ellipsoid;
 use plans::Plan;
+
+// What stands where no step is.
+pub const NO_PLAN: Plan = Plan::CartForward(Ellipsoid {
+    a: 0.0,
+    f: 0.0,
+    es: 0.0,
+    b: 0.0,
+    eps: 0.0,
+});
 
 // A step's direction: turned round where its inverted word is 1.
 pub fn reversed_by(inverse: bool, inverted: u32) -> bool
@@ -29,17 +39,15 @@ pub fn plan_at(inverse: bool, s: &[u8], i: usize) -> Plan
     plans::plan_of(inv, kind, b)
 }
 
-// The first n steps, sixteen at most. The other places have the first step's plan, and no one reads
-// them.
-pub fn plans_of(inverse: bool, s: &[u8], n: usize) -> [Plan; 16]
-    ensures { Ready (plan_at inverse s.now) (at_most_sixteen n) result }
+// The first n steps, sixteen at most, put into an array whose other places no one reads. It is lent:
+// an array that is given back would stand twice on the stack, 2.7 kB each.
+pub fn plans_of(inverse: bool, s: &[u8], n: usize, plans: &mut [Plan; 16])
+    ensures { Ready (plan_at inverse s.now) (at_most_sixteen n) plans.new }
 {
     let steps = plans::at_most_sixteen(n);
-    let mut plans = [plan_at(inverse, s, 0); 16];
-    let mut i = 1;
+    let mut i = 0;
     while i < steps {
         plans[i] = plan_at(inverse, s, i);
         i += 1;
     }
-    plans
 }

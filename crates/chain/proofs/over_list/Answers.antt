@@ -26,6 +26,6 @@ pub returns : goal.returns
 returns c =
     let e = c.over.ensures in
     let a = c.args in
-    let ready = rw (sixteen_or_fewer a.n c.requires.0) at c.plans_of-plans.ensures in
+    let ready = rw (sixteen_or_fewer a.n c.requires.0) at c.plans_of.ensures in
     let law = windows_are_the_chain a.inverse (lent_of a.velocities.now a.marks.now a.grid.now) a.s.now _ a.n a.list.now (omega (arith, c.requires.1)) c.requires.0 ready in
     (e.0 ∙ law.0, e.1 ∙ law.1)
