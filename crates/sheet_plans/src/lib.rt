@@ -13,7 +13,7 @@ ghost use Rattle.sheet_plans.specs.Sheets.{plan_at};
 use ellipsoid::Ellipsoid;
 use plans::Plan;
 
-// What stands where no step is.
+// Fills the places past the last step, which no one reads.
 pub const NO_PLAN: Plan = Plan::CartForward(Ellipsoid {
     a: 0.0,
     f: 0.0,

@@ -5,8 +5,8 @@
 // state that it goes on from, and its tally so far. Plans are made by the caller and the columns'
 // room here, once a call. Proved for every list and plans, in both directions: the list and the
 // tallies are those of all steps over the whole list (plans, specs/Windows.antt); a rest shorter
-// than a tuple stays as it is. No rounding but the steps' own. Used by the chain's flat entry and by what
-// runs a record.
+// than a tuple stays as it is. No rounding but the steps' own. Plans are lent and standings changed
+// where they lie: an array by value stands twice on the stack. Used by the chain's flat entry.
 #![tactic(auto)]
 
 ghost use Rattle.std.specs.Prelude.{◌≡◌, true, false, ◌+◌, ◌*◌, ◌≤◌, ◌<◌, length};
@@ -120,7 +120,7 @@ fn moved_on(
 }
 
 // All steps over a window in columns, whose first fix has index `first`, from the standings before
-// it.
+// it, which become those after it.
 fn forward(
     plans: &[Plan; 16],
     n: usize,
