@@ -95,15 +95,13 @@ fn sizes(
     *quarters = [0; WIDTH];
     *octants = [0; WIDTH];
     let mut n: u64 = 0;
-    let mut i = 0;
-    while i < WIDTH {
+    for i in 0..WIDTH {
         let p = sized(y[i], x[i]);
         larger[i] = p.larger;
         smaller[i] = p.smaller;
         quarters[i] = p.quarters;
         octants[i] = p.octant;
         n += p.odd;
-        i += 1;
     }
     n
 }
@@ -136,8 +134,7 @@ fn pairs(
     ensures { Each r.new (λ (j : ℕ). quick_at y.now larger.now smaller.now quarters.now octants.now j) }
 {
     *r = [0.0; WIDTH];
-    let mut h = 0;
-    while h < 8 {
+    for h in 0..8 {
         let i = 2 * h;
         let j = 2 * h + 1;
         let c = arctan::cell_at(cell_of(quarters[i]));
@@ -148,7 +145,6 @@ fn pairs(
         let w = quick(y[j], p, d, larger[j], smaller[j]);
         r[i] = v;
         r[j] = w;
-        h += 1;
     }
 }
 
@@ -173,10 +169,8 @@ fn mend(
     requires { length r.old ≡ 16 }
     ensures { Each r.new (λ (j : ℕ). mended_at y.now x.now quarters.now octants.now r.old j) }
 {
-    let mut i = 0;
-    while i < WIDTH {
+    for i in 0..WIDTH {
         r[i] = mended(y[i], x[i], octants[i], quarters[i], r[i]);
-        i += 1;
     }
 }
 
@@ -185,10 +179,8 @@ fn any_block(y: &[f64; WIDTH], x: &[f64; WIDTH], r: &mut [f64; WIDTH])
     ensures { Each r.new (λ (j : ℕ). atan2_of (at y.now j) (at x.now j)) }
 {
     *r = [0.0; WIDTH];
-    let mut i = 0;
-    while i < WIDTH {
+    for i in 0..WIDTH {
         r[i] = arctan::atan2(y[i], x[i]);
-        i += 1;
     }
 }
 

@@ -170,28 +170,15 @@ pub fn hypot(x: f64, y: f64) -> f64
     bounded(a, b, rescaled(a, b))
 }
 
-// A length as far as the usual case gives it.
-#[derive(Clone, Copy)]
-pub struct Usual {
-    pub length: f64,
-    pub ordinary: bool,
-}
-
-// The usual case alone, for loops over blocks: the length where the sum of squares is ordinary,
-// else 0; and whether it is.
-pub fn usual_length(x: f64, y: f64) -> Usual
+// The usual case alone, for loops over blocks: the length, or none where the sum of squares is not
+// ordinary.
+pub fn usual_length(x: f64, y: f64) -> Option<f64>
     ensures { result ≡ usual_of x y }
 {
     let squares = x * x + y * y;
     if is_ordinary(squares) {
-        Usual {
-            length: ordinary_length(squares, x, y),
-            ordinary: true,
-        }
+        Some(ordinary_length(squares, x, y))
     } else {
-        Usual {
-            length: 0.0,
-            ordinary: false,
-        }
+        None
     }
 }

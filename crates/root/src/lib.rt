@@ -59,11 +59,9 @@ fn by_digits(a: u64) -> u64
 {
     let mut q = whole(a);
     let mut r = a - q * q;
-    let mut i: u64 = 0;
-    while i < 26 {
+    for _ in 0..26u64 {
         r = r * 4;
         q = q * 2;
-        i = i + 1;
         if 2 * q < r {
             r = r - 2 * q - 1;
             q = q + 1;
@@ -228,14 +226,10 @@ pub fn sqrt_block(x: &[f64; WIDTH], r: &mut [f64; WIDTH])
 {
     *r = [0.0; WIDTH];
     let mut g: [u64; WIDTH] = [0; WIDTH];
-    let mut i = 0;
-    while i < WIDTH {
+    for i in 0..WIDTH {
         g[i] = guess(bits(x[i]));
-        i += 1;
     }
-    let mut j = 0;
-    while j < WIDTH {
+    for j in 0..WIDTH {
         r[j] = from_guess(x[j], g[j]);
-        j += 1;
     }
 }
