@@ -7,10 +7,10 @@
 // `geocart_block` and the geocentric latitude in `permtide` are taken by it.
 #![tactic(auto)]
 
-ghost use Rattle.std.specs.Prelude.{◌≡◌, ℕ, min, cond, length};
+ghost use Rattle.std.specs.Prelude.{◌≡◌, ℕ, cond, length};
 ghost use Rattle.blocks.specs.Each.{at, Each};
 ghost use Rattle.arctan.specs.Arctan.{atan2_of};
-ghost use Rattle.arctan_block.specs.Block.{at_most, at_least, difference_of, SizedPoint, SizedUpTo, quick_of, quick_at, mended_of, mended_at};
+ghost use Rattle.arctan_block.specs.Block.{at_most, at_least, SizedPoint, SizedUpTo, quick_of, quick_at, mended_of, mended_at};
 
 use arctan::{Cell, LEAST, MOST, Octant};
 use blocks::WIDTH;
@@ -27,17 +27,6 @@ fn at_least(v: f64, m: f64) -> f64
     ensures { result ≡ at_least v m }
 {
     if m < v { v } else { m }
-}
-
-// p - q, modulo 2^64
-fn difference(p: u64, q: u64) -> u64
-    ensures { result ≡ difference_of p q }
-{
-    if q <= p {
-        p - q
-    } else {
-        p + (u64::MAX - q) + 1
-    }
 }
 
 fn odd_if(usual: bool, quarters: u64) -> u64
@@ -67,7 +56,7 @@ fn sized(y: f64, x: f64) -> Point
     let steep = a < b;
     let larger = at_most(arctan::choose(steep, b, a), MOST);
     let smaller = at_least(arctan::choose(steep, a, b), LEAST);
-    let quarters = difference(f64::to_bits(larger), f64::to_bits(smaller)) / 0x4_0000_0000_0000;
+    let quarters = f64::to_bits(larger).wrapping_sub(f64::to_bits(smaller)) / 0x4_0000_0000_0000;
     let octant = arctan::octant_index(x < 0.0, steep);
     let odd = odd_if(arctan::is_moderate(larger, smaller), quarters);
     Point {
@@ -106,12 +95,6 @@ fn sizes(
     n
 }
 
-fn cell_of(quarters: u64) -> u64
-    ensures { result ≡ min quarters 16 }
-{
-    if quarters < 16 { quarters } else { 16 }
-}
-
 // The angle by the rows of the tables. The order of the bounds is of no account, and this is two
 // instructions.
 fn quick(y: f64, o: Octant, c: Cell, a: f64, b: f64) -> f64
@@ -134,11 +117,11 @@ fn pairs(
     ensures { Each r.new (λ (j : ℕ). quick_at y.now larger.now smaller.now quarters.now octants.now j) }
 {
     *r = [0.0; WIDTH];
-    for h in 0..8 {
+    for h in 0..WIDTH / 2 {
         let i = 2 * h;
         let j = 2 * h + 1;
-        let c = arctan::cell_at(cell_of(quarters[i]));
-        let d = arctan::cell_at(cell_of(quarters[j]));
+        let c = arctan::cell_at(quarters[i].min(16));
+        let d = arctan::cell_at(quarters[j].min(16));
         let o = arctan::octant_at(octants[i] % 4);
         let p = arctan::octant_at(octants[j] % 4);
         let v = quick(y[i], o, c, larger[i], smaller[i]);

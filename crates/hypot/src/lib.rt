@@ -38,11 +38,7 @@ const C5: f64 = 0.24756060687689005;
 fn is_ordinary(squares: f64) -> bool
     ensures { result ≡ ordinary squares }
 {
-    if squares > LEAST {
-        squares < MOST
-    } else {
-        false
-    }
+    squares > LEAST && squares < MOST
 }
 
 fn larger_of(a: f64, b: f64) -> f64
@@ -117,10 +113,8 @@ fn bounded(a: f64, b: f64, length: f64) -> f64
     ensures { result ≡ bounded_of a b length }
 {
     let sum = a + b;
-    if a < length {
-        if length < sum {
-            return length;
-        }
+    if a < length && length < sum {
+        return length;
     }
     if length < sum {
         if a < length { length } else { a }
@@ -159,10 +153,7 @@ pub fn hypot(x: f64, y: f64) -> f64
     let p = floats::abs(x);
     let q = floats::abs(y);
     let infinity = 1.0 / 0.0;
-    if p == infinity {
-        return infinity;
-    }
-    if q == infinity {
+    if p == infinity || q == infinity {
         return infinity;
     }
     let a = larger_of(p, q);
