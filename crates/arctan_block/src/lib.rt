@@ -60,11 +60,11 @@ fn sized(y: f64, x: f64) -> Point
     let octant = arctan::octant_index(x < 0.0, steep);
     let odd = odd_if(arctan::is_moderate(larger, smaller), quarters);
     Point {
-        larger: larger,
-        smaller: smaller,
-        quarters: quarters,
-        octant: octant,
-        odd: odd,
+        larger,
+        smaller,
+        quarters,
+        octant,
+        odd,
     }
 }
 

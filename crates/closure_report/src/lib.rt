@@ -173,7 +173,8 @@ pub fn empty() -> Report
     Report::default()
 }
 
-// lists, tuples, NaNs, restored; then bits, list and index of each coordinate.
+// lists, tuples, NaNs, restored; then bits, list and index of each coordinate. A function and no
+// `From`: the name says what the array's numbers are, which the type [u64; 16] would not.
 pub fn numbers(r: Report) -> [u64; 16]
     ensures { result ≡ numbers_of r }
 {

@@ -164,13 +164,13 @@ fn normal(b: u64) -> Scaled
     let k = e / 0x20_0000_0000_0000 + 511;
     if m < 0x10_0000_0000_0000 {
         let a = m + 0x10_0000_0000_0000;
-        return Scaled { a: a, k: k };
+        return Scaled { a, k };
     }
-    let a = 2 * m;
-    Scaled { a: a, k: k }
+    Scaled { a: 2 * m, k }
 }
 
-// The subnormal number with the bits b, brought up to 53 digits: m * 2^p units of 2^-2148.
+// The subnormal number with the bits b, brought up to 53 digits: m * 2^p units of 2^-2148. The loop
+// goes by m and counts no index.
 fn subnormal(b: u64) -> Scaled
     requires { (0 < b) × (b < 2 ^ 52) }
     ensures { Significand b result.a result.k }
@@ -183,7 +183,7 @@ fn subnormal(b: u64) -> Scaled
     }
     let a = m * (p % 2 + 1);
     let k = (p - 52) / 2;
-    Scaled { a: a, k: k }
+    Scaled { a, k }
 }
 
 // The square root of x, whatever the guess g at its digits.

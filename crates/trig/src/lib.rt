@@ -121,7 +121,8 @@ fn pair(a: f64) -> SinCos
     }
 }
 
-// The sine of a magnitude in reach.
+// The sine of a magnitude in reach. It is not read from the pair, which stands out of line and adds
+// up the cosine too.
 fn sine(a: f64) -> f64
     ensures { result ≡ sine_of a }
 {
@@ -131,7 +132,7 @@ fn sine(a: f64) -> f64
     sum(w.0, w.1, w.2, g.rest, b)
 }
 
-// The cosine of a magnitude in reach.
+// The cosine of a magnitude in reach, likewise.
 fn cosine(a: f64) -> f64
     ensures { result ≡ cosine_of a }
 {

@@ -144,7 +144,8 @@ fn usual_sums(
     }
 }
 
-// The sums of a block of any angles.
+// The sums of a block of any angles. It stands beside `usual_sums` on purpose: one function over a
+// closure would have to say each place by the closure's `post`, which is longer than this loop.
 fn sums(
     x: &[f64; WIDTH],
     rest: &[f64; WIDTH],
