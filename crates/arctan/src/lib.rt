@@ -218,6 +218,8 @@ pub fn octant_at(k: u64) -> Octant
     }
 }
 
+// The octant, as the index of its row in the table: the blocks keep it in an array of numbers and
+// read the row without a branch, which an enum would only be turned back into.
 pub fn octant_index(left: bool, steep: bool) -> u64
     ensures { result ≡ octant_index_of left steep }
 {
@@ -263,24 +265,17 @@ pub fn cut_angle(o: Octant, c: Cell, a: f64, b: f64) -> f64
     o.base + o.side * c.angle + (t + (o.rest + o.side * c.rest) + tail(t))
 }
 
-// p - q, or 0
-fn excess(p: u64, q: u64) -> u64
-    ensures { result ≡ p - q }
-{
-    if q < p { p - q } else { 0 }
-}
-
 fn cell_index(a: f64, b: f64) -> u64
     ensures { result ≡ cell_index_of a b }
 {
-    let j = excess(floats::to_bits(a), floats::to_bits(b)) / 0x4_0000_0000_0000;
-    if j < 16 { j } else { 16 }
+    let excess = floats::to_bits(a).saturating_sub(floats::to_bits(b));
+    (excess / 0x4_0000_0000_0000).min(16)
 }
 
 fn is_small(k: u64, i: u64) -> bool
     ensures { result ≡ small k i }
 {
-    if k == 0 { i == 16 } else { false }
+    k == 0 && i == 16
 }
 
 fn quotient_angle(k: u64, a: f64, b: f64) -> f64
@@ -296,7 +291,7 @@ fn quotient_angle(k: u64, a: f64, b: f64) -> f64
 pub fn is_moderate(a: f64, b: f64) -> bool
     ensures { result ≡ moderate a b }
 {
-    if a < MOST { LEAST < b } else { false }
+    a < MOST && LEAST < b
 }
 
 fn scale_of(a: f64) -> f64

@@ -1,7 +1,7 @@
 -- A block of points: when the rows of the tables give a point's angle, and the loop that tells so
 -- of all. Assumes nothing.
 use Prim.Native.Nat.{ℕ, zero, suc, ◌+◌, ◌-◌, ◌*◌, ◌/◌, ◌%◌, ◌<◌, ◌≤◌, min}
-use native.Mathlib.Nat.{not-suc-le-zero, eq-or-lt_of_le, lt_of_lt_of_le, le-div_iff_mul-le, div-lt_iff_lt-mul, zero-lt-suc, lt_irrefl}
+use native.Mathlib.Nat.{not-suc-le-zero, eq-or-lt_of_le, lt_of_lt_of_le, le-div_iff_mul-le, div-lt_iff_lt-mul, zero-lt-suc, lt_irrefl, mod-lt}
 use native.Mathlib.Omega.{arith}
 use mathlib.Core.Path.{◌≡◌, refl, ap, ◌∙◌, sym, subst}
 use mathlib.Core.Logic.{◌⊎◌, inl, inr}
@@ -11,7 +11,7 @@ use lib.Dec.{T, leb, ltb}
 use lib.ListN.{set, length}
 use lib.Ieee.{Float, nan, inf, fin, binary64, fits, to_bits, is_nan, neg, lt, of_bits}
 use lib.Ieee.Fits.{neg-fits}
-use borrow.Author.Tests.{leb-false, ltb-false, ne_eqb}
+use borrow.Author.Tests.{leb-true, leb-false, ltb-false, ne_eqb}
 use Rattle.floats.specs.Binary64.{bits}
 use Rattle.floats.specs.Number.{sign_of, abs_of}
 use Rattle.floats.proofs.Values.{sign_is_the_highest_bit}
@@ -110,6 +110,20 @@ module _ (y x : Float) where
   low_bits : T (fits binary64 y) → T (fits binary64 x) → q < 0x8000_0000_0000_0000
   unfolding held_smaller
   low_bits f g = leb-false 0x8000_0000_0000_0000 q (sign_is_the_highest_bit (held_smaller y x) (smaller-fits f g) (at_least_is_a_number (smaller_of y x)) ∙ no_sign)
+
+-- the difference of two numbers of 64 bits, as it wraps
+abbrev wraps : ℕ → ℕ → ℕ
+wraps p q = (p + (0x1_0000_0000_0000_0000 - q)) % 0x1_0000_0000_0000_0000
+
+pub wrapped-lt : (p q : ℕ) → wraps p q < 0x1_0000_0000_0000_0000
+wrapped-lt p q = mod-lt _ (omega arith)
+
+pub wrapped : (p q : ℕ) → p < 0x1_0000_0000_0000_0000 → q < 0x1_0000_0000_0000_0000 → wraps p q ≡ difference_of p q
+wrapped p q h k = go (leb q p) refl
+  where
+    go : (t : Bool) → leb q p ≡ t → wraps p q ≡ cond t (p - q) (p + (0xffff_ffff_ffff_ffff - q) + 1)
+    go true e = omega (arith, leb-true q p e)
+    go false e = omega (arith, leb-false q p e)
 
 -- fewer than 8192 quarters: counted from the larger down
 counted-down : (p q : ℕ) → q < 0x8000_0000_0000_0000 → difference_of p q / 0x4_0000_0000_0000 < 256 → difference_of p q ≡ p - q

@@ -7,10 +7,10 @@
 // `geocart_block` and the geocentric latitude in `permtide` are taken by it.
 #![tactic(auto)]
 
-ghost use Rattle.std.specs.Prelude.{◌≡◌, ℕ, min, cond, length};
+ghost use Rattle.std.specs.Prelude.{◌≡◌, ℕ, cond, length};
 ghost use Rattle.blocks.specs.Each.{at, Each};
 ghost use Rattle.arctan.specs.Arctan.{atan2_of};
-ghost use Rattle.arctan_block.specs.Block.{at_most, at_least, difference_of, SizedPoint, SizedUpTo, quick_of, quick_at, mended_of, mended_at};
+ghost use Rattle.arctan_block.specs.Block.{at_most, at_least, SizedPoint, SizedUpTo, quick_of, quick_at, mended_of, mended_at};
 
 use arctan::{Cell, LEAST, MOST, Octant};
 use blocks::WIDTH;
@@ -27,17 +27,6 @@ fn at_least(v: f64, m: f64) -> f64
     ensures { result ≡ at_least v m }
 {
     if m < v { v } else { m }
-}
-
-// p - q, modulo 2^64
-fn difference(p: u64, q: u64) -> u64
-    ensures { result ≡ difference_of p q }
-{
-    if q <= p {
-        p - q
-    } else {
-        p + (u64::MAX - q) + 1
-    }
 }
 
 fn odd_if(usual: bool, quarters: u64) -> u64
@@ -67,15 +56,15 @@ fn sized(y: f64, x: f64) -> Point
     let steep = a < b;
     let larger = at_most(arctan::choose(steep, b, a), MOST);
     let smaller = at_least(arctan::choose(steep, a, b), LEAST);
-    let quarters = difference(f64::to_bits(larger), f64::to_bits(smaller)) / 0x4_0000_0000_0000;
+    let quarters = f64::to_bits(larger).wrapping_sub(f64::to_bits(smaller)) / 0x4_0000_0000_0000;
     let octant = arctan::octant_index(x < 0.0, steep);
     let odd = odd_if(arctan::is_moderate(larger, smaller), quarters);
     Point {
-        larger: larger,
-        smaller: smaller,
-        quarters: quarters,
-        octant: octant,
-        odd: odd,
+        larger,
+        smaller,
+        quarters,
+        octant,
+        odd,
     }
 }
 
@@ -95,23 +84,15 @@ fn sizes(
     *quarters = [0; WIDTH];
     *octants = [0; WIDTH];
     let mut n: u64 = 0;
-    let mut i = 0;
-    while i < WIDTH {
+    for i in 0..WIDTH {
         let p = sized(y[i], x[i]);
         larger[i] = p.larger;
         smaller[i] = p.smaller;
         quarters[i] = p.quarters;
         octants[i] = p.octant;
         n += p.odd;
-        i += 1;
     }
     n
-}
-
-fn cell_of(quarters: u64) -> u64
-    ensures { result ≡ min quarters 16 }
-{
-    if quarters < 16 { quarters } else { 16 }
 }
 
 // The angle by the rows of the tables. The order of the bounds is of no account, and this is two
@@ -136,19 +117,17 @@ fn pairs(
     ensures { Each r.new (λ (j : ℕ). quick_at y.now larger.now smaller.now quarters.now octants.now j) }
 {
     *r = [0.0; WIDTH];
-    let mut h = 0;
-    while h < 8 {
+    for h in 0..WIDTH / 2 {
         let i = 2 * h;
         let j = 2 * h + 1;
-        let c = arctan::cell_at(cell_of(quarters[i]));
-        let d = arctan::cell_at(cell_of(quarters[j]));
+        let c = arctan::cell_at(quarters[i].min(16));
+        let d = arctan::cell_at(quarters[j].min(16));
         let o = arctan::octant_at(octants[i] % 4);
         let p = arctan::octant_at(octants[j] % 4);
         let v = quick(y[i], o, c, larger[i], smaller[i]);
         let w = quick(y[j], p, d, larger[j], smaller[j]);
         r[i] = v;
         r[j] = w;
-        h += 1;
     }
 }
 
@@ -173,10 +152,8 @@ fn mend(
     requires { length r.old ≡ 16 }
     ensures { Each r.new (λ (j : ℕ). mended_at y.now x.now quarters.now octants.now r.old j) }
 {
-    let mut i = 0;
-    while i < WIDTH {
+    for i in 0..WIDTH {
         r[i] = mended(y[i], x[i], octants[i], quarters[i], r[i]);
-        i += 1;
     }
 }
 
@@ -185,10 +162,8 @@ fn any_block(y: &[f64; WIDTH], x: &[f64; WIDTH], r: &mut [f64; WIDTH])
     ensures { Each r.new (λ (j : ℕ). atan2_of (at y.now j) (at x.now j)) }
 {
     *r = [0.0; WIDTH];
-    let mut i = 0;
-    while i < WIDTH {
+    for i in 0..WIDTH {
         r[i] = arctan::atan2(y[i], x[i]);
-        i += 1;
     }
 }
 

@@ -6,11 +6,18 @@ use native.Mathlib.Numerals.{add-one}
 use native.Mathlib.Omega.{arith}
 use mathlib.Core.Path.{◌≡◌, refl, sym, ap, ◌∙◌}
 use mathlib.Core.Logic.{◌⊎◌, inl, inr}
-use mathlib.Core.Bool.{Bool, true, false, cond, true≢false}
+use mathlib.Core.Bool.{Bool, true, false, cond, ◌&&◌, true≢false}
 use Rattle.blocks.specs.Each.{all_to, Tells}
 
 pub none_asked : {f : ℕ → Bool} → Tells 0 f true
 none_asked = record { all = refl; block = omega arith }
+
+-- what a turn makes of the answer, where it asks by `&`
+pub asked : (b one : Bool) → (b && one) ≡ cond one b false
+asked true true = refl
+asked true false = refl
+asked false true = refl
+asked false false = refl
 
 -- a turn asks the next place
 pub one_asked : {i : ℕ} {b one v : Bool} {f : ℕ → Bool} → i < 16 → v ≡ cond one b false → one ≡ f i → Tells i f b → Tells (i + 1) f v

@@ -27,9 +27,7 @@ pub fn scaled(k: f64, x: &[f64; WIDTH], r: &mut [f64; WIDTH])
     ensures { Each r.new (λ (j : ℕ). k ⊗ at x.now j) }
 {
     *r = [0.0; WIDTH];
-    let mut i = 0;
-    while i < WIDTH {
+    for i in 0..WIDTH {
         r[i] = k * x[i];
-        i += 1;
     }
 }

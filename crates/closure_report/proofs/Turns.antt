@@ -1,6 +1,6 @@
 -- A turn of the loop over a list, and a sum taken as a difference. Assumes nothing.
 use mathlib.Core.Path.{◌≡◌, refl}
-use Prim.Native.Nat.{ℕ, suc, ◌+◌, ◌-◌, ◌*◌, ◌<◌, ◌≤◌}
+use Prim.Native.Nat.{ℕ, suc, ◌+◌, ◌-◌, ◌*◌}
 use mathlib.Core.Bool.{Bool, true, false}
 use mathlib.Core.List.{List}
 use native.Mathlib.Omega.{arith}
@@ -12,15 +12,12 @@ use Rattle.closure_report.specs.declared.Report.{Report}
 use Rattle.closure_report.specs.Report.{closing, seen_of, fixes_of, seen_all}
 
 -- what is above both together is above the one by more than the other
-pub by_difference : (a b n : ℕ) → a < n → ltb b (n - a) ≡ ltb (a + b) n
-by_difference a b n h = by-case (ltb (a + b) n) refl
+pub by_difference : (a b n : ℕ) → ltb b (n - a) ≡ ltb (a + b) n
+by_difference a b n = by-case (ltb (a + b) n) refl
   where
     by-case : (c : Bool) → ltb (a + b) n ≡ c → ltb b (n - a) ≡ c
     by-case true e = let k = ltb-true (a + b) n e in lt-ltb b (n - a) (omega arith)
     by-case false e = let k = ltb-false (a + b) n e in le-ltb b (n - a) (omega arith)
-
-pub none_by_difference : (a b n : ℕ) → n ≤ a → ltb (a + b) n ≡ false
-none_by_difference a b n h = le-ltb (a + b) n (omega arith)
 
 module _ (list : ℕ) (start end : List Float) where
   -- the next fix is seen

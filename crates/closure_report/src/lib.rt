@@ -12,20 +12,20 @@
 // the closure's entry and by who prints a report.
 #![tactic(auto)]
 
-ghost use Rattle.std.specs.Prelude.{◌≡◌};
+ghost use Rattle.std.specs.Prelude.{◌≡◌, ◌+◌, ◌<◌};
 ghost use Rattle.closure_report.specs.Report.{one_more, closing, lost_of, restored_of, difference_of, some_left, larger_of, lost_in, restored_in, left_in, seen_of, list_done, added_of, empty_report, numbers_of, report_of, largest_at};
 
 use tuple::Tuple;
 
 // The largest difference of a coordinate, as the bits of its absolute value, and where it stands.
-#[derive(Clone, Copy)]
+#[derive(Clone, Copy, Default)]
 pub struct Largest {
     pub bits: u64,
     pub list: u64,
     pub index: u64,
 }
 
-#[derive(Clone, Copy)]
+#[derive(Clone, Copy, Default)]
 pub struct Report {
     pub lists: u64,
     pub tuples: u64,
@@ -43,7 +43,7 @@ pub struct Report {
 fn one_more(n: u64) -> u64
     ensures { result ≡ one_more n }
 {
-    if n < 18446744073709551615 { n + 1 } else { n }
+    n.saturating_add(1)
 }
 
 fn is_lost(start: Tuple, end: Tuple) -> bool
@@ -65,73 +65,46 @@ fn difference(start: f64, end: f64) -> u64
     ensures { result ≡ difference_of start end }
 {
     if floats::same(start, end) {
-        return 0;
+        0
+    } else {
+        floats::to_bits(floats::abs(end - start))
     }
-    floats::to_bits(floats::abs(end - start))
 }
 
 // Whether a fix that is neither lost nor restored has been seen before.
 fn some_left(r: Report) -> bool
     ensures { result ≡ some_left r }
 {
-    if r.nans < r.tuples {
-        return r.restored < r.tuples - r.nans;
-    }
-    false
+    r.restored < r.tuples.saturating_sub(r.nans)
 }
 
 fn larger(some: bool, before: Largest, bits: u64, list: u64, index: u64) -> Largest
     ensures { result ≡ larger_of some before bits list index }
 {
     if !some | (before.bits < bits) {
-        return Largest {
-            bits: bits,
-            list: list,
-            index: index,
-        };
+        Largest { bits, list, index }
+    } else {
+        before
     }
-    before
 }
 
 fn lost_in(r: Report) -> Report
     ensures { result ≡ lost_in r }
 {
-    let tuples = one_more(r.tuples);
-    let nans = one_more(r.nans);
-    let x = r.x;
-    let y = r.y;
-    let z = r.z;
-    let t = r.t;
     Report {
-        lists: r.lists,
-        tuples: tuples,
-        nans: nans,
-        restored: r.restored,
-        x: x,
-        y: y,
-        z: z,
-        t: t,
+        tuples: one_more(r.tuples),
+        nans: one_more(r.nans),
+        ..r
     }
 }
 
 fn restored_in(r: Report) -> Report
     ensures { result ≡ restored_in r }
 {
-    let tuples = one_more(r.tuples);
-    let restored = one_more(r.restored);
-    let x = r.x;
-    let y = r.y;
-    let z = r.z;
-    let t = r.t;
     Report {
-        lists: r.lists,
-        tuples: tuples,
-        nans: r.nans,
-        restored: restored,
-        x: x,
-        y: y,
-        z: z,
-        t: t,
+        tuples: one_more(r.tuples),
+        restored: one_more(r.restored),
+        ..r
     }
 }
 
@@ -139,20 +112,13 @@ fn left_in(r: Report, list: u64, index: u64, start: Tuple, end: Tuple) -> Report
     ensures { result ≡ left_in r (closing list index start end) }
 {
     let some = some_left(r);
-    let tuples = one_more(r.tuples);
-    let x = larger(some, r.x, difference(start.x, end.x), list, index);
-    let y = larger(some, r.y, difference(start.y, end.y), list, index);
-    let z = larger(some, r.z, difference(start.z, end.z), list, index);
-    let t = larger(some, r.t, difference(start.t, end.t), list, index);
     Report {
-        lists: r.lists,
-        tuples: tuples,
-        nans: r.nans,
-        restored: r.restored,
-        x: x,
-        y: y,
-        z: z,
-        t: t,
+        tuples: one_more(r.tuples),
+        x: larger(some, r.x, difference(start.x, end.x), list, index),
+        y: larger(some, r.y, difference(start.y, end.y), list, index),
+        z: larger(some, r.z, difference(start.z, end.z), list, index),
+        t: larger(some, r.t, difference(start.t, end.t), list, index),
+        ..r
     }
 }
 
@@ -161,12 +127,12 @@ pub fn seen(r: Report, list: u64, index: u64, start: Tuple, end: Tuple) -> Repor
     ensures { result ≡ seen_of r (closing list index start end) }
 {
     if is_lost(start, end) {
-        return lost_in(r);
+        lost_in(r)
+    } else if is_restored(start, end) {
+        restored_in(r)
+    } else {
+        left_in(r, list, index, start, end)
     }
-    if is_restored(start, end) {
-        return restored_in(r);
-    }
-    left_in(r, list, index, start, end)
 }
 
 // ----- a list ----------------------------------------------------------------------------------
@@ -174,20 +140,9 @@ pub fn seen(r: Report, list: u64, index: u64, start: Tuple, end: Tuple) -> Repor
 fn list_done(r: Report) -> Report
     ensures { result ≡ list_done r }
 {
-    let lists = one_more(r.lists);
-    let x = r.x;
-    let y = r.y;
-    let z = r.z;
-    let t = r.t;
     Report {
-        lists: lists,
-        tuples: r.tuples,
-        nans: r.nans,
-        restored: r.restored,
-        x: x,
-        y: y,
-        z: z,
-        t: t,
+        lists: one_more(r.lists),
+        ..r
     }
 }
 
@@ -196,10 +151,8 @@ pub fn add(report: Report, start: &[f64], end: &[f64]) -> Report
     ensures { result ≡ added_of report start.now end.now }
 {
     let list = report.lists;
-    let n = start.len() / 4;
     let mut r = report;
-    let mut i = 0;
-    while i < n {
+    for i in 0..start.len() / 4 {
         r = seen(
             r,
             list,
@@ -207,7 +160,6 @@ pub fn add(report: Report, start: &[f64], end: &[f64]) -> Report
             lists::read4(start, 4 * i),
             lists::read4(end, 4 * i),
         );
-        i += 1;
     }
     list_done(r)
 }
@@ -218,24 +170,11 @@ pub fn add(report: Report, start: &[f64], end: &[f64]) -> Report
 pub fn empty() -> Report
     ensures { result ≡ empty_report }
 {
-    let none = Largest {
-        bits: 0,
-        list: 0,
-        index: 0,
-    };
-    Report {
-        lists: 0,
-        tuples: 0,
-        nans: 0,
-        restored: 0,
-        x: none,
-        y: none,
-        z: none,
-        t: none,
-    }
+    Report::default()
 }
 
-// lists, tuples, NaNs, restored; then bits, list and index of each coordinate.
+// lists, tuples, NaNs, restored; then bits, list and index of each coordinate. A function and no
+// `From`: the name says what the array's numbers are, which the type [u64; 16] would not.
 pub fn numbers(r: Report) -> [u64; 16]
     ensures { result ≡ numbers_of r }
 {
@@ -246,38 +185,30 @@ pub fn numbers(r: Report) -> [u64; 16]
     ]
 }
 
+// The largest difference whose three numbers stand from i on.
+fn largest_at(l: &[u64; 16], i: usize) -> Largest
+    requires { i + 2 < 16 }
+    ensures { result ≡ largest_at l.now i }
+{
+    Largest {
+        bits: l[i],
+        list: l[i + 1],
+        index: l[i + 2],
+    }
+}
+
 // The report that sixteen numbers stand for; any numbers do.
 pub fn of_numbers(l: &[u64; 16]) -> Report
     ensures { result ≡ report_of l.now }
 {
-    let x = Largest {
-        bits: l[4],
-        list: l[5],
-        index: l[6],
-    };
-    let y = Largest {
-        bits: l[7],
-        list: l[8],
-        index: l[9],
-    };
-    let z = Largest {
-        bits: l[10],
-        list: l[11],
-        index: l[12],
-    };
-    let t = Largest {
-        bits: l[13],
-        list: l[14],
-        index: l[15],
-    };
     Report {
         lists: l[0],
         tuples: l[1],
         nans: l[2],
         restored: l[3],
-        x: x,
-        y: y,
-        z: z,
-        t: t,
+        x: largest_at(l, 4),
+        y: largest_at(l, 7),
+        z: largest_at(l, 10),
+        t: largest_at(l, 13),
     }
 }

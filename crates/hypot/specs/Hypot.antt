@@ -1,10 +1,9 @@
 -- hypot: the length √(x² + y²), as a sequence of single roundings.
-use Rattle.std.specs.Prelude.{◌-◌, ◌/◌, ◌%◌, Bool, true, false, cond, ◌&&◌, ◌||◌, Float}
+use Rattle.std.specs.Prelude.{Option, Some, None, ◌-◌, ◌/◌, ◌%◌, Bool, true, false, cond, ◌&&◌, ◌||◌, Float}
 use Rattle.std.specs.Float.{nan, inf, fin, binary64}
 use Rattle.std.specs.Float.Ieee.{to_bits, lt}
 use Rattle.floats.specs.Binary64.{◌⊕◌, ◌⊖◌, ◌⊗◌, bits}
 use Rattle.floats.specs.Number.{abs_of}
-use Rattle.hypot.specs.declared.Usual.{Usual}
 
 abbrev pub half : Float
 half = bits 0x3fe0_0000_0000_0000
@@ -88,6 +87,6 @@ hypot_of x y =
     cond (infinite x || infinite y) (inf false)
     (pair_of (larger (abs_of x) (abs_of y)) (smaller (abs_of x) (abs_of y)))
 
--- the same where the sum of squares is ordinary, else 0; and whether it is
-unfoldable pub usual_of : Float → Float → Usual
-usual_of x y = record { length = cond (ordinary (squares_of x y)) (hypot_of x y) (bits 0); ordinary = ordinary (squares_of x y) }
+-- the same where the sum of squares is ordinary, else none
+unfoldable pub usual_of : Float → Float → Option Float
+usual_of x y = cond (ordinary (squares_of x y)) (Some (hypot_of x y)) None

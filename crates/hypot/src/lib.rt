@@ -38,11 +38,7 @@ const C5: f64 = 0.24756060687689005;
 fn is_ordinary(squares: f64) -> bool
     ensures { result ≡ ordinary squares }
 {
-    if squares > LEAST {
-        squares < MOST
-    } else {
-        false
-    }
+    squares > LEAST && squares < MOST
 }
 
 fn larger_of(a: f64, b: f64) -> f64
@@ -117,10 +113,8 @@ fn bounded(a: f64, b: f64, length: f64) -> f64
     ensures { result ≡ bounded_of a b length }
 {
     let sum = a + b;
-    if a < length {
-        if length < sum {
-            return length;
-        }
+    if a < length && length < sum {
+        return length;
     }
     if length < sum {
         if a < length { length } else { a }
@@ -159,10 +153,7 @@ pub fn hypot(x: f64, y: f64) -> f64
     let p = floats::abs(x);
     let q = floats::abs(y);
     let infinity = 1.0 / 0.0;
-    if p == infinity {
-        return infinity;
-    }
-    if q == infinity {
+    if p == infinity || q == infinity {
         return infinity;
     }
     let a = larger_of(p, q);
@@ -170,28 +161,15 @@ pub fn hypot(x: f64, y: f64) -> f64
     bounded(a, b, rescaled(a, b))
 }
 
-// A length as far as the usual case gives it.
-#[derive(Clone, Copy)]
-pub struct Usual {
-    pub length: f64,
-    pub ordinary: bool,
-}
-
-// The usual case alone, for loops over blocks: the length where the sum of squares is ordinary,
-// else 0; and whether it is.
-pub fn usual_length(x: f64, y: f64) -> Usual
+// The usual case alone, for loops over blocks: the length, or none where the sum of squares is not
+// ordinary.
+pub fn usual_length(x: f64, y: f64) -> Option<f64>
     ensures { result ≡ usual_of x y }
 {
     let squares = x * x + y * y;
     if is_ordinary(squares) {
-        Usual {
-            length: ordinary_length(squares, x, y),
-            ordinary: true,
-        }
+        Some(ordinary_length(squares, x, y))
     } else {
-        Usual {
-            length: 0.0,
-            ordinary: false,
-        }
+        None
     }
 }

@@ -1,7 +1,7 @@
 -- A loop that fills a block with the usual case's lengths and tells whether all are usual: the
 -- start, a turn, the end. Assumes nothing.
 use Prim.Native.Nat.{ℕ, ◌+◌, ◌<◌, ◌≤◌}
-use mathlib.Core.Path.{◌≡◌, refl, ap}
+use mathlib.Core.Path.{◌≡◌, refl, sym, ap}
 use mathlib.Core.Bool.{Bool, true, false, cond, not, ◌&&◌, true≢false}
 use mathlib.Core.List.{List}
 use lib.ListN.{set, length}
@@ -9,34 +9,33 @@ use lib.Ieee.{Float}
 use Rattle.floats.specs.Binary64.{bits}
 use Rattle.blocks.specs.Each.{at, Each}
 use Rattle.blocks.proofs.Laws.{none_filled, one_more, all_filled, told}
-use Rattle.blocks.proofs.All.{none_asked, one_asked, all_asked, each_of_all}
-use Rattle.hypot.specs.declared.Usual.{Usual}
-use Rattle.hypot.specs.Hypot.{usual_of, hypot_of}
+use Rattle.blocks.proofs.All.{asked, none_asked, one_asked, all_asked, each_of_all}
+use Rattle.std.specs.Prelude.{Option, Some, None}
+use Rattle.std.specs.Option.{is_some, unwrap_or}
+use Rattle.hypot.specs.Hypot.{squares_of, ordinary, usual_of, hypot_of}
 use Rattle.hypot_block.specs.Block.{usual_at, UsualUpTo}
 
 pub none_usual : {x y l : List Float} → length l ≡ 16 → UsualUpTo 0 x y l true
 none_usual b = record { lengths = none_filled b; ordinary = none_asked }
 
-still_all : (u w : Bool) → (u && w) ≡ cond w u false
-still_all true true = refl
-still_all true false = refl
-still_all false true = refl
-still_all false false = refl
-
-pub one_more_usual : {x y l : List Float} {i : ℕ} {v : Usual} {u : Bool} → i < 16 → v ≡ usual_at x y i → UsualUpTo i x y l u → UsualUpTo (i + 1) x y (set l i v.length) (u && v.ordinary)
+pub one_more_usual : {x y l : List Float} {i : ℕ} {v : Option Float} {u : Bool} → i < 16 → v ≡ usual_at x y i → UsualUpTo i x y l u → UsualUpTo (i + 1) x y (set l i (unwrap_or v (bits 0))) (u && is_some v)
 one_more_usual {v = v} {u = u} room value before =
     record {
-      lengths = one_more room (ap (λ (w : Usual). w.length) value) before.lengths;
-      ordinary = one_asked room (still_all u v.ordinary) (ap (λ (w : Usual). w.ordinary) value) before.ordinary;
+      lengths = one_more room (ap (λ (w : Option Float). unwrap_or w (bits 0)) value) before.lengths;
+      ordinary = one_asked room (asked u (is_some v)) (ap is_some value) before.ordinary;
     }
 
 pub all_told : {x y l : List Float} {i : ℕ} {u : Bool} → 16 ≤ i → UsualUpTo i x y l u → UsualUpTo 16 x y l u
 all_told h s = record { lengths = all_filled h s.lengths; ordinary = all_asked h s.ordinary }
 
 -- in the usual case the length is `hypot`'s
-usual_is : (x y : Float) → (usual_of x y).ordinary ≡ true → (usual_of x y).length ≡ hypot_of x y
+usual_is : (x y : Float) → is_some (usual_of x y) ≡ true → unwrap_or (usual_of x y) (bits 0) ≡ hypot_of x y
 unfolding usual_of
-usual_is x y h = ap (λ (b : Bool). cond b (hypot_of x y) (bits 0)) h
+usual_is x y h = go (ordinary (squares_of x y)) h
+  where
+    go : (b : Bool) → is_some (cond b (Some (hypot_of x y)) None) ≡ true → unwrap_or (cond b (Some (hypot_of x y)) None) (bits 0) ≡ hypot_of x y
+    go true h = refl
+    go false h = absurd (true≢false (sym h))
 
 granted : (u : Bool) → not u ≡ false → u ≡ true
 granted true h = refl

@@ -14,18 +14,17 @@ ghost use Rattle.hypot_block.specs.Block.{UsualUpTo};
 
 use blocks::WIDTH;
 
-// The lengths as far as the usual case gives them; the answer is whether it gives all.
+// The lengths as far as the usual case gives them, and 0 where it gives none; the answer is whether
+// it gives all.
 fn usual_block(x: &[f64; WIDTH], y: &[f64; WIDTH], r: &mut [f64; WIDTH]) -> bool
     ensures { UsualUpTo 16 x.now y.now r.new result }
 {
     *r = [0.0; WIDTH];
     let mut all = true;
-    let mut i = 0;
-    while i < WIDTH {
+    for i in 0..WIDTH {
         let u = hypot::usual_length(x[i], y[i]);
-        r[i] = u.length;
-        all = all & u.ordinary;
-        i += 1;
+        r[i] = u.unwrap_or(0.0);
+        all &= u.is_some();
     }
     all
 }
@@ -35,10 +34,8 @@ fn any_block(x: &[f64; WIDTH], y: &[f64; WIDTH], r: &mut [f64; WIDTH])
     ensures { Each r.new (λ (j : ℕ). hypot_of (at x.now j) (at y.now j)) }
 {
     *r = [0.0; WIDTH];
-    let mut i = 0;
-    while i < WIDTH {
+    for i in 0..WIDTH {
         r[i] = hypot::hypot(x[i], y[i]);
-        i += 1;
     }
 }
 

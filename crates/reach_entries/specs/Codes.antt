@@ -1,7 +1,6 @@
 -- What each call leaves its caller in C: the refusal as one word, the numbers, and what it was lent.
-use Rattle.std.specs.Prelude.{ℕ, List, Float}
-use Rattle.trig.specs.declared.Angle.{Angle}
-use Rattle.trig.specs.declared.Angle.TheVariants.{Pair, OutOfReach}
+use Rattle.std.specs.Prelude.{ℕ, List, Option, Some, None, Float}
+use Rattle.trig.specs.declared.SinCos.{SinCos}
 use Rattle.codes.specs.Codes.{code_of}
 use Rattle.tally.specs.Tallies.{counts_of, mets_of}
 use Rattle.columns.specs.Columns.{Columns}
@@ -21,9 +20,9 @@ pub record SineTold : Type 0 where
 abbrev pub sine_told : ℕ → Float → Float → SineTold
 sine_told code sine cosine = record { code = code; sine = sine; cosine = cosine }
 
-abbrev pub sine_told_of : Angle → Float → Float → SineTold
-sine_told_of (Pair p) sine cosine = sine_told 0 p.s p.c
-sine_told_of OutOfReach sine cosine = sine_told 1 sine cosine
+abbrev pub sine_told_of : Option SinCos → Float → Float → SineTold
+sine_told_of (Some p) sine cosine = sine_told 0 p.s p.c
+sine_told_of None sine cosine = sine_told 1 sine cosine
 
 -- a shift: the code, each step's count, how many tuples met an angle out of reach in it, the list
 pub record ShiftTold : Type 0 where

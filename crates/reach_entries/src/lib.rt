@@ -24,8 +24,6 @@ ghost use Rattle.codes.specs.Codes.{code_of, is_inverse};
 ghost use Rattle.trig.specs.Trig.{angle_of};
 ghost use Rattle.reach_entries.specs.Codes.{sine_told, sine_told_of, shift_told, shift_told_of, columns_told, columns_told_of, correct_told, correct_told_of, correct_columns_told, correct_columns_told_of};
 
-use trig::Angle;
-
 // ----- sine and cosine -------------------------------------------------------------------------
 
 // The pair of numbers and 0, or 1 for an angle out of reach, and nothing is written.
@@ -34,14 +32,12 @@ pub extern "C" fn sillfeather_sin_cos_reach(x: f64, s: &mut f64, c: &mut f64) ->
     ensures { sine_told result s.new c.new ≡ sine_told_of (angle_of x) s.old c.old }
 {
     match trig::sin_cos(x) {
-        Angle::Pair(p) => {
+        Some(p) => {
             *s = p.s;
             *c = p.c;
-            return 0;
+            0
         }
-        Angle::OutOfReach => {
-            return 1;
-        }
+        None => 1,
     }
 }
 

@@ -59,11 +59,9 @@ fn by_digits(a: u64) -> u64
 {
     let mut q = whole(a);
     let mut r = a - q * q;
-    let mut i: u64 = 0;
-    while i < 26 {
+    for _ in 0..26u64 {
         r = r * 4;
         q = q * 2;
-        i = i + 1;
         if 2 * q < r {
             r = r - 2 * q - 1;
             q = q + 1;
@@ -166,13 +164,13 @@ fn normal(b: u64) -> Scaled
     let k = e / 0x20_0000_0000_0000 + 511;
     if m < 0x10_0000_0000_0000 {
         let a = m + 0x10_0000_0000_0000;
-        return Scaled { a: a, k: k };
+        return Scaled { a, k };
     }
-    let a = 2 * m;
-    Scaled { a: a, k: k }
+    Scaled { a: 2 * m, k }
 }
 
-// The subnormal number with the bits b, brought up to 53 digits: m * 2^p units of 2^-2148.
+// The subnormal number with the bits b, brought up to 53 digits: m * 2^p units of 2^-2148. The loop
+// goes by m and counts no index.
 fn subnormal(b: u64) -> Scaled
     requires { (0 < b) × (b < 2 ^ 52) }
     ensures { Significand b result.a result.k }
@@ -185,7 +183,7 @@ fn subnormal(b: u64) -> Scaled
     }
     let a = m * (p % 2 + 1);
     let k = (p - 52) / 2;
-    Scaled { a: a, k: k }
+    Scaled { a, k }
 }
 
 // The square root of x, whatever the guess g at its digits.
@@ -228,14 +226,10 @@ pub fn sqrt_block(x: &[f64; WIDTH], r: &mut [f64; WIDTH])
 {
     *r = [0.0; WIDTH];
     let mut g: [u64; WIDTH] = [0; WIDTH];
-    let mut i = 0;
-    while i < WIDTH {
+    for i in 0..WIDTH {
         g[i] = guess(bits(x[i]));
-        i += 1;
     }
-    let mut j = 0;
-    while j < WIDTH {
+    for j in 0..WIDTH {
         r[j] = from_guess(x[j], g[j]);
-        j += 1;
     }
 }

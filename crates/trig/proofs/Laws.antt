@@ -5,6 +5,7 @@ use Prim.Native.Nat.{ℕ, zero, suc, ◌+◌, ◌*◌, ◌<◌}
 use native.Mathlib.Nat.{add_comm, zero-mul, mul-pos, zero-lt-suc}
 use native.Mathlib.Omega.{arith}
 use mathlib.Core.Bool.{Bool, true, false, not, cond, true≢false}
+use Rattle.std.specs.Prelude.{Option, Some, None}
 use borrow.Author.Tests.{lt-ltb}
 use lib.IntN.{ℤ, pos}
 use lib.Ieee.{Float, nan, inf, fin, of_bits, is_nan, neg, eq, lt, le, up, down}
@@ -13,10 +14,9 @@ use Rattle.floats.specs.Binary64.{bits}
 use Rattle.floats.specs.Number.{sign_of, abs_of}
 use Rattle.floats.proofs.Zero.{equals_zero, differs_from_zero}
 use Rattle.floats.proofs.Laws.{neg-neg, abs_of_neg}
+use Rattle.trig.specs.declared.SinCos.{SinCos}
 use Rattle.trig.specs.WithinOne.{WithinOne}
 use Rattle.trig.specs.Trig.{one, reach, at_most_one, clamp_of, sum_of, sine_of, cosine_of, signed_of, sin_of, cos_of, sin_cos_of, out_of_reach, angle_of, numbers_of}
-use Rattle.trig.specs.declared.Angle.{Angle}
-use Rattle.trig.specs.declared.Angle.TheVariants.{Pair, OutOfReach}
 
 -- ---- zeros, either way round
 
@@ -234,20 +234,20 @@ pub numbers_of_angle : (x : Float) → numbers_of (angle_of x) ≡ sin_cos_of x
 unfolding angle_of
 numbers_of_angle x = go (out_of_reach x) refl
   where
-    go : (out : Bool) → out_of_reach x ≡ out → numbers_of (cond out OutOfReach (Pair (sin_cos_of x))) ≡ sin_cos_of x
+    go : (out : Bool) → out_of_reach x ≡ out → numbers_of (cond out None (Some (sin_cos_of x))) ≡ sin_cos_of x
     go true h = rw (sine_out_of_reach x (out_told x h), cosine_out_of_reach x (out_told x h))
     go false h = refl
 
 -- it is "out of reach" exactly for an angle not finite or beyond ±1024
-abbrev pub is_out : Angle → Bool
-is_out (Pair p) = false
-is_out OutOfReach = true
+abbrev pub is_out : Option SinCos → Bool
+is_out (Some p) = false
+is_out None = true
 
 pub out_exactly : (x : Float) → is_out (angle_of x) ≡ out_of_reach x
 unfolding angle_of
 out_exactly x = go (out_of_reach x)
   where
-    go : (out : Bool) → is_out (cond out OutOfReach (Pair (sin_cos_of x))) ≡ out
+    go : (out : Bool) → is_out (cond out None (Some (sin_cos_of x))) ≡ out
     go true = refl
     go false = refl
 

@@ -1,14 +1,12 @@
 -- Sine and cosine, each a sequence of single roundings. An angle's magnitude a is k·π/32 + r with a
 -- whole k and a small r; the table has sine and cosine of k·π/32, two short polynomials those of r,
 -- and the theorems of addition join them.
-use Rattle.std.specs.Prelude.{Bool, not, cond, Float}
+use Rattle.std.specs.Prelude.{Bool, not, cond, Option, Some, None, Float}
 use Rattle.std.specs.Float.{nan, binary64}
 use Rattle.std.specs.Float.Ieee.{to_bits, neg, eq, lt, le}
 use Rattle.floats.specs.Binary64.{◌⊕◌, ◌⊖◌, ◌⊗◌, bits}
 use Rattle.floats.specs.Number.{sign_of, abs_of}
 use Rattle.trig.specs.declared.SinCos.{SinCos}
-use Rattle.trig.specs.declared.Angle.{Angle}
-use Rattle.trig.specs.declared.Angle.TheVariants.{Pair, OutOfReach}
 use Rattle.trig.specs.declared.Reduced.{Reduced}
 use Rattle.trig.specs.declared.Bends.{Bends}
 use Rattle.trig.specs.Table.{row_of}
@@ -141,12 +139,12 @@ sin_cos_of x = record { s = sin_of x; c = cos_of x }
 unfoldable pub out_of_reach : Float → Bool
 out_of_reach x = not (le (abs_of x) reach)
 
--- Either the pair of numbers or "out of reach", the latter exactly for an angle not finite or
--- beyond ±1024.
-unfoldable pub angle_of : Float → Angle
-angle_of x = cond (out_of_reach x) OutOfReach (Pair (sin_cos_of x))
+-- Either the pair of numbers or "out of reach", which is None, the latter exactly for an angle not
+-- finite or beyond ±1024.
+unfoldable pub angle_of : Float → Option SinCos
+angle_of x = cond (out_of_reach x) None (Some (sin_cos_of x))
 
 -- the numbers that a sequence of roundings goes on with: out of reach, two NaNs
-abbrev pub numbers_of : Angle → SinCos
-numbers_of (Pair p) = p
-numbers_of OutOfReach = record { s = nan; c = nan }
+abbrev pub numbers_of : Option SinCos → SinCos
+numbers_of (Some p) = p
+numbers_of None = record { s = nan; c = nan }

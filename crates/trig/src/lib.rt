@@ -9,15 +9,16 @@
 //
 // Proved: the answer is the definition's for every angle; within -1 to 1; sine odd, cosine even;
 // sine of a zero is that zero, cosine of a zero is 1. The answer is either the pair of numbers or
-// "out of reach", the latter exactly for an angle not finite or beyond ±1024 (document 02, A5); its
-// numbers are then NaN, and only then. Measured: within 0.59·2^-53 for |x| up to 8, and within 1.35
+// none, "out of reach", the latter exactly for an angle not finite or beyond ±1024 (document 02,
+// A5); its numbers are then NaN, and only then. Measured: within 0.59·2^-53 for |x| up to 8, and within 1.35
 // units in the last place for every angle in reach. Every step of a shift that meets a latitude or
 // an exact rotation uses the pair.
 #![tactic(auto)]
 
-ghost use Rattle.std.specs.Prelude.{◌≡◌, ◌%◌};
+ghost use Rattle.std.specs.Prelude.{◌≡◌, ◌%◌, cond, Some, None};
+ghost use Rattle.floats.specs.Number.{abs_of};
 ghost use Rattle.trig.specs.Table.{row_of, aside_of, half_of};
-ghost use Rattle.trig.specs.Trig.{reduced_of, bend_of, at_most_one, clamp_of, sum_of, sine_of, cosine_of, pair_of, mirrored_of, sin_of, cos_of, sin_cos_of, angle_of, numbers_of};
+ghost use Rattle.trig.specs.Trig.{reduced_of, bend_of, at_most_one, clamp_of, sum_of, sine_of, cosine_of, pair_of, mirrored_of, sin_of, cos_of, sin_cos_of, out_of_reach, angle_of, numbers_of};
 
 use floats::{abs, of_bits, to_bits};
 
@@ -27,74 +28,47 @@ pub struct SinCos {
     pub c: f64,
 }
 
-// What sine and cosine of an angle are: the pair of numbers, or out of reach, the latter exactly
-// for an angle not finite or beyond ±1024.
-#[derive(Clone, Copy)]
-pub enum Angle {
-    OutOfReach,
-    Pair(SinCos),
+// The magnitude of x, or none for an angle not finite or beyond ±1024, which is out of reach. The
+// test for NaN comes before the magnitude, which of a number is a single instruction.
+fn in_reach(x: f64) -> Option<f64>
+    ensures { result ≡ cond (out_of_reach x) None (Some (abs_of x)) }
+{
+    if x != x {
+        return None;
+    }
+    let a = abs(x);
+    if a <= 1024.0 { Some(a) } else { None }
 }
 
-// Sine and cosine. One branch for the zeros keeps the sign of -0; one for NaN comes before the
-// magnitude, which of a number is a single instruction.
-pub fn sin_cos(x: f64) -> Angle
+// Sine and cosine, or none for an angle out of reach. One branch for the zeros keeps the sign of
+// -0.
+pub fn sin_cos(x: f64) -> Option<SinCos>
     ensures { result ≡ angle_of x }
 {
     if x == 0.0 {
-        return Angle::Pair(SinCos { s: x, c: 1.0 });
+        return Some(SinCos { s: x, c: 1.0 });
     }
-    if x != x {
-        return Angle::OutOfReach;
-    }
-    let a = abs(x);
-    if a <= 1024.0 {
-        let p = pair(a);
-        Angle::Pair(SinCos {
-            s: signed(p.s, x),
-            c: p.c,
-        })
-    } else {
-        Angle::OutOfReach
-    }
+    let p = pair(in_reach(x)?);
+    Some(SinCos {
+        s: signed(p.s, x),
+        c: p.c,
+    })
 }
 
 // The answer taken apart into the numbers that a sequence of roundings goes on with: out of reach,
 // two NaNs.
-pub fn numbers(a: Angle) -> SinCos
+pub fn numbers(a: Option<SinCos>) -> SinCos
     ensures { result ≡ numbers_of a }
 {
-    match a {
-        Angle::Pair(p) => p,
-        Angle::OutOfReach => {
-            let none = 0.0 / 0.0;
-            SinCos { s: none, c: none }
-        }
-    }
+    let none = 0.0 / 0.0;
+    a.unwrap_or(SinCos { s: none, c: none })
 }
 
-// The numbers at once, for C, which has no such enum. A second caller of `pair` also keeps that out
-// of line, so that `sin_cos` is small enough to stand in its callers' places and the enum is never
-// stored.
+// The numbers at once, for C, which has no Option.
 pub fn sin_cos_numbers(x: f64) -> SinCos
     ensures { result ≡ sin_cos_of x }
 {
-    if x == 0.0 {
-        return SinCos { s: x, c: 1.0 };
-    }
-    let none = 0.0 / 0.0;
-    if x != x {
-        return SinCos { s: none, c: none };
-    }
-    let magnitude = abs(x);
-    if magnitude <= 1024.0 {
-        let p = pair(magnitude);
-        SinCos {
-            s: signed(p.s, x),
-            c: p.c,
-        }
-    } else {
-        SinCos { s: none, c: none }
-    }
+    numbers(sin_cos(x))
 }
 
 // The sine alone: as the pair, with one sum.
@@ -104,15 +78,9 @@ pub fn sin(x: f64) -> f64
     if x == 0.0 {
         return x;
     }
-    let none = 0.0 / 0.0;
-    if x != x {
-        return none;
-    }
-    let size = abs(x);
-    if size <= 1024.0 {
-        signed(sine(size), x)
-    } else {
-        none
+    match in_reach(x) {
+        Some(a) => signed(sine(a), x),
+        None => 0.0 / 0.0,
     }
 }
 
@@ -123,12 +91,10 @@ pub fn cos(x: f64) -> f64
     if x == 0.0 {
         return 1.0;
     }
-    let none = 0.0 / 0.0;
-    if x != x {
-        return none;
+    match in_reach(x) {
+        Some(a) => cosine(a),
+        None => 0.0 / 0.0,
     }
-    let size = abs(x);
-    if size <= 1024.0 { cosine(size) } else { none }
 }
 
 // s, turned where x is below zero: the sine is odd. Of a number that is not zero this is its sign,
@@ -140,7 +106,9 @@ pub fn signed(s: f64, x: f64) -> f64
 }
 
 // Sine and cosine of a magnitude in reach. The slope of the sine is the cosine, that of the cosine
-// the sine turned.
+// the sine turned. It stays out of line, so that `sin_cos` is small enough to stand in its callers'
+// places and the Option is never stored.
+#[inline(never)]
 fn pair(a: f64) -> SinCos
     ensures { result ≡ pair_of a }
 {
@@ -153,7 +121,8 @@ fn pair(a: f64) -> SinCos
     }
 }
 
-// The sine of a magnitude in reach.
+// The sine of a magnitude in reach. It is not read from the pair, which stands out of line and adds
+// up the cosine too.
 fn sine(a: f64) -> f64
     ensures { result ≡ sine_of a }
 {
@@ -163,7 +132,7 @@ fn sine(a: f64) -> f64
     sum(w.0, w.1, w.2, g.rest, b)
 }
 
-// The cosine of a magnitude in reach.
+// The cosine of a magnitude in reach, likewise.
 fn cosine(a: f64) -> f64
     ensures { result ≡ cosine_of a }
 {

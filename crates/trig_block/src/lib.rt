@@ -9,7 +9,7 @@
 // hold here too. Every step of a shift that meets latitudes by the block uses it.
 #![tactic(auto)]
 
-ghost use Rattle.std.specs.Prelude.{◌≡◌, false, cond, ℕ};
+ghost use Rattle.std.specs.Prelude.{◌≡◌, ℕ};
 ghost use Rattle.blocks.specs.Each.{at, whole_at, Each, EachWhole, Tells};
 ghost use Rattle.trig.specs.Table.{row_of};
 ghost use Rattle.trig.specs.Trig.{sin_of, cos_of};
@@ -51,13 +51,11 @@ fn smalls(
     *step = [0; WIDTH];
     *rest = [0.0; WIDTH];
     *tail = [0.0; WIDTH];
-    let mut i = 0;
-    while i < WIDTH {
+    for i in 0..WIDTH {
         let g = reduce(abs(number(x[i])));
         step[i] = g.step;
         rest[i] = g.rest;
         tail[i] = g.tail;
-        i += 1;
     }
 }
 
@@ -84,14 +82,12 @@ fn rows(
     *sl = [0.0; WIDTH];
     *ch = [0.0; WIDTH];
     *cl = [0.0; WIDTH];
-    let mut i = 0;
-    while i < WIDTH {
+    for i in 0..WIDTH {
         let w = row(step[i]);
         sh[i] = w.0;
         sl[i] = w.1;
         ch[i] = w.2;
         cl[i] = w.3;
-        i += 1;
     }
 }
 
@@ -109,10 +105,8 @@ fn all_usual(x: &[f64; WIDTH]) -> bool
     ensures { Tells 16 (λ (j : ℕ). usual_of (at x.now j)) result }
 {
     let mut all = true;
-    let mut i = 0;
-    while i < WIDTH {
-        all = still(all, usual(x[i]));
-        i += 1;
+    for i in 0..WIDTH {
+        all &= usual(x[i]);
     }
     all
 }
@@ -124,12 +118,6 @@ fn usual(x: f64) -> bool
         return false;
     }
     abs(x) <= 1024.0
-}
-
-fn still(all: bool, one: bool) -> bool
-    ensures { result ≡ cond one all false }
-{
-    if one { all } else { false }
 }
 
 // The sums of a block of usual angles, from what the two loops before have laid down.
@@ -148,16 +136,16 @@ fn usual_sums(
 {
     *s = [0.0; WIDTH];
     *c = [0.0; WIDTH];
-    let mut i = 0;
-    while i < WIDTH {
-        let q = usual_both(x[i], rest[i], tail[i], sh[i], sl[i], ch[i], cl[i]);
+    for i in 0..WIDTH {
+        let w = Row(sh[i], sl[i], ch[i], cl[i]);
+        let q = usual_both(x[i], rest[i], tail[i], w);
         s[i] = q.s;
         c[i] = q.c;
-        i += 1;
     }
 }
 
-// The sums of a block of any angles.
+// The sums of a block of any angles. It stands beside `usual_sums` on purpose: one function over a
+// closure would have to say each place by the closure's `post`, which is longer than this loop.
 fn sums(
     x: &[f64; WIDTH],
     rest: &[f64; WIDTH],
@@ -173,20 +161,19 @@ fn sums(
 {
     *s = [0.0; WIDTH];
     *c = [0.0; WIDTH];
-    let mut i = 0;
-    while i < WIDTH {
-        let q = both(x[i], rest[i], tail[i], sh[i], sl[i], ch[i], cl[i]);
+    for i in 0..WIDTH {
+        let w = Row(sh[i], sl[i], ch[i], cl[i]);
+        let q = both(x[i], rest[i], tail[i], w);
         s[i] = q.s;
         c[i] = q.c;
-        i += 1;
     }
 }
 
 // Sine and cosine of a usual angle.
-fn usual_both(x: f64, r: f64, tail: f64, sh: f64, sl: f64, ch: f64, cl: f64) -> SinCos
-    ensures { result ≡ usual_from x r tail (record { 0 = sh; 1 = sl; 2 = ch; 3 = cl }) }
+fn usual_both(x: f64, r: f64, tail: f64, w: Row) -> SinCos
+    ensures { result ≡ usual_from x r tail w }
 {
-    let p = pair_from(r, tail, sh, sl, ch, cl);
+    let p = pair_from(r, tail, w);
     SinCos {
         s: signed(p.s, x),
         c: p.c,
@@ -195,10 +182,10 @@ fn usual_both(x: f64, r: f64, tail: f64, sh: f64, sl: f64, ch: f64, cl: f64) -> 
 
 // Sine and cosine of any angle. Each `if` chooses between two numbers that are there already, which
 // is no branch.
-fn both(x: f64, r: f64, tail: f64, sh: f64, sl: f64, ch: f64, cl: f64) -> SinCos
-    ensures { result ≡ both_from x r tail (record { 0 = sh; 1 = sl; 2 = ch; 3 = cl }) }
+fn both(x: f64, r: f64, tail: f64, w: Row) -> SinCos
+    ensures { result ≡ both_from x r tail w }
 {
-    let p = pair_from(r, tail, sh, sl, ch, cl);
+    let p = pair_from(r, tail, w);
     SinCos {
         s: sine_from(x, p.s),
         c: cosine_from(x, p.c),
@@ -206,13 +193,13 @@ fn both(x: f64, r: f64, tail: f64, sh: f64, sl: f64, ch: f64, cl: f64) -> SinCos
 }
 
 // Sine and cosine of a magnitude in reach, from its reduction and its row.
-fn pair_from(r: f64, tail: f64, sh: f64, sl: f64, ch: f64, cl: f64) -> SinCos
-    ensures { result ≡ pair_from r tail (record { 0 = sh; 1 = sl; 2 = ch; 3 = cl }) }
+fn pair_from(r: f64, tail: f64, w: Row) -> SinCos
+    ensures { result ≡ pair_from r tail w }
 {
     let b = bend(r, tail);
     SinCos {
-        s: sum(sh, sl, ch, r, b),
-        c: sum(ch, cl, -sh, r, b),
+        s: sum(w.0, w.1, w.2, r, b),
+        c: sum(w.2, w.3, -w.0, r, b),
     }
 }
 

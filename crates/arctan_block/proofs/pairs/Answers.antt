@@ -10,8 +10,8 @@ loop-h-init c = none_filled refl
 pub loop-h-preserved : goal.loop-h-preserved
 loop-h-preserved c =
     two_more c.loop-h-test.true
-    (rw (c.quick-v.ensures, c.octant_at-o.ensures, c.cell_at-c.ensures, c.cell_of.ensures))
-    (rw (c.quick-w.ensures, c.octant_at-p.ensures, c.cell_at-d.ensures, c.cell_of-in-loop-h.ensures))
+    (rw (c.quick-v.ensures, c.octant_at-o.ensures, c.cell_at-c.ensures, c.min.ensures))
+    (rw (c.quick-w.ensures, c.octant_at-p.ensures, c.cell_at-d.ensures, c.min-in-loop-h.ensures))
     c.loop-h.invariant
 
 pub returns : goal.returns

@@ -6,6 +6,6 @@ pub returns-then-same : goal.returns-then-same
 unfolding difference_of
 returns-then-same c = rw (← c.same.ensures, c.if-same.true)
 
-pub returns : goal.returns
+pub returns-else-same : goal.returns-else-same
 unfolding difference_of
-returns c = rw (c.to_bits.ensures, c.abs.ensures, ← c.same.ensures, c.if-same.false)
+returns-else-same c = rw (c.to_bits.ensures, c.abs.ensures, ← c.same.ensures, c.if-same.false)

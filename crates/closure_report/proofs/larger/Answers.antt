@@ -6,6 +6,6 @@ pub returns-then-some-before : goal.returns-then-some-before
 unfolding larger_of
 returns-then-some-before c = rw c.if-some-before.true
 
-pub returns : goal.returns
+pub returns-else-some-before : goal.returns-else-some-before
 unfolding larger_of
-returns c = rw c.if-some-before.false
+returns-else-some-before c = rw c.if-some-before.false

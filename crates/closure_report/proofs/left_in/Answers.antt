@@ -4,4 +4,4 @@ use Rattle.closure_report.proofs.left_in.Goals as goal
 
 pub returns : goal.returns
 unfolding left_in
-returns c = rw (c.larger-t.ensures, c.difference-4.ensures, c.larger-z.ensures, c.difference-3.ensures, c.larger-y.ensures, c.difference-2.ensures, c.larger-x.ensures, c.difference.ensures, c.one_more-tuples.ensures, c.some_left-some.ensures)
+returns c = rw (c.larger-4.ensures, c.difference-4.ensures, c.larger-3.ensures, c.difference-3.ensures, c.larger-2.ensures, c.difference-2.ensures, c.larger.ensures, c.difference.ensures, c.one_more.ensures, c.some_left-some.ensures)

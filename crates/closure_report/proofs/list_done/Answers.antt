@@ -4,4 +4,4 @@ use Rattle.closure_report.proofs.list_done.Goals as goal
 
 pub returns : goal.returns
 unfolding list_done
-returns c = rw c.one_more-lists.ensures
+returns c = rw c.one_more.ensures

@@ -4,4 +4,4 @@ use Rattle.closure_report.proofs.lost_in.Goals as goal
 
 pub returns : goal.returns
 unfolding lost_in
-returns c = rw (c.one_more-nans.ensures, c.one_more-tuples.ensures)
+returns c = rw (c.one_more-2.ensures, c.one_more.ensures)

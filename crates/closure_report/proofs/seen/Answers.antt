@@ -10,6 +10,6 @@ pub returns-then-is_restored : goal.returns-then-is_restored
 unfolding seen_of
 returns-then-is_restored c = rw (c.restored_in.ensures, ← c.is_lost.ensures, c.if-is_lost.false, ← c.is_restored.ensures, c.if-is_restored.true)
 
-pub returns : goal.returns
+pub returns-else-is_restored : goal.returns-else-is_restored
 unfolding seen_of
-returns c = rw (c.left_in.ensures, ← c.is_lost.ensures, c.if-is_lost.false, ← c.is_restored.ensures, c.if-is_restored.false)
+returns-else-is_restored c = rw (c.left_in.ensures, ← c.is_lost.ensures, c.if-is_lost.false, ← c.is_restored.ensures, c.if-is_restored.false)

@@ -2,9 +2,8 @@
 -- known than that they have 53 digits (`Guesses`); a turn adds one by the contract of `guess`
 -- (`one-guess-more`). The second loop's invariant: r is a block whose first j elements are the
 -- roots of those of x (`UpTo`); a turn adds one, since `from_guess` gives the root from any such
--- guess (`one_more`). At j = 16 all are roots (`all_filled`). The measures are 16 - i and 16 - j.
--- Assumes nothing.
-use Rattle.std.proofs.Common.{◌≡◌, ℕ, ◌-◌, ◌<◌, List, length}
+-- guess (`one_more`). At j = 16 all are roots (`all_filled`). Assumes nothing.
+use Rattle.std.proofs.Common.{◌≡◌, ℕ, ◌<◌, List, length}
 use Rattle.blocks.specs.Each.{at, whole_at, UpTo}
 use Rattle.root.specs.Sqrt.{sqrt_of}
 use Rattle.root.specs.Whole.{Digits}
@@ -18,11 +17,5 @@ pub record Guesses (n : ℕ) (l : List ℕ) : Type 0 where
 abbrev pub invariant-loop-i : goal.invariant-loop-i
 invariant-loop-i l = Guesses l.i l.g
 
-abbrev pub decreases-loop-i : goal.decreases-loop-i
-decreases-loop-i l = 16 - l.i
-
 abbrev pub invariant-loop-j : goal.invariant-loop-j
 invariant-loop-j l = UpTo l.j l.r (λ (k : ℕ). sqrt_of (at l.x k))
-
-abbrev pub decreases-loop-j : goal.decreases-loop-j
-decreases-loop-j l = 16 - l.j

@@ -15,8 +15,18 @@ loop-i-init c =
     going_start a.inverse a.s.now a.velocities.now a.marks.now a.list.now refusal _ few _ (c.answer_of-answer.ensures ∙ ap refused_answer c.refusal_of-refusal.ensures)
 
 -- a step's place is below the number of steps, of which there are at most sixteen
-pub noted-answer-requires : goal.noted-answer-requires
-noted-answer-requires c =
+pub bounds-answer-e : goal.bounds-answer-e
+bounds-answer-e c =
+    let a = c.args in
+    let refusal = thin_refusal_of a.s.now (length a.list.now) a.velocities.now a.marks.now in
+    let steps : c.steps_of-n.result ≡ steps_of a.s.now refusal = c.steps_of-n.ensures ∙ ap (steps_of a.s.now) c.refusal_of-refusal.ensures in
+    let few = going_few a.s.now a.velocities.now a.marks.now a.list.now refusal _ refl steps in
+    let below = place_below a.inverse c.steps_of-n.result c.loop-i.i c.loop-i-test.true in
+    let place = todo_place a.inverse a.s.now c.steps_of-n.result c.loop-i.i _ c.next_step-e.ensures in
+    omega (arith, few, below, place)
+
+pub offset_bounds-answer-e : goal.offset_bounds-answer-e
+offset_bounds-answer-e c =
     let a = c.args in
     let refusal = thin_refusal_of a.s.now (length a.list.now) a.velocities.now a.marks.now in
     let steps : c.steps_of-n.result ≡ steps_of a.s.now refusal = c.steps_of-n.ensures ∙ ap (steps_of a.s.now) c.refusal_of-refusal.ensures in
@@ -42,7 +52,7 @@ loop-i-preserved c =
     few
     c.loop-i.i
     c.loop-i.list
-    c.run_step-tally.new.list
+    c.run_step.new.list
     c.loop-i.answer
     _
     _
@@ -50,8 +60,8 @@ loop-i-preserved c =
     c.loop-i-test.true
     c.next_step-e.ensures
     (omega arith)
-    c.run_step-tally.ensures
-    c.noted-answer.ensures
+    c.run_step.ensures
+    refl
     c.loop-i.invariant
 
 pub shape_of-list : goal.shape_of-list

@@ -8,6 +8,6 @@ pub returns-then-refusal-eq0 : goal.returns-then-refusal-eq0
 unfolding steps_of
 returns-then-refusal-eq0 c = rw (eq-eqb _ _ c.if-refusal-eq0.true) c.step_count.ensures.0
 
-pub returns : goal.returns
+pub returns-else-refusal-eq0 : goal.returns-else-refusal-eq0
 unfolding steps_of
-returns c = rw (ne_eqb _ _ c.if-refusal-eq0.false)
+returns-else-refusal-eq0 c = rw (ne_eqb _ _ c.if-refusal-eq0.false)

@@ -1,23 +1,19 @@
--- One case for each way through the tests. Each by `zero_over_zero` and `nan_if_differs`, from what
--- the calls ensure. Assumes nothing.
-use lib.Ieee.{eq, lt, le}
+-- One case for each answer of `in_reach`. Assumes nothing.
 use Rattle.trig.specs.Trig.{cos_of}
-use Rattle.floats.specs.Number.{sign_of}
-use Rattle.floats.proofs.Nan.{zero_over_zero, nan_if_differs}
+use Rattle.floats.proofs.Nan.{zero_over_zero}
+use Rattle.trig.proofs.Laws.{cosine_out_of_reach, out_told}
+use Rattle.trig.proofs.Reach.{given_in_reach, given_is_the_magnitude, none_out_of_reach}
 use Rattle.trig.proofs.cos.Goals as goal
 
 pub returns-then-x : goal.returns-then-x
 unfolding cos_of
 returns-then-x c = rw c.if-x.true
 
-pub returns-then-x-2 : goal.returns-then-x-2
-unfolding cos_of sign_of eq le lt
-returns-then-x-2 c = rw (zero_over_zero, nan_if_differs _ c.if-x-2.true)
-
-pub returns-then-size : goal.returns-then-size
+pub returns-in-Some : goal.returns-in-Some
 unfolding cos_of
-returns-then-size c = rw (c.cosine.ensures, c.if-x.false, ← c.abs-size.ensures, c.if-size.true)
+returns-in-Some c =
+    let given = c.in-Some.ensures in
+    rw (c.cosine.ensures, given_is_the_magnitude _ _ given, c.if-x.false, given_in_reach _ _ given)
 
-pub returns-else-size : goal.returns-else-size
-unfolding cos_of
-returns-else-size c = rw (zero_over_zero, c.if-x.false, ← c.abs-size.ensures, c.if-size.false)
+pub returns-in-None : goal.returns-in-None
+returns-in-None c = rw (zero_over_zero, cosine_out_of_reach _ (out_told _ (none_out_of_reach _ c.in-None.ensures)))

@@ -1,8 +1,7 @@
 -- Invariant: s and c are blocks whose first i elements are the sine and cosine that `both_from`
 -- makes of each angle, its reduction and its row (`UpTo`). A turn writes one of each by the
--- contract of `both` (`one_more`), and at i = 16 all are written (`all_filled`). The measure is
--- 16 - i. Assumes nothing.
-use Prim.Native.Nat.{ℕ, ◌-◌}
+-- contract of `both` (`one_more`), and at i = 16 all are written (`all_filled`). Assumes nothing.
+use Prim.Native.Nat.{ℕ}
 use Rattle.blocks.specs.Each.{at, UpTo}
 use Rattle.trig_block.specs.Block.{both_from}
 use Rattle.trig_block.proofs.sums.Given as goal
@@ -11,6 +10,3 @@ abbrev pub invariant-loop-i : goal.invariant-loop-i
 invariant-loop-i l =
     UpTo l.i l.s (λ (j : ℕ). (both_from (at l.x j) (at l.rest j) (at l.tail j) (record { 0 = at l.sh j; 1 = at l.sl j; 2 = at l.ch j; 3 = at l.cl j })).s)
     × UpTo l.i l.c (λ (j : ℕ). (both_from (at l.x j) (at l.rest j) (at l.tail j) (record { 0 = at l.sh j; 1 = at l.sl j; 2 = at l.ch j; 3 = at l.cl j })).c)
-
-abbrev pub decreases-loop-i : goal.decreases-loop-i
-decreases-loop-i l = 16 - l.i
