@@ -41,8 +41,7 @@ fn turned_block(
         × Each dy.new (λ (j : ℕ). (turned_at op fixed k east.now north.now up.now t.now slon.now dz.old dx.old dy.old j).y)
         × Each dz.new (λ (j : ℕ). (turned_at op fixed k east.now north.now up.now t.now slon.now dz.old dx.old dy.old j).z) }
 {
-    let mut i = 0;
-    while i < WIDTH {
+    for i in 0..WIDTH {
         let v = Velocity {
             east: east[i],
             north: north[i],
@@ -58,7 +57,6 @@ fn turned_block(
         dx[i] = r.x;
         dy[i] = r.y;
         dz[i] = r.z;
-        i += 1;
     }
 }
 
@@ -104,8 +102,7 @@ fn square_block(dx: &[f64; WIDTH], dy: &[f64; WIDTH], dz: &[f64; WIDTH], q: &mut
     ensures { Each q.new (λ (j : ℕ). dot_of (correction_at dx.now dy.now dz.now j) (correction_at dx.now dy.now dz.now j)) }
 {
     *q = [0.0; WIDTH];
-    let mut i = 0;
-    while i < WIDTH {
+    for i in 0..WIDTH {
         let time = 0.0;
         let d = Tuple {
             x: dx[i],
@@ -114,7 +111,6 @@ fn square_block(dx: &[f64; WIDTH], dy: &[f64; WIDTH], dz: &[f64; WIDTH], q: &mut
             t: time,
         };
         q[i] = d.dot(d);
-        i += 1;
     }
 }
 
@@ -138,10 +134,8 @@ fn keep_block(marks: &[u8; WIDTH], r: &mut [f64; WIDTH])
     requires { length r.old ≡ 16 }
     ensures { Each r.new (λ (j : ℕ). kept_of (whole_at marks.now j) (at r.old j)) }
 {
-    let mut i = 0;
-    while i < WIDTH {
+    for i in 0..WIDTH {
         r[i] = kept(marks[i], r[i]);
-        i += 1;
     }
 }
 
@@ -150,10 +144,8 @@ fn add_block(marks: &[u8; WIDTH], v: &[f64; WIDTH], r: &mut [f64; WIDTH])
     requires { length r.old ≡ 16 }
     ensures { Each r.new (λ (j : ℕ). kept_of (whole_at marks.now j) (at v.now j ⊕ at r.old j)) }
 {
-    let mut i = 0;
-    while i < WIDTH {
+    for i in 0..WIDTH {
         r[i] = kept(marks[i], v[i] + r[i]);
-        i += 1;
     }
 }
 
@@ -162,10 +154,8 @@ fn time_block(marks: &[u8; WIDTH], t: &[f64; WIDTH], r: &mut [f64; WIDTH])
     ensures { Each r.new (λ (j : ℕ). kept_of (whole_at marks.now j) (at t.now j ⊕ bits 0)) }
 {
     *r = [0.0; WIDTH];
-    let mut i = 0;
-    while i < WIDTH {
+    for i in 0..WIDTH {
         r[i] = kept(marks[i], t[i] + 0.0);
-        i += 1;
     }
 }
 
@@ -173,10 +163,8 @@ fn count_block(marks: &[u8; WIDTH]) -> usize
     ensures { result ≡ count_to 16 (λ (j : ℕ). eqb (whole_at marks.now j) 1) }
 {
     let mut n = 0;
-    let mut i = 0;
-    while i < WIDTH {
+    for i in 0..WIDTH {
         n += one_if(marks[i] == 1);
-        i += 1;
     }
     n
 }

@@ -112,9 +112,7 @@ pub fn w_block(ellps: Ellipsoid, sinphi: &[f64; WIDTH], w: &mut [f64; WIDTH])
     ensures { Each w.new (λ (j : ℕ). w_of ellps (at sinphi.now j)) }
 {
     *w = [0.0; WIDTH];
-    let mut i = 0;
-    while i < WIDTH {
+    for i in 0..WIDTH {
         w[i] = ellps.w(sinphi[i]);
-        i += 1;
     }
 }

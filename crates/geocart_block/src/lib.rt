@@ -37,8 +37,7 @@ fn point_block(
     *x = [0.0; WIDTH];
     *y = [0.0; WIDTH];
     *z = [0.0; WIDTH];
-    let mut i = 0;
-    while i < WIDTH {
+    for i in 0..WIDTH {
         let v = geocart::point_at(
             ellps,
             ellps.a / rootw[i],
@@ -51,7 +50,6 @@ fn point_block(
         x[i] = v.x;
         y[i] = v.y;
         z[i] = v.z;
-        i += 1;
     }
 }
 
@@ -95,12 +93,10 @@ fn tangent_block(
 {
     *t = [0.0; WIDTH];
     *u = [0.0; WIDTH];
-    let mut i = 0;
-    while i < WIDTH {
+    for i in 0..WIDTH {
         let v = geocart::tangent(ellps, p[i], z[i]);
         t[i] = v;
         u[i] = 1.0 + v * v;
-        i += 1;
     }
 }
 
@@ -118,12 +114,10 @@ fn legs_block(
 {
     *num = [0.0; WIDTH];
     *denom = [0.0; WIDTH];
-    let mut i = 0;
-    while i < WIDTH {
+    for i in 0..WIDTH {
         let m = geocart::legs_at(ellps, p[i], z[i], t[i], root[i]);
         num[i] = m.num;
         denom[i] = m.denom;
-        i += 1;
     }
 }
 
@@ -163,10 +157,8 @@ pub fn latitude_block(
     ensures { Each r.new (λ (j : ℕ). latitude_of cutoff (at p.now j) (at z.now j) (at phi.now j)) }
 {
     *r = [0.0; WIDTH];
-    let mut i = 0;
-    while i < WIDTH {
+    for i in 0..WIDTH {
         r[i] = latitude(cutoff, p[i], z[i], phi[i]);
-        i += 1;
     }
 }
 

@@ -127,14 +127,12 @@ fn abridged_shifts(
         × Each dphi.new (λ (j : ℕ). (abridged_at op dh.old dlam.old dphi.old sphi.now cphi.now q.now j).dphi)
         × Each dh.new (λ (j : ℕ). (abridged_at op dh.old dlam.old dphi.old sphi.now cphi.now q.now j).dh) }
 {
-    let mut i = 0;
-    while i < WIDTH {
+    for i in 0..WIDTH {
         let p = place_with(op, dlam[i], dphi[i], sphi[i], cphi[i], q[i]);
         let shift = abridged_shift(op, p, dh[i]);
         dlam[i] = shift.dlam;
         dphi[i] = shift.dphi;
         dh[i] = shift.dh;
-        i += 1;
     }
 }
 
@@ -155,14 +153,12 @@ fn full_shifts(
         × Each dh.new (λ (j : ℕ). (full_at op h.now dlam.old dphi.old sphi.now cphi.now q.now j).dh) }
 {
     *dh = [0.0; WIDTH];
-    let mut i = 0;
-    while i < WIDTH {
+    for i in 0..WIDTH {
         let p = place_with(op, dlam[i], dphi[i], sphi[i], cphi[i], q[i]);
         let shift = full_shift(op, p, h[i]);
         dlam[i] = shift.dlam;
         dphi[i] = shift.dphi;
         dh[i] = shift.dh;
-        i += 1;
     }
 }
 
@@ -202,10 +198,8 @@ fn plus(x: &[f64; WIDTH], d: &mut [f64; WIDTH])
     requires { length d.old ≡ 16 }
     ensures { Each d.new (λ (j : ℕ). at x.now j ⊕ at d.old j) }
 {
-    let mut i = 0;
-    while i < WIDTH {
+    for i in 0..WIDTH {
         d[i] = x[i] + d[i];
-        i += 1;
     }
 }
 
@@ -213,10 +207,8 @@ fn minus(x: &[f64; WIDTH], d: &mut [f64; WIDTH])
     requires { length d.old ≡ 16 }
     ensures { Each d.new (λ (j : ℕ). at x.now j ⊖ at d.old j) }
 {
-    let mut i = 0;
-    while i < WIDTH {
+    for i in 0..WIDTH {
         d[i] = x[i] - d[i];
-        i += 1;
     }
 }
 

@@ -157,10 +157,8 @@ fn raised(op: Tide, s: &[f64; WIDTH], z: &[f64; WIDTH], oz: &mut [f64; WIDTH])
     ensures { Each oz.new (λ (j : ℕ). at z.now j ⊕ height_of op (at s.now j)) }
 {
     *oz = [0.0; WIDTH];
-    let mut i = 0;
-    while i < WIDTH {
+    for i in 0..WIDTH {
         oz[i] = z[i] + height(op, s[i]);
-        i += 1;
     }
 }
 
@@ -190,10 +188,8 @@ fn lowered(op: Tide, s: &[f64; WIDTH], z: &[f64; WIDTH], oz: &mut [f64; WIDTH])
     ensures { Each oz.new (λ (j : ℕ). at z.now j ⊖ height_of op (at s.now j)) }
 {
     *oz = [0.0; WIDTH];
-    let mut i = 0;
-    while i < WIDTH {
+    for i in 0..WIDTH {
         oz[i] = z[i] - height(op, s[i]);
-        i += 1;
     }
 }
 

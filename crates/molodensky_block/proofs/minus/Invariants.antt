@@ -1,8 +1,8 @@
 -- Invariant: the first i elements of d are those of x less the offsets that d held at the start,
 -- and the others are still those offsets (`Over`). So a turn subtracts the offset that stood there
 -- (`still`) and writes one element more (`one_more_over`). At i = 16 all are written
--- (`all_filled`). The measure is 16 - i. Assumes nothing.
-use Prim.Native.Nat.{ℕ, ◌-◌}
+-- (`all_filled`). Assumes nothing.
+use Prim.Native.Nat.{ℕ}
 use Rattle.floats.specs.Binary64.{◌⊖◌}
 use Rattle.blocks.specs.Each.{at}
 use Rattle.blocks.proofs.Over.{Over}
@@ -10,6 +10,3 @@ use Rattle.molodensky_block.proofs.minus.Given as goal
 
 abbrev pub invariant-loop-i : goal.invariant-loop-i
 invariant-loop-i l = Over l.i l.initial.d l.d (λ (j : ℕ). at l.x j ⊖ at l.initial.d j)
-
-abbrev pub decreases-loop-i : goal.decreases-loop-i
-decreases-loop-i l = 16 - l.i

@@ -1,7 +1,7 @@
 -- Invariant: oz is a block whose first i elements are the heights z plus the lift at the sines s
--- (`UpTo`, `height_of`). A turn writes one more by the contract of `height` (`one_more`), and at
--- i = 16 all are written (`all_filled`). The measure is 16 - i. Assumes nothing.
-use Prim.Native.Nat.{ℕ, ◌-◌}
+-- (`UpTo`, `height_of`). A turn writes one more by the contract of `height` (`one_more`), and at i
+-- = 16 all are written (`all_filled`). Assumes nothing.
+use Prim.Native.Nat.{ℕ}
 use Rattle.floats.specs.Binary64.{◌⊕◌}
 use Rattle.blocks.specs.Each.{at, UpTo}
 use Rattle.permtide.specs.Step.{height_of}
@@ -9,6 +9,3 @@ use Rattle.permtide.proofs.raised.Given as goal
 
 abbrev pub invariant-loop-i : goal.invariant-loop-i
 invariant-loop-i l = UpTo l.i l.oz (λ (j : ℕ). at l.z j ⊕ height_of l.op (at l.s j))
-
-abbrev pub decreases-loop-i : goal.decreases-loop-i
-decreases-loop-i l = 16 - l.i
