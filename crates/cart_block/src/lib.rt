@@ -64,8 +64,6 @@ fn reduced_block(
 )
     ensures { Each s0.new (λ (j : ℕ). s0_of k (at z.now j)) × Each c0.new (λ (j : ℕ). c0_of k (at p.now j)) }
 {
-    *s0 = [0.0; WIDTH];
-    *c0 = [0.0; WIDTH];
     for i in 0..WIDTH {
         s0[i] = k.ra * z[i];
         c0[i] = k.ar * (k.ra * p[i]);
@@ -84,8 +82,6 @@ fn meridian_block(
 )
     ensures { Each s1.new (λ (j : ℕ). (legs_with k (at p.now j) (at z.now j) (at a.now j)).s1) × Each cc.new (λ (j : ℕ). (legs_with k (at p.now j) (at z.now j) (at a.now j)).cc) }
 {
-    *s1 = [0.0; WIDTH];
-    *cc = [0.0; WIDTH];
     for i in 0..WIDTH {
         let q = k.ra * p[i];
         let m = cart::meridian(k, q, k.ra * z[i], k.ar * q, a[i]);
@@ -131,7 +127,6 @@ fn level_block(
 )
     ensures { Each h.new (λ (j : ℕ). level_of k (at p.now j) (at z.now j) (height_with k (at p.now j) (at z.now j) (record { s1 = at s1.now j; cc = at cc.now j }) (at inner.now j) (at outer.now j))) }
 {
-    *h = [0.0; WIDTH];
     for i in 0..WIDTH {
         let m = Legs {
             s1: s1[i],

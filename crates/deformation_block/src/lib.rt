@@ -36,7 +36,6 @@ fn turned_block(
     dy: &mut [f64; WIDTH],
     dz: &mut [f64; WIDTH],
 )
-    requires { (length dx.old ≡ 16) × (length dy.old ≡ 16) × (length dz.old ≡ 16) }
     ensures { Each dx.new (λ (j : ℕ). (turned_at op fixed k east.now north.now up.now t.now slon.now dz.old dx.old dy.old j).x)
         × Each dy.new (λ (j : ℕ). (turned_at op fixed k east.now north.now up.now t.now slon.now dz.old dx.old dy.old j).y)
         × Each dz.new (λ (j : ℕ). (turned_at op fixed k east.now north.now up.now t.now slon.now dz.old dx.old dy.old j).z) }
@@ -101,7 +100,6 @@ fn correction_block(
 fn square_block(dx: &[f64; WIDTH], dy: &[f64; WIDTH], dz: &[f64; WIDTH], q: &mut [f64; WIDTH])
     ensures { Each q.new (λ (j : ℕ). dot_of (correction_at dx.now dy.now dz.now j) (correction_at dx.now dy.now dz.now j)) }
 {
-    *q = [0.0; WIDTH];
     for i in 0..WIDTH {
         let time = 0.0;
         let d = Tuple {
@@ -131,7 +129,6 @@ fn kept(mark: u8, v: f64) -> f64
 
 // A column kept so.
 fn keep_block(marks: &[u8; WIDTH], r: &mut [f64; WIDTH])
-    requires { length r.old ≡ 16 }
     ensures { Each r.new (λ (j : ℕ). kept_of (whole_at marks.now j) (at r.old j)) }
 {
     for i in 0..WIDTH {
@@ -141,7 +138,6 @@ fn keep_block(marks: &[u8; WIDTH], r: &mut [f64; WIDTH])
 
 // A column added to corrections, and kept so.
 fn add_block(marks: &[u8; WIDTH], v: &[f64; WIDTH], r: &mut [f64; WIDTH])
-    requires { length r.old ≡ 16 }
     ensures { Each r.new (λ (j : ℕ). kept_of (whole_at marks.now j) (at v.now j ⊕ at r.old j)) }
 {
     for i in 0..WIDTH {
@@ -153,7 +149,6 @@ fn add_block(marks: &[u8; WIDTH], v: &[f64; WIDTH], r: &mut [f64; WIDTH])
 fn time_block(marks: &[u8; WIDTH], t: &[f64; WIDTH], r: &mut [f64; WIDTH])
     ensures { Each r.new (λ (j : ℕ). kept_of (whole_at marks.now j) (at t.now j ⊕ bits 0)) }
 {
-    *r = [0.0; WIDTH];
     for i in 0..WIDTH {
         r[i] = kept(marks[i], t[i] + 0.0);
     }

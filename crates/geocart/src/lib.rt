@@ -166,13 +166,13 @@ pub fn place(ellps: Ellipsoid, cartesian: Tuple) -> Position
     let p = hypot::hypot(cartesian.x, cartesian.y);
     if p < CUTOFF {
         return Position {
-            lam: lam,
+            lam,
             phi: pole(z),
         };
     }
     let m = bowring(ellps, p, z);
     Position {
-        lam: lam,
+        lam,
         phi: arctan::atan2(m.num, m.denom),
     }
 }

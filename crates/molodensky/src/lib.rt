@@ -150,12 +150,12 @@ impl Moped {
         ensures { result ≡ figure_of step ellps da df }
     {
         Moped {
-            ellps: ellps,
+            ellps,
             dx: step.dx,
             dy: step.dy,
             dz: step.dz,
-            da: da,
-            df: df,
+            da,
+            df,
             adffda: ellps.a * df + ellps.f * da,
             abridged: step.abridged(),
         }
@@ -180,10 +180,10 @@ impl Place {
         ensures { result ≡ place_with op slam clam sphi cphi radii }
     {
         Place {
-            slam: slam,
-            clam: clam,
-            sphi: sphi,
-            cphi: cphi,
+            slam,
+            clam,
+            sphi,
+            cphi,
             n: radii.n,
             m: radii.m,
             fac: op.dx * clam + op.dy * slam,
@@ -214,9 +214,9 @@ fn abridged_offsets(op: Moped, q: Place, phi: f64) -> Offsets
     // delta h
     let dh = q.fac * q.cphi + (op.dz + op.adffda * q.sphi) * q.sphi - op.da;
     Offsets::Three {
-        dlam: dlam,
-        dphi: dphi,
-        dh: dh,
+        dlam,
+        dphi,
+        dh,
     }
 }
 
@@ -244,9 +244,9 @@ fn full_offsets(op: Moped, q: Place, h: f64) -> Offsets
     let dh = q.fac * q.cphi + op.dz * q.sphi - a / n * op.da
         + n * (1.0 - f) * op.df * q.sphi * q.sphi;
     Offsets::Three {
-        dlam: dlam,
+        dlam,
         dphi: dphi / dphi_denom,
-        dh: dh,
+        dh,
     }
 }
 

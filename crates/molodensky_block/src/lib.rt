@@ -41,9 +41,9 @@ fn unless_zero(d: f64, dlam: f64, dphi: f64, dh: f64) -> Shift
         };
     }
     Shift {
-        dlam: dlam,
-        dphi: dphi,
-        dh: dh,
+        dlam,
+        dphi,
+        dh,
     }
 }
 
@@ -122,7 +122,6 @@ fn abridged_shifts(
     dphi: &mut [f64; WIDTH],
     dh: &mut [f64; WIDTH],
 )
-    requires { (length dlam.old ≡ 16) × (length dphi.old ≡ 16) × (length dh.old ≡ 16) }
     ensures { Each dlam.new (λ (j : ℕ). (abridged_at op dh.old dlam.old dphi.old sphi.now cphi.now q.now j).dlam)
         × Each dphi.new (λ (j : ℕ). (abridged_at op dh.old dlam.old dphi.old sphi.now cphi.now q.now j).dphi)
         × Each dh.new (λ (j : ℕ). (abridged_at op dh.old dlam.old dphi.old sphi.now cphi.now q.now j).dh) }
@@ -147,12 +146,10 @@ fn full_shifts(
     dphi: &mut [f64; WIDTH],
     dh: &mut [f64; WIDTH],
 )
-    requires { (length dlam.old ≡ 16) × (length dphi.old ≡ 16) }
     ensures { Each dlam.new (λ (j : ℕ). (full_at op h.now dlam.old dphi.old sphi.now cphi.now q.now j).dlam)
         × Each dphi.new (λ (j : ℕ). (full_at op h.now dlam.old dphi.old sphi.now cphi.now q.now j).dphi)
         × Each dh.new (λ (j : ℕ). (full_at op h.now dlam.old dphi.old sphi.now cphi.now q.now j).dh) }
 {
-    *dh = [0.0; WIDTH];
     for i in 0..WIDTH {
         let p = place_with(op, dlam[i], dphi[i], sphi[i], cphi[i], q[i]);
         let shift = full_shift(op, p, h[i]);
@@ -195,7 +192,6 @@ fn shifts(
 
 // A coordinate with the offsets added, over the offsets.
 fn plus(x: &[f64; WIDTH], d: &mut [f64; WIDTH])
-    requires { length d.old ≡ 16 }
     ensures { Each d.new (λ (j : ℕ). at x.now j ⊕ at d.old j) }
 {
     for i in 0..WIDTH {
@@ -204,7 +200,6 @@ fn plus(x: &[f64; WIDTH], d: &mut [f64; WIDTH])
 }
 
 fn minus(x: &[f64; WIDTH], d: &mut [f64; WIDTH])
-    requires { length d.old ≡ 16 }
     ensures { Each d.new (λ (j : ℕ). at x.now j ⊖ at d.old j) }
 {
     for i in 0..WIDTH {

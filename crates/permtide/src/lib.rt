@@ -156,7 +156,6 @@ pub fn fwd(op: Tide, coord: Tuple) -> Tuple
 fn raised(op: Tide, s: &[f64; WIDTH], z: &[f64; WIDTH], oz: &mut [f64; WIDTH])
     ensures { Each oz.new (λ (j : ℕ). at z.now j ⊕ height_of op (at s.now j)) }
 {
-    *oz = [0.0; WIDTH];
     for i in 0..WIDTH {
         oz[i] = z[i] + height(op, s[i]);
     }
@@ -187,7 +186,6 @@ pub fn inv(op: Tide, coord: Tuple) -> Tuple
 fn lowered(op: Tide, s: &[f64; WIDTH], z: &[f64; WIDTH], oz: &mut [f64; WIDTH])
     ensures { Each oz.new (λ (j : ℕ). at z.now j ⊖ height_of op (at s.now j)) }
 {
-    *oz = [0.0; WIDTH];
     for i in 0..WIDTH {
         oz[i] = z[i] - height(op, s[i]);
     }

@@ -5,7 +5,7 @@ use Rattle.blocks.proofs.Over.{none_over, still, one_more_over, all_over}
 use Rattle.deformation_block.proofs.turned_block.Goals as goal
 
 pub loop-i-init : goal.loop-i-init
-loop-i-init c = (none_over c.requires.0, none_over c.requires.1, none_over c.requires.2)
+loop-i-init c = (none_over (search rules), none_over (search rules), none_over (search rules))
 
 pub loop-i-preserved : goal.loop-i-preserved
 loop-i-preserved c =

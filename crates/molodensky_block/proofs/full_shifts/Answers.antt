@@ -1,11 +1,10 @@
 use borrow.Author.Rules.{rules}
-use mathlib.Core.Path.{refl}
 use Rattle.blocks.proofs.Laws.{none_filled, one_more, all_filled}
 use Rattle.blocks.proofs.Over.{none_over, still, one_more_over, all_over}
 use Rattle.molodensky_block.proofs.full_shifts.Goals as goal
 
 pub loop-i-init : goal.loop-i-init
-loop-i-init c = (none_over c.requires.0, none_over c.requires.1, none_filled refl)
+loop-i-init c = (none_over (search rules), none_over (search rules), none_filled (search rules))
 
 pub loop-i-preserved : goal.loop-i-preserved
 loop-i-preserved c =
