@@ -8,9 +8,9 @@ loop-i-init c = (none_over (search rules), none_over (search rules), none_over (
 pub loop-i-preserved : goal.loop-i-preserved
 loop-i-preserved c =
     let u = c.loop-i.invariant in (
-      one_more_over (search rules) (rw (c.abridged_shift-shift.ensures, c.place_with-p.ensures, still u.0, still u.1, still u.2)) u.0,
-      one_more_over (search rules) (rw (c.abridged_shift-shift.ensures, c.place_with-p.ensures, still u.0, still u.1, still u.2)) u.1,
-      one_more_over (search rules) (rw (c.abridged_shift-shift.ensures, c.place_with-p.ensures, still u.0, still u.1, still u.2)) u.2,
+      one_more_over (search rules) (rw (c.numbers-shift.ensures, c.abridged_offsets.ensures, c.place_with-p.ensures, still u.0, still u.1, still u.2)) u.0,
+      one_more_over (search rules) (rw (c.numbers-shift.ensures, c.abridged_offsets.ensures, c.place_with-p.ensures, still u.0, still u.1, still u.2)) u.1,
+      one_more_over (search rules) (rw (c.numbers-shift.ensures, c.abridged_offsets.ensures, c.place_with-p.ensures, still u.0, still u.1, still u.2)) u.2,
     )
 
 pub returns : goal.returns

@@ -9,9 +9,9 @@ loop-i-init c = (none_over (search rules), none_over (search rules), none_filled
 pub loop-i-preserved : goal.loop-i-preserved
 loop-i-preserved c =
     let u = c.loop-i.invariant in (
-      one_more_over (search rules) (rw (c.full_shift-shift.ensures, c.place_with-p.ensures, still u.0, still u.1)) u.0,
-      one_more_over (search rules) (rw (c.full_shift-shift.ensures, c.place_with-p.ensures, still u.0, still u.1)) u.1,
-      one_more (search rules) (rw (c.full_shift-shift.ensures, c.place_with-p.ensures, still u.0, still u.1)) u.2,
+      one_more_over (search rules) (rw (c.numbers-shift.ensures, c.full_offsets.ensures, c.place_with-p.ensures, still u.0, still u.1)) u.0,
+      one_more_over (search rules) (rw (c.numbers-shift.ensures, c.full_offsets.ensures, c.place_with-p.ensures, still u.0, still u.1)) u.1,
+      one_more (search rules) (rw (c.numbers-shift.ensures, c.full_offsets.ensures, c.place_with-p.ensures, still u.0, still u.1)) u.2,
     )
 
 pub returns : goal.returns
