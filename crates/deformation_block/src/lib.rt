@@ -8,8 +8,8 @@
 // same definition. Used by `deformation_columns`.
 #![tactic(auto)]
 
-ghost use Rattle.std.specs.Prelude.{◌≡◌, ℕ, eqb, length};
-ghost use Rattle.floats.specs.Binary64.{◌⊕◌, bits};
+ghost use Rattle.std.specs.Prelude.{◌≡◌, ℕ, eqb};
+ghost use Rattle.floats.specs.Binary64.{◌⊕◌};
 ghost use Rattle.blocks.specs.Each.{at, whole_at, Each, count_to};
 ghost use Rattle.root.specs.Sqrt.{sqrt_of};
 ghost use Rattle.tuple.specs.Sums.{dot_of};
@@ -52,7 +52,7 @@ fn turned_block(
         };
         let lat = SinCos { s: dx[i], c: dy[i] };
         let d = deformation::lasting(op, fixed, t[i]);
-        let r = deformation::turned(v.scale(k), lon, lat, d);
+        let r = deformation::turned(v * k, lon, lat, d);
         dx[i] = r.x;
         dy[i] = r.y;
         dz[i] = r.z;
@@ -101,12 +101,11 @@ fn square_block(dx: &[f64; WIDTH], dy: &[f64; WIDTH], dz: &[f64; WIDTH], q: &mut
     ensures { Each q.new (λ (j : ℕ). dot_of (correction_at dx.now dy.now dz.now j) (correction_at dx.now dy.now dz.now j)) }
 {
     for i in 0..WIDTH {
-        let time = 0.0;
         let d = Tuple {
             x: dx[i],
             y: dy[i],
             z: dz[i],
-            t: time,
+            t: 0.0,
         };
         q[i] = d.dot(d);
     }
@@ -142,15 +141,6 @@ fn add_block(marks: &[u8; WIDTH], v: &[f64; WIDTH], r: &mut [f64; WIDTH])
 {
     for i in 0..WIDTH {
         r[i] = kept(marks[i], v[i] + r[i]);
-    }
-}
-
-// The times: 0.0 is added.
-fn time_block(marks: &[u8; WIDTH], t: &[f64; WIDTH], r: &mut [f64; WIDTH])
-    ensures { Each r.new (λ (j : ℕ). kept_of (whole_at marks.now j) (at t.now j ⊕ bits 0)) }
-{
-    for i in 0..WIDTH {
-        r[i] = kept(marks[i], t[i] + 0.0);
     }
 }
 
@@ -202,6 +192,8 @@ pub fn moved_block(
     add_block(marks, x, ox);
     add_block(marks, y, oy);
     add_block(marks, z, oz);
-    time_block(marks, t, ot);
+    // the correction has no fourth number of its own: 0.0 is added to a time
+    *ot = [0.0; WIDTH];
+    add_block(marks, t, ot);
     count_block(marks)
 }

@@ -10,7 +10,7 @@ loop-i-init c = (none_over (search rules), none_over (search rules), none_over (
 pub loop-i-preserved : goal.loop-i-preserved
 loop-i-preserved c =
     let inv = c.loop-i.invariant in
-    let e = rw (c.scale.ensures, c.lasting-d.ensures) at c.turned-r.ensures in
+    let e = rw (c.mul.ensures, c.lasting-d.ensures) at c.turned-r.ensures in
     let there = rw (still inv.0, still inv.1, still inv.2) at e in (
       one_more_over (search rules) (ap (λ (r : Tuple). r.x) there) inv.0,
       one_more_over (search rules) (ap (λ (r : Tuple). r.y) there) inv.1,
