@@ -4,6 +4,10 @@
 // the columns stand for, at four times the index. So a block step's form over sixteen tuples is
 // carried over to columns by the same laws. Exact: numbers are moved, never rounded. Used by every
 // loop over columns that takes sixteen rows at a turn.
+//
+// The four blocks stay four parameters. A struct of four arrays is no plainer: most steps make three
+// new columns and leave the time, so it would hold a time that is no result or a copy of one, and
+// the kernels take and fill one column at a time.
 #![tactic(auto)]
 
 ghost use Rattle.std.specs.Prelude.{◌≡◌, ◌&&◌, ℕ, ◌+◌, ◌*◌, ◌≤◌, leb, length};
@@ -39,10 +43,6 @@ fn load_there(
         × Each bz.new (λ (j : ℕ). (row_at (flat_of x.now y.now z.now t.now) (4 * i) j).z)
         × Each bt.new (λ (j : ℕ). (row_at (flat_of x.now y.now z.now t.now) (4 * i) j).t) }
 {
-    *bx = [0.0; WIDTH];
-    *by = [0.0; WIDTH];
-    *bz = [0.0; WIDTH];
-    *bt = [0.0; WIDTH];
     for j in 0..WIDTH {
         let k = i + j;
         bx[j] = x[k];

@@ -8,6 +8,10 @@
 // there and back over lent room. specs/Passed.antt says what a part of a loop has done, and
 // proofs/Passed.antt has the laws that every loop over columns is proved by. Exact: numbers are
 // moved, never rounded. Used by every loop over a list.
+//
+// The four columns stay four parameters. A struct of four `&mut` slices is no plainer: each contract
+// would need a clause a column that it is still the same slice, and the borrow check does not cover
+// parts of a slice that is a field.
 #![tactic(auto)]
 
 ghost use Rattle.std.specs.Prelude.{◌≡◌, cond, ◌+◌, ◌*◌, ◌≤◌, ◌<◌, length};

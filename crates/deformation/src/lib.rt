@@ -13,9 +13,8 @@ ghost use Rattle.std.specs.Prelude.{◌≡◌};
 ghost use Rattle.deformation.specs.Record.{blank_of, raw_of, by_comment_of, directed_of, finite_or_not, in_rule_of, neither_of};
 ghost use Rattle.deformation.specs.Step.{motion_of, lasting_of, duration_of, scale_of, metre_of, metres_of, east_north_up_of, integrated_of, with_length_of, deformed_of, common_of};
 
-use std::ops::Mul;
-
 use ellipsoid::Ellipsoid;
+use std::ops::Mul;
 use trig::SinCos;
 use tuple::{Shifted, Tuple};
 

@@ -58,12 +58,12 @@ pub fn read_block(
         × Each z.new (λ (j : ℕ). (row_at list.now at j).z)
         × Each t.new (λ (j : ℕ). (row_at list.now at j).t) }
 {
-    let none = 0.0 / 0.0;
-    *x = [none; WIDTH];
-    *y = [none; WIDTH];
-    *z = [none; WIDTH];
-    *t = [none; WIDTH];
     if list.len().saturating_sub(at) < 64 {
+        let none = 0.0 / 0.0;
+        *x = [none; WIDTH];
+        *y = [none; WIDTH];
+        *z = [none; WIDTH];
+        *t = [none; WIDTH];
         return;
     }
     for i in 0..WIDTH {

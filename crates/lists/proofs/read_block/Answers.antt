@@ -22,7 +22,7 @@ pub returns-then-saturating_sub-lt64 : goal.returns-then-saturating_sub-lt64
 returns-then-saturating_sub-lt64 c = none_there _ _ (search rules)
 
 pub loop-i-init : goal.loop-i-init
-loop-i-init c = (none_filled refl, none_filled refl, none_filled refl, none_filled refl)
+loop-i-init c = (none_filled (search rules), none_filled (search rules), none_filled (search rules), none_filled (search rules))
 
 pub loop-i-preserved : goal.loop-i-preserved
 loop-i-preserved c =
