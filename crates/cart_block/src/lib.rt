@@ -164,7 +164,8 @@ fn counts_at(k: Inverse, p: f64, v: Tuple) -> bool
     if p < k.cutoff { false } else { whole }
 }
 
-// How many tuples of a block count, p from the axis.
+// How many tuples of a block count, p from the axis. A loop beside that of `count_block`: a count by
+// any test would take a closure, and its contract would be longer than the two loops.
 fn count_off_axis_block(
     k: Inverse,
     p: &[f64; WIDTH],

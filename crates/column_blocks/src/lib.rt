@@ -151,7 +151,8 @@ fn points_there(
 }
 
 // The same for a step that leaves the times, which are not written: where bt holds the sixteen that
-// stand there, it is what putting all four blocks is.
+// stand there, it is what putting all four blocks is. A function of its own: the times are lent to
+// be read, so that what a caller knows of them stays known.
 pub fn store_points(
     x: &mut [f64],
     y: &mut [f64],

@@ -193,10 +193,8 @@ fn with_length(deformation: Tuple) -> Tuple
     ensures { result ≡ with_length_of deformation }
 {
     Tuple {
-        x: deformation.x,
-        y: deformation.y,
-        z: deformation.z,
         t: root::sqrt(deformation.dot(deformation)),
+        ..deformation
     }
 }
 

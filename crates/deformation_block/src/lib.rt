@@ -126,7 +126,7 @@ fn kept(mark: u8, v: f64) -> f64
     if mark == 1 { v } else { 0.0 / 0.0 }
 }
 
-// A column kept so.
+// A column kept so. Not `add_block` with zeros, which would make +0 of a correction of -0.
 fn keep_block(marks: &[u8; WIDTH], r: &mut [f64; WIDTH])
     ensures { Each r.new (λ (j : ℕ). kept_of (whole_at marks.now j) (at r.old j)) }
 {

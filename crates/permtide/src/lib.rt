@@ -170,10 +170,8 @@ pub fn fwd(op: Tide, coord: Tuple) -> Tuple
     ensures { result ≡ fwd_of op coord }
 {
     Tuple {
-        x: coord.x,
-        y: coord.y,
         z: coord.z + lift(op, coord.y),
-        t: coord.t,
+        ..coord
     }
 }
 
@@ -192,10 +190,8 @@ pub fn inv(op: Tide, coord: Tuple) -> Tuple
     ensures { result ≡ inv_of op coord }
 {
     Tuple {
-        x: coord.x,
-        y: coord.y,
         z: coord.z - lift(op, coord.y),
-        t: coord.t,
+        ..coord
     }
 }
 
