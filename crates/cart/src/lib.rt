@@ -79,8 +79,8 @@ impl Inverse {
     {
         let ra = 1.0 / ellps.a;
         Inverse {
-            ellps: ellps,
-            ra: ra,
+            ellps,
+            ra,
             // b/a: Fukushima's ec, Claessens' c4
             ar: ellps.b * ra,
             // 1.5 times the fourth power of the eccentricity
@@ -101,10 +101,7 @@ pub fn meridian(k: Inverse, p: f64, s0: f64, c0: f64, a: f64) -> Legs
     let b = k.ce4 * s0 * s0 * c0 * c0 * p * (a - k.ar);
     let s1 = (k.ar * s0 * a * a * a + es * s0 * s0 * s0) * f - b * s0;
     let c1 = f * f - b * c0;
-    Legs {
-        s1: s1,
-        cc: k.ar * c1,
-    }
+    Legs { s1, cc: k.ar * c1 }
 }
 
 // The height, with two hypotenuses at hand: inner that of CC and ar·S1, outer that of CC and S1.

@@ -25,8 +25,7 @@ fn count_block(x: &[f64; WIDTH], y: &[f64; WIDTH], z: &[f64; WIDTH], t: &[f64; W
     ensures { result ≡ count_to 16 (λ (j : ℕ). not (any_nan_of (row_of x.now y.now z.now t.now j))) }
 {
     let mut n = 0;
-    let mut i = 0;
-    while i < WIDTH {
+    for i in 0..WIDTH {
         let v = Tuple {
             x: x[i],
             y: y[i],
@@ -34,7 +33,6 @@ fn count_block(x: &[f64; WIDTH], y: &[f64; WIDTH], z: &[f64; WIDTH], t: &[f64; W
             t: t[i],
         };
         n += one_if(!v.any_nan());
-        i += 1;
     }
     n
 }
@@ -66,13 +64,9 @@ fn reduced_block(
 )
     ensures { Each s0.new (λ (j : ℕ). s0_of k (at z.now j)) × Each c0.new (λ (j : ℕ). c0_of k (at p.now j)) }
 {
-    *s0 = [0.0; WIDTH];
-    *c0 = [0.0; WIDTH];
-    let mut i = 0;
-    while i < WIDTH {
+    for i in 0..WIDTH {
         s0[i] = k.ra * z[i];
         c0[i] = k.ar * (k.ra * p[i]);
-        i += 1;
     }
 }
 
@@ -88,15 +82,11 @@ fn meridian_block(
 )
     ensures { Each s1.new (λ (j : ℕ). (legs_with k (at p.now j) (at z.now j) (at a.now j)).s1) × Each cc.new (λ (j : ℕ). (legs_with k (at p.now j) (at z.now j) (at a.now j)).cc) }
 {
-    *s1 = [0.0; WIDTH];
-    *cc = [0.0; WIDTH];
-    let mut i = 0;
-    while i < WIDTH {
+    for i in 0..WIDTH {
         let q = k.ra * p[i];
         let m = cart::meridian(k, q, k.ra * z[i], k.ar * q, a[i]);
         s1[i] = m.s1;
         cc[i] = m.cc;
-        i += 1;
     }
 }
 
@@ -137,16 +127,13 @@ fn level_block(
 )
     ensures { Each h.new (λ (j : ℕ). level_of k (at p.now j) (at z.now j) (height_with k (at p.now j) (at z.now j) (record { s1 = at s1.now j; cc = at cc.now j }) (at inner.now j) (at outer.now j))) }
 {
-    *h = [0.0; WIDTH];
-    let mut i = 0;
-    while i < WIDTH {
+    for i in 0..WIDTH {
         let m = Legs {
             s1: s1[i],
             cc: cc[i],
         };
         let off = cart::height_with(k, p[i], z[i], m, inner[i], outer[i]);
         h[i] = level(k, p[i], z[i], off);
-        i += 1;
     }
 }
 
@@ -177,7 +164,8 @@ fn counts_at(k: Inverse, p: f64, v: Tuple) -> bool
     if p < k.cutoff { false } else { whole }
 }
 
-// How many tuples of a block count, p from the axis.
+// How many tuples of a block count, p from the axis. A loop beside that of `count_block`: a count by
+// any test would take a closure, and its contract would be longer than the two loops.
 fn count_off_axis_block(
     k: Inverse,
     p: &[f64; WIDTH],
@@ -189,8 +177,7 @@ fn count_off_axis_block(
     ensures { result ≡ count_to 16 (λ (j : ℕ). counts_of k (at p.now j) (row_of x.now y.now z.now t.now j)) }
 {
     let mut n = 0;
-    let mut i = 0;
-    while i < WIDTH {
+    for i in 0..WIDTH {
         let v = Tuple {
             x: x[i],
             y: y[i],
@@ -198,7 +185,6 @@ fn count_off_axis_block(
             t: t[i],
         };
         n += one_if(counts_at(k, p[i], v));
-        i += 1;
     }
     n
 }

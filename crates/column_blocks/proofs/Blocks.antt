@@ -37,19 +37,12 @@ no_block x y z t i e = by (level_of x y z t) refl
     by false p = rw (flat-uneven x y z t p) (omega arith)
 
 -- the test as the code makes it, without a sum that could overflow
-pub within : (i n : ℕ) → 16 ≤ n → leb i (n - 16) ≡ leb (i + 16) n
-within i n h = by (leb (i + 16) n) refl
+pub within : (i n : ℕ) → leb 16 (n - i) ≡ leb (i + 16) n
+within i n = by (leb (i + 16) n) refl
   where
-    by : (b : Bool) → leb (i + 16) n ≡ b → leb i (n - 16) ≡ b
-    by true e = le-leb i (n - 16) (omega (arith, h, leb-true (i + 16) n e))
-    by false e = lt-leb i (n - 16) (omega (arith, h, leb-false (i + 16) n e))
-
-never : (b : Bool) → (b && false) ≡ false
-never true = refl
-never false = refl
-
-pub too_short : (x y z t : List Float) (i : ℕ) → length x < 16 → false ≡ (level_of x y z t && leb (i + 16) (length x))
-too_short x y z t i h = sym (ap (λ (b : Bool). level_of x y z t && b) (lt-leb (i + 16) (length x) (omega (arith, h))) ∙ never (level_of x y z t))
+    by : (b : Bool) → leb (i + 16) n ≡ b → leb 16 (n - i) ≡ b
+    by true e = le-leb 16 (n - i) (omega (arith, leb-true (i + 16) n e))
+    by false e = lt-leb 16 (n - i) (omega (arith, leb-false (i + 16) n e))
 
 -- ---- where they stand
 

@@ -4,6 +4,10 @@
 // the columns stand for, at four times the index. So a block step's form over sixteen tuples is
 // carried over to columns by the same laws. Exact: numbers are moved, never rounded. Used by every
 // loop over columns that takes sixteen rows at a turn.
+//
+// The four blocks stay four parameters. A struct of four arrays is no plainer: most steps make three
+// new columns and leave the time, so it would hold a time that is no result or a copy of one, and
+// the kernels take and fill one column at a time.
 #![tactic(auto)]
 
 ghost use Rattle.std.specs.Prelude.{◌≡◌, ◌&&◌, ℕ, ◌+◌, ◌*◌, ◌≤◌, leb, length};
@@ -17,11 +21,7 @@ use blocks::WIDTH;
 fn has_block(x: &[f64], y: &[f64], z: &[f64], t: &[f64], i: usize) -> bool
     ensures { result ≡ (level_of x.now y.now z.now t.now && leb (i + 16) (length x.now)) }
 {
-    let n = x.len();
-    if n < 16 {
-        return false;
-    }
-    columns::level(x, y, z, t) & (i <= n - 16)
+    columns::level(x, y, z, t) && WIDTH <= x.len().saturating_sub(i)
 }
 
 // ----- loaded ----------------------------------------------------------------------------------
@@ -43,18 +43,12 @@ fn load_there(
         × Each bz.new (λ (j : ℕ). (row_at (flat_of x.now y.now z.now t.now) (4 * i) j).z)
         × Each bt.new (λ (j : ℕ). (row_at (flat_of x.now y.now z.now t.now) (4 * i) j).t) }
 {
-    *bx = [0.0; WIDTH];
-    *by = [0.0; WIDTH];
-    *bz = [0.0; WIDTH];
-    *bt = [0.0; WIDTH];
-    let mut j = 0;
-    while j < WIDTH {
+    for j in 0..WIDTH {
         let k = i + j;
         bx[j] = x[k];
         by[j] = y[k];
         bz[j] = z[k];
         bt[j] = t[k];
-        j += 1;
     }
 }
 
@@ -77,13 +71,13 @@ pub fn load_block(
 {
     if has_block(x, y, z, t, i) {
         load_there(x, y, z, t, i, bx, by, bz, bt);
-        return;
+    } else {
+        let none = 0.0 / 0.0;
+        *bx = [none; WIDTH];
+        *by = [none; WIDTH];
+        *bz = [none; WIDTH];
+        *bt = [none; WIDTH];
     }
-    let none = 0.0 / 0.0;
-    *bx = [none; WIDTH];
-    *by = [none; WIDTH];
-    *bz = [none; WIDTH];
-    *bt = [none; WIDTH];
 }
 
 // ----- stored ----------------------------------------------------------------------------------
@@ -103,14 +97,12 @@ fn store_there(
     ensures { flat_of x.new y.new z.new t.new
         ≡ put_block (flat_of x.old y.old z.old t.old) (4 * i) bx.now by.now bz.now bt.now }
 {
-    let mut j = 0;
-    while j < WIDTH {
+    for j in 0..WIDTH {
         let k = i + j; // each at its own index
         x[k] = bx[j];
         y[k] = by[j];
         z[k] = bz[j];
         t[k] = bt[j];
-        j += 1;
     }
 }
 
@@ -131,7 +123,6 @@ pub fn store_block(
 {
     if has_block(x, y, z, t, i) {
         store_there(x, y, z, t, i, bx, by, bz, bt);
-        return;
     }
 }
 
@@ -151,18 +142,17 @@ fn points_there(
         → flat_of x.new y.new z.new t.now
         ≡ put_block (flat_of x.old y.old z.old t.now) (4 * i) bx.now by.now bz.now bt.now }
 {
-    let mut j = 0;
-    while j < WIDTH {
+    for j in 0..WIDTH {
         let k = i + j;
         x[k] = bx[j];
         y[k] = by[j];
         z[k] = bz[j]; // and the time stays
-        j += 1;
     }
 }
 
 // The same for a step that leaves the times, which are not written: where bt holds the sixteen that
-// stand there, it is what putting all four blocks is.
+// stand there, it is what putting all four blocks is. A function of its own: the times are lent to
+// be read, so that what a caller knows of them stays known.
 pub fn store_points(
     x: &mut [f64],
     y: &mut [f64],
@@ -180,6 +170,5 @@ pub fn store_points(
 {
     if has_block(x, y, z, t, i) {
         points_there(x, y, z, t, i, bx, by, bz, bt);
-        return;
     }
 }

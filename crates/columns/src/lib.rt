@@ -8,6 +8,10 @@
 // there and back over lent room. specs/Passed.antt says what a part of a loop has done, and
 // proofs/Passed.antt has the laws that every loop over columns is proved by. Exact: numbers are
 // moved, never rounded. Used by every loop over a list.
+//
+// The four columns stay four parameters. A struct of four `&mut` slices is no plainer: each contract
+// would need a clause a column that it is still the same slice, and the borrow check does not cover
+// parts of a slice that is a field.
 #![tactic(auto)]
 
 ghost use Rattle.std.specs.Prelude.{◌≡◌, cond, ◌+◌, ◌*◌, ◌≤◌, ◌<◌, length};
@@ -21,7 +25,7 @@ use tuple::Tuple;
 pub fn level(x: &[f64], y: &[f64], z: &[f64], t: &[f64]) -> bool
     ensures { result ≡ level_of x.now y.now z.now t.now }
 {
-    (y.len() == x.len()) & (z.len() == x.len()) & (t.len() == x.len())
+    y.len() == x.len() && z.len() == x.len() && t.len() == x.len()
 }
 
 // ----- one row -------------------------------------------------------------------------------
@@ -30,7 +34,7 @@ pub fn level(x: &[f64], y: &[f64], z: &[f64], t: &[f64]) -> bool
 fn has_row(x: &[f64], y: &[f64], z: &[f64], t: &[f64], i: usize) -> bool
     ensures { result ≡ has_row_of x.now y.now z.now t.now i }
 {
-    level(x, y, z, t) & (i < x.len())
+    level(x, y, z, t) && i < x.len()
 }
 
 // The tuple at an index; four NaNs where no row stands there.
@@ -38,9 +42,10 @@ pub fn read_row(x: &[f64], y: &[f64], z: &[f64], t: &[f64], i: usize) -> Tuple
     ensures { result ≡ tuple_at (flat_of x.now y.now z.now t.now) (4 * i) }
 {
     if has_row(x, y, z, t, i) {
-        return there(x, y, z, t, i);
+        there(x, y, z, t, i)
+    } else {
+        Tuple::nan()
     }
-    Tuple::nan()
 }
 
 // A tuple put at an index; nothing is written where no row stands there.
@@ -50,7 +55,6 @@ pub fn write_row(x: &mut [f64], y: &mut [f64], z: &mut [f64], t: &mut [f64], i: 
 {
     if has_row(x, y, z, t, i) {
         put_there(x, y, z, t, i, v);
-        return;
     }
 }
 
@@ -62,7 +66,6 @@ pub fn write_point(x: &mut [f64], y: &mut [f64], z: &mut [f64], t: &[f64], i: us
 {
     if has_row(x, y, z, t, i) {
         put_point(x, y, z, t, i, v);
-        return;
     }
 }
 
@@ -130,11 +133,9 @@ fn into_columns(list: &[f64], x: &mut [f64], y: &mut [f64], z: &mut [f64], t: &m
     requires { Level x.old y.old z.old t.old × (length list.now ≡ 4 * length x.old) }
     ensures { flat_of x.new y.new z.new t.new ≡ list.now }
 {
-    let mut i = 0;
-    while i < x.len() {
+    for i in 0..x.len() {
         let v = read_four(list, 4 * i);
         put_there(x, y, z, t, i, v); // row by row
-        i += 1;
     }
 }
 
@@ -143,11 +144,9 @@ fn into_flat(x: &[f64], y: &[f64], z: &[f64], t: &[f64], list: &mut [f64])
     requires { Level x.now y.now z.now t.now × (length list.old ≡ 4 * length x.now) }
     ensures { list.new ≡ flat_of x.now y.now z.now t.now }
 {
-    let mut i = 0;
-    while i < x.len() {
+    for i in 0..x.len() {
         let v = there(x, y, z, t, i);
         write_four(list, 4 * i, v);
-        i += 1;
     }
 }
 
@@ -155,7 +154,7 @@ fn into_flat(x: &[f64], y: &[f64], z: &[f64], t: &[f64], list: &mut [f64])
 fn fits(list: &[f64], x: &[f64], y: &[f64], z: &[f64], t: &[f64]) -> bool
     ensures { result ≡ fits_of list.now x.now y.now z.now t.now }
 {
-    level(x, y, z, t) & (list.len() % 4 == 0) & (list.len() / 4 == x.len())
+    level(x, y, z, t) && list.len() % 4 == 0 && list.len() / 4 == x.len()
 }
 
 // A flat list into columns; nothing is written where it has not four numbers for each row.
@@ -166,7 +165,6 @@ pub fn to_columns(list: &[f64], x: &mut [f64], y: &mut [f64], z: &mut [f64], t: 
 {
     if fits(list, x, y, z, t) {
         into_columns(list, x, y, z, t);
-        return;
     }
 }
 
@@ -177,6 +175,5 @@ pub fn to_flat(x: &[f64], y: &[f64], z: &[f64], t: &[f64], list: &mut [f64])
 {
     if fits(list, x, y, z, t) {
         into_flat(x, y, z, t, list);
-        return;
     }
 }

@@ -14,6 +14,7 @@ ghost use Rattle.deformation.specs.Record.{blank_of, raw_of, by_comment_of, dire
 ghost use Rattle.deformation.specs.Step.{motion_of, lasting_of, duration_of, scale_of, metre_of, metres_of, east_north_up_of, integrated_of, with_length_of, deformed_of, common_of};
 
 use ellipsoid::Ellipsoid;
+use std::ops::Mul;
 use trig::SinCos;
 use tuple::{Shifted, Tuple};
 
@@ -46,10 +47,7 @@ pub struct Velocity {
 fn finite_or_not(x: f64) -> bool
     ensures { result ≡ finite_or_not x }
 {
-    if floats::is_finite(x) {
-        return true;
-    }
-    floats::is_nan(x)
+    floats::is_finite(x) || floats::is_nan(x)
 }
 
 impl Deformation {
@@ -83,35 +81,24 @@ impl Deformation {
     pub fn directed(self, inverse: bool) -> bool
         ensures { result ≡ directed_of self inverse }
     {
-        if self.by_comment() {
-            return !inverse;
-        }
-        inverse
+        if self.by_comment() { !inverse } else { inverse }
     }
 
     // Rule 5.
     pub fn in_rule(self) -> bool
         ensures { result ≡ in_rule_of self }
     {
-        let flags = self.flags;
-        if flags < 4 {
-            if Ellipsoid::exists(self.ellipsoid) {
-                if finite_or_not(self.dt) {
-                    return finite_or_not(self.epoch);
-                }
-            }
-        }
-        false
+        self.flags < 4
+            && Ellipsoid::exists(self.ellipsoid)
+            && finite_or_not(self.dt)
+            && finite_or_not(self.epoch)
     }
 
     // Rule 8: neither dt nor t_epoch.
     pub fn lacks_duration(self) -> bool
         ensures { result ≡ neither_of self }
     {
-        if floats::is_nan(self.dt) {
-            return floats::is_nan(self.epoch);
-        }
-        false
+        floats::is_nan(self.dt) && floats::is_nan(self.epoch)
     }
 }
 
@@ -148,21 +135,25 @@ impl Motion {
     }
 }
 
-impl Velocity {
-    pub fn scale(self, k: f64) -> Self
-        ensures { result ≡ scale_of self k }
-    {
+impl Mul<f64> for Velocity {
+    type Output = Velocity;
+
+    ghost mul_gives = { λ v k product. product ≡ scale_of v k };
+
+    fn mul(self, k: f64) -> Velocity {
         Velocity {
             east: self.east * k,
             north: self.north * k,
             up: self.up * k,
         }
     }
+}
 
+impl Velocity {
     fn metres(self, inverse: bool) -> Self
         ensures { result ≡ metres_of inverse self }
     {
-        self.scale(metre(inverse))
+        self * metre(inverse)
     }
 }
 
@@ -202,10 +193,8 @@ fn with_length(deformation: Tuple) -> Tuple
     ensures { result ≡ with_length_of deformation }
 {
     Tuple {
-        x: deformation.x,
-        y: deformation.y,
-        z: deformation.z,
         t: root::sqrt(deformation.dot(deformation)),
+        ..deformation
     }
 }
 
@@ -220,9 +209,11 @@ pub fn deformed(op: Motion, inverse: bool, v: Velocity, geo: Tuple, cart: Tuple)
     if op.raw {
         return with_length(deformation);
     }
-    cart.add(deformation)
+    cart + deformation
 }
 
+// The step on one tuple. No `Option` of a velocity: velocities and marks are lent in two arrays, in C
+// too, and the definitions and their theorems take a mark of any value beside a velocity.
 pub fn common(op: Motion, inverse: bool, v: Velocity, mark: u8, cart: Tuple) -> Shifted
     ensures { result ≡ common_of op inverse v mark cart }
 {

@@ -8,8 +8,8 @@
 // same definition. Used by `deformation_columns`.
 #![tactic(auto)]
 
-ghost use Rattle.std.specs.Prelude.{◌≡◌, ℕ, eqb, length};
-ghost use Rattle.floats.specs.Binary64.{◌⊕◌, bits};
+ghost use Rattle.std.specs.Prelude.{◌≡◌, ℕ, eqb};
+ghost use Rattle.floats.specs.Binary64.{◌⊕◌};
 ghost use Rattle.blocks.specs.Each.{at, whole_at, Each, count_to};
 ghost use Rattle.root.specs.Sqrt.{sqrt_of};
 ghost use Rattle.tuple.specs.Sums.{dot_of};
@@ -36,13 +36,11 @@ fn turned_block(
     dy: &mut [f64; WIDTH],
     dz: &mut [f64; WIDTH],
 )
-    requires { (length dx.old ≡ 16) × (length dy.old ≡ 16) × (length dz.old ≡ 16) }
     ensures { Each dx.new (λ (j : ℕ). (turned_at op fixed k east.now north.now up.now t.now slon.now dz.old dx.old dy.old j).x)
         × Each dy.new (λ (j : ℕ). (turned_at op fixed k east.now north.now up.now t.now slon.now dz.old dx.old dy.old j).y)
         × Each dz.new (λ (j : ℕ). (turned_at op fixed k east.now north.now up.now t.now slon.now dz.old dx.old dy.old j).z) }
 {
-    let mut i = 0;
-    while i < WIDTH {
+    for i in 0..WIDTH {
         let v = Velocity {
             east: east[i],
             north: north[i],
@@ -54,11 +52,10 @@ fn turned_block(
         };
         let lat = SinCos { s: dx[i], c: dy[i] };
         let d = deformation::lasting(op, fixed, t[i]);
-        let r = deformation::turned(v.scale(k), lon, lat, d);
+        let r = deformation::turned(v * k, lon, lat, d);
         dx[i] = r.x;
         dy[i] = r.y;
         dz[i] = r.z;
-        i += 1;
     }
 }
 
@@ -103,18 +100,14 @@ fn correction_block(
 fn square_block(dx: &[f64; WIDTH], dy: &[f64; WIDTH], dz: &[f64; WIDTH], q: &mut [f64; WIDTH])
     ensures { Each q.new (λ (j : ℕ). dot_of (correction_at dx.now dy.now dz.now j) (correction_at dx.now dy.now dz.now j)) }
 {
-    *q = [0.0; WIDTH];
-    let mut i = 0;
-    while i < WIDTH {
-        let time = 0.0;
+    for i in 0..WIDTH {
         let d = Tuple {
             x: dx[i],
             y: dy[i],
             z: dz[i],
-            t: time,
+            t: 0.0,
         };
         q[i] = d.dot(d);
-        i += 1;
     }
 }
 
@@ -133,39 +126,21 @@ fn kept(mark: u8, v: f64) -> f64
     if mark == 1 { v } else { 0.0 / 0.0 }
 }
 
-// A column kept so.
+// A column kept so. Not `add_block` with zeros, which would make +0 of a correction of -0.
 fn keep_block(marks: &[u8; WIDTH], r: &mut [f64; WIDTH])
-    requires { length r.old ≡ 16 }
     ensures { Each r.new (λ (j : ℕ). kept_of (whole_at marks.now j) (at r.old j)) }
 {
-    let mut i = 0;
-    while i < WIDTH {
+    for i in 0..WIDTH {
         r[i] = kept(marks[i], r[i]);
-        i += 1;
     }
 }
 
 // A column added to corrections, and kept so.
 fn add_block(marks: &[u8; WIDTH], v: &[f64; WIDTH], r: &mut [f64; WIDTH])
-    requires { length r.old ≡ 16 }
     ensures { Each r.new (λ (j : ℕ). kept_of (whole_at marks.now j) (at v.now j ⊕ at r.old j)) }
 {
-    let mut i = 0;
-    while i < WIDTH {
+    for i in 0..WIDTH {
         r[i] = kept(marks[i], v[i] + r[i]);
-        i += 1;
-    }
-}
-
-// The times: 0.0 is added.
-fn time_block(marks: &[u8; WIDTH], t: &[f64; WIDTH], r: &mut [f64; WIDTH])
-    ensures { Each r.new (λ (j : ℕ). kept_of (whole_at marks.now j) (at t.now j ⊕ bits 0)) }
-{
-    *r = [0.0; WIDTH];
-    let mut i = 0;
-    while i < WIDTH {
-        r[i] = kept(marks[i], t[i] + 0.0);
-        i += 1;
     }
 }
 
@@ -173,10 +148,8 @@ fn count_block(marks: &[u8; WIDTH]) -> usize
     ensures { result ≡ count_to 16 (λ (j : ℕ). eqb (whole_at marks.now j) 1) }
 {
     let mut n = 0;
-    let mut i = 0;
-    while i < WIDTH {
+    for i in 0..WIDTH {
         n += one_if(marks[i] == 1);
-        i += 1;
     }
     n
 }
@@ -219,6 +192,8 @@ pub fn moved_block(
     add_block(marks, x, ox);
     add_block(marks, y, oy);
     add_block(marks, z, oz);
-    time_block(marks, t, ot);
+    // the correction has no fourth number of its own: 0.0 is added to a time
+    *ot = [0.0; WIDTH];
+    add_block(marks, t, ot);
     count_block(marks)
 }

@@ -38,15 +38,16 @@ impl Ellipsoid {
         let f = 1.0 / rf;
         let es = f * (2.0 - f);
         Ellipsoid {
-            a: a,
-            f: f,
-            es: es,
+            a,
+            f,
+            es,
             b: a * (1.0 - f),
             eps: es / (1.0 - es),
         }
     }
 
-    // The ellipsoid of the table with this number; of any other number a record of NaNs.
+    // The ellipsoid of the table with this number; of any other number a record of NaNs. No enum of
+    // five names stands between: a sheet carries the number, and only here does it get a meaning.
     pub fn named(number: u32) -> Self
         ensures { result ≡ named_of number }
     {
@@ -64,7 +65,7 @@ impl Ellipsoid {
     pub fn exists(number: u32) -> bool
         ensures { result ≡ exists_of number }
     {
-        if 1 <= number { number <= 5 } else { false }
+        matches!(number, 1..=5)
     }
 
     // w, from the sine of the latitude.
@@ -111,10 +112,7 @@ impl Ellipsoid {
 pub fn w_block(ellps: Ellipsoid, sinphi: &[f64; WIDTH], w: &mut [f64; WIDTH])
     ensures { Each w.new (λ (j : ℕ). w_of ellps (at sinphi.now j)) }
 {
-    *w = [0.0; WIDTH];
-    let mut i = 0;
-    while i < WIDTH {
+    for i in 0..WIDTH {
         w[i] = ellps.w(sinphi[i]);
-        i += 1;
     }
 }

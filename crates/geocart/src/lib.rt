@@ -165,14 +165,11 @@ pub fn place(ellps: Ellipsoid, cartesian: Tuple) -> Position
     let lam = arctan::atan2(cartesian.y, cartesian.x);
     let p = hypot::hypot(cartesian.x, cartesian.y);
     if p < CUTOFF {
-        return Position {
-            lam: lam,
-            phi: pole(z),
-        };
+        return Position { lam, phi: pole(z) };
     }
     let m = bowring(ellps, p, z);
     Position {
-        lam: lam,
+        lam,
         phi: arctan::atan2(m.num, m.denom),
     }
 }

@@ -34,11 +34,7 @@ fn point_block(
 )
     ensures { Each x.new (λ (j : ℕ). (point_of ellps (prime_vertical_with ellps (at rootw.now j)) (at h.now j) (at sinphi.now j) (at cosphi.now j) (at sinlam.now j) (at coslam.now j)).x) × Each y.new (λ (j : ℕ). (point_of ellps (prime_vertical_with ellps (at rootw.now j)) (at h.now j) (at sinphi.now j) (at cosphi.now j) (at sinlam.now j) (at coslam.now j)).y) × Each z.new (λ (j : ℕ). (point_of ellps (prime_vertical_with ellps (at rootw.now j)) (at h.now j) (at sinphi.now j) (at cosphi.now j) (at sinlam.now j) (at coslam.now j)).z) }
 {
-    *x = [0.0; WIDTH];
-    *y = [0.0; WIDTH];
-    *z = [0.0; WIDTH];
-    let mut i = 0;
-    while i < WIDTH {
+    for i in 0..WIDTH {
         let v = geocart::point_at(
             ellps,
             ellps.a / rootw[i],
@@ -51,7 +47,6 @@ fn point_block(
         x[i] = v.x;
         y[i] = v.y;
         z[i] = v.z;
-        i += 1;
     }
 }
 
@@ -93,14 +88,10 @@ fn tangent_block(
 )
     ensures { Each t.new (λ (j : ℕ). tangent_of ellps (at p.now j) (at z.now j)) × Each u.new (λ (j : ℕ). radicand_of (tangent_of ellps (at p.now j) (at z.now j))) }
 {
-    *t = [0.0; WIDTH];
-    *u = [0.0; WIDTH];
-    let mut i = 0;
-    while i < WIDTH {
+    for i in 0..WIDTH {
         let v = geocart::tangent(ellps, p[i], z[i]);
         t[i] = v;
         u[i] = 1.0 + v * v;
-        i += 1;
     }
 }
 
@@ -116,14 +107,10 @@ fn legs_block(
 )
     ensures { Each num.new (λ (j : ℕ). (legs_of ellps (at p.now j) (at z.now j) (at t.now j) (at root.now j)).num) × Each denom.new (λ (j : ℕ). (legs_of ellps (at p.now j) (at z.now j) (at t.now j) (at root.now j)).denom) }
 {
-    *num = [0.0; WIDTH];
-    *denom = [0.0; WIDTH];
-    let mut i = 0;
-    while i < WIDTH {
+    for i in 0..WIDTH {
         let m = geocart::legs_at(ellps, p[i], z[i], t[i], root[i]);
         num[i] = m.num;
         denom[i] = m.denom;
-        i += 1;
     }
 }
 
@@ -162,11 +149,8 @@ pub fn latitude_block(
 )
     ensures { Each r.new (λ (j : ℕ). latitude_of cutoff (at p.now j) (at z.now j) (at phi.now j)) }
 {
-    *r = [0.0; WIDTH];
-    let mut i = 0;
-    while i < WIDTH {
+    for i in 0..WIDTH {
         r[i] = latitude(cutoff, p[i], z[i], phi[i]);
-        i += 1;
     }
 }
 

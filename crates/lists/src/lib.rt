@@ -20,10 +20,7 @@ use tuple::Tuple;
 pub fn read4(list: &[f64], at: usize) -> Tuple
     ensures { result ≡ tuple_at list.now at }
 {
-    if list.len() < at {
-        return Tuple::nan();
-    }
-    if list.len() - at < 4 {
+    if list.len().saturating_sub(at) < 4 {
         return Tuple::nan();
     }
     Tuple {
@@ -38,10 +35,7 @@ pub fn read4(list: &[f64], at: usize) -> Tuple
 pub fn write4(list: &mut [f64], at: usize, v: Tuple)
     ensures { list.new ≡ put_at list.old at v }
 {
-    if list.len() < at {
-        return;
-    }
-    if list.len() - at < 4 {
+    if list.len().saturating_sub(at) < 4 {
         return;
     }
     list[at] = v.x;
@@ -64,25 +58,20 @@ pub fn read_block(
         × Each z.new (λ (j : ℕ). (row_at list.now at j).z)
         × Each t.new (λ (j : ℕ). (row_at list.now at j).t) }
 {
-    let none = 0.0 / 0.0;
-    *x = [none; WIDTH];
-    *y = [none; WIDTH];
-    *z = [none; WIDTH];
-    *t = [none; WIDTH];
-    if list.len() < at {
+    if list.len().saturating_sub(at) < 64 {
+        let none = 0.0 / 0.0;
+        *x = [none; WIDTH];
+        *y = [none; WIDTH];
+        *z = [none; WIDTH];
+        *t = [none; WIDTH];
         return;
     }
-    if list.len() - at < 64 {
-        return;
-    }
-    let mut i = 0;
-    while i < WIDTH {
+    for i in 0..WIDTH {
         let k = at + 4 * i;
         x[i] = list[k];
         y[i] = list[k + 1];
         z[i] = list[k + 2];
         t[i] = list[k + 3];
-        i += 1;
     }
 }
 
@@ -98,19 +87,14 @@ pub fn write_block(
 )
     ensures { list.new ≡ put_block list.old at x.now y.now z.now t.now }
 {
-    if list.len() < at {
+    if list.len().saturating_sub(at) < 64 {
         return;
     }
-    if list.len() - at < 64 {
-        return;
-    }
-    let mut i = 0;
-    while i < WIDTH {
+    for i in 0..WIDTH {
         let k = at + 4 * i;
         list[k] = x[i];
         list[k + 1] = y[i];
         list[k + 2] = z[i];
         list[k + 3] = t[i];
-        i += 1;
     }
 }

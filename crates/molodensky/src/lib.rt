@@ -10,7 +10,7 @@
 
 ghost use Rattle.std.specs.Prelude.{◌≡◌};
 ghost use Rattle.molodensky.specs.Record.{blank_of, abridged_of, two_ellipsoids_of, second_in_rule_of, figure_in_rule_of, finite_of, in_rule_of};
-ghost use Rattle.molodensky.specs.Step.{figure_of, moped_of, place_with, figures_at_of, abridged_offsets_of, full_offsets_of, offsets_of, common_of};
+ghost use Rattle.molodensky.specs.Step.{figure_of, moped_of, place_with, figures_at_of, abridged_with, full_offsets_of, offsets_of, common_of};
 
 use ellipsoid::{Ellipsoid, Radii};
 use tuple::Tuple;
@@ -53,11 +53,12 @@ pub struct Place {
     pub fac: f64,
 }
 
-// Three offsets, or none where a divisor is zero.
+// The offsets in the ellipsoidal space.
 #[derive(Clone, Copy)]
-pub enum Offsets {
-    Nothing,
-    Three { dlam: f64, dphi: f64, dh: f64 },
+pub struct Offsets {
+    pub dlam: f64,
+    pub dphi: f64,
+    pub dh: f64,
 }
 
 impl Molodensky {
@@ -103,45 +104,28 @@ impl Molodensky {
     fn figure_in_rule(self) -> bool
         ensures { result ≡ figure_in_rule_of self }
     {
-        if self.two_ellipsoids() {
-            if floats::same(self.da, 0.0) {
-                return floats::same(self.df, 0.0);
-            }
-            return false;
-        }
-        true
+        !self.two_ellipsoids() || floats::same(self.da, 0.0) && floats::same(self.df, 0.0)
     }
 
     fn finite(self) -> bool
         ensures { result ≡ finite_of self }
     {
-        if floats::is_finite(self.dx) {
-            if floats::is_finite(self.dy) {
-                if floats::is_finite(self.dz) {
-                    if floats::is_finite(self.da) {
-                        return floats::is_finite(self.df);
-                    }
-                }
-            }
-        }
-        false
+        floats::is_finite(self.dx)
+            && floats::is_finite(self.dy)
+            && floats::is_finite(self.dz)
+            && floats::is_finite(self.da)
+            && floats::is_finite(self.df)
     }
 
     // Rule 5.
     pub fn in_rule(self) -> bool
         ensures { result ≡ in_rule_of self }
     {
-        let flags = self.flags;
-        if flags < 4 {
-            if Ellipsoid::exists(self.first) {
-                if self.second_in_rule() {
-                    if self.finite() {
-                        return self.figure_in_rule();
-                    }
-                }
-            }
-        }
-        false
+        self.flags < 4
+            && Ellipsoid::exists(self.first)
+            && self.second_in_rule()
+            && self.finite()
+            && self.figure_in_rule()
     }
 }
 
@@ -150,12 +134,12 @@ impl Moped {
         ensures { result ≡ figure_of step ellps da df }
     {
         Moped {
-            ellps: ellps,
+            ellps,
             dx: step.dx,
             dy: step.dy,
             dz: step.dz,
-            da: da,
-            df: df,
+            da,
+            df,
             adffda: ellps.a * df + ellps.f * da,
             abridged: step.abridged(),
         }
@@ -180,10 +164,10 @@ impl Place {
         ensures { result ≡ place_with op slam clam sphi cphi radii }
     {
         Place {
-            slam: slam,
-            clam: clam,
-            sphi: sphi,
-            cphi: cphi,
+            slam,
+            clam,
+            sphi,
+            cphi,
             n: radii.n,
             m: radii.m,
             fac: op.dx * clam + op.dy * slam,
@@ -199,28 +183,27 @@ impl Place {
     }
 }
 
-fn abridged_offsets(op: Moped, q: Place, phi: f64) -> Offsets
-    ensures { result ≡ abridged_offsets_of op q phi }
+// The abridged offsets, given the sine of 2φ; none where a divisor is zero. All three are worked
+// out before the test: a loop over a block then has no branch.
+pub fn abridged_offsets(op: Moped, q: Place, sin2phi: f64) -> Option<Offsets>
+    ensures { result ≡ abridged_with op q sin2phi }
 {
     // delta phi
-    let twice = trig::numbers(trig::sin_cos(2.0 * phi));
-    let dphi = (-q.fac * q.sphi + op.dz * q.cphi + op.adffda * twice.s) / q.m;
+    let dphi = (-q.fac * q.sphi + op.dz * q.cphi + op.adffda * sin2phi) / q.m;
     // delta lambda
     let dlam_denom = q.n * q.cphi;
-    if dlam_denom == 0.0 {
-        return Offsets::Nothing;
-    }
     let dlam = (op.dy * q.clam - op.dx * q.slam) / dlam_denom;
     // delta h
     let dh = q.fac * q.cphi + (op.dz + op.adffda * q.sphi) * q.sphi - op.da;
-    Offsets::Three {
-        dlam: dlam,
-        dphi: dphi,
-        dh: dh,
+    if dlam_denom == 0.0 {
+        return None;
     }
+    Some(Offsets { dlam, dphi, dh })
 }
 
-fn full_offsets(op: Moped, q: Place, h: f64) -> Offsets
+// The full offsets at a height; none where a divisor is zero. All three are worked out before the
+// tests, as the abridged ones are.
+pub fn full_offsets(op: Moped, q: Place, h: f64) -> Option<Offsets>
     ensures { result ≡ full_offsets_of op q h }
 {
     let n = q.n;
@@ -231,32 +214,30 @@ fn full_offsets(op: Moped, q: Place, h: f64) -> Offsets
     let dphi = (op.dz + n * op.ellps.es * q.sphi * op.da / a) * q.cphi - q.fac * q.sphi
         + (m / (1.0 - f) + n * (1.0 - f)) * op.df * q.sphi * q.cphi;
     let dphi_denom = m + h;
-    if dphi_denom == 0.0 {
-        return Offsets::Nothing;
-    }
     // delta lambda
     let dlam_denom = (n + h) * q.cphi;
-    if dlam_denom == 0.0 {
-        return Offsets::Nothing;
-    }
     let dlam = (op.dy * q.clam - op.dx * q.slam) / dlam_denom;
     // delta h
     let dh = q.fac * q.cphi + op.dz * q.sphi - a / n * op.da
         + n * (1.0 - f) * op.df * q.sphi * q.sphi;
-    Offsets::Three {
-        dlam: dlam,
-        dphi: dphi / dphi_denom,
-        dh: dh,
+    if dphi_denom == 0.0 || dlam_denom == 0.0 {
+        return None;
     }
+    Some(Offsets {
+        dlam,
+        dphi: dphi / dphi_denom,
+        dh,
+    })
 }
 
-// The offsets in the ellipsoidal space.
-pub fn calc_molodensky_params(op: Moped, coord: Tuple) -> Offsets
+// The offsets of a tuple; none where a divisor is zero.
+pub fn calc_molodensky_params(op: Moped, coord: Tuple) -> Option<Offsets>
     ensures { result ≡ offsets_of op coord }
 {
     let q = Place::at(op, coord.x, coord.y);
     if op.abridged {
-        return abridged_offsets(op, q, coord.y);
+        let twice = trig::numbers(trig::sin_cos(2.0 * coord.y));
+        return abridged_offsets(op, q, twice.s);
     }
     full_offsets(op, q, coord.z)
 }
@@ -266,8 +247,7 @@ pub fn calc_molodensky_params(op: Moped, coord: Tuple) -> Offsets
 pub fn common(op: Moped, inverse: bool, coord: Tuple) -> Tuple
     ensures { result ≡ common_of op inverse coord }
 {
-    let par = calc_molodensky_params(op, coord);
-    let Offsets::Three { dlam, dphi, dh } = par else {
+    let Some(Offsets { dlam, dphi, dh }) = calc_molodensky_params(op, coord) else {
         let none = 0.0 / 0.0;
         return Tuple {
             x: none,

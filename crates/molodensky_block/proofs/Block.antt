@@ -11,7 +11,7 @@ use Rattle.ellipsoid.specs.Figure.{two, w_of, radii_with, prime_vertical_of, mer
 use Rattle.molodensky.specs.declared.Moped.{Moped}
 use Rattle.molodensky.specs.declared.Place.{Place}
 use Rattle.molodensky.specs.declared.Offsets.{Offsets}
-use Rattle.molodensky.specs.declared.Offsets.TheVariants.{Three, Nothing}
+use Rattle.std.specs.Prelude.{Option, Some, None, unwrap_or}
 use Rattle.molodensky.specs.Step.{place_with, figures_at_of, abridged_with, full_offsets_of, offsets_of, offset_by_of, common_of}
 use Rattle.molodensky_block.specs.Block.{shift_of}
 
@@ -20,10 +20,15 @@ pub placed : (op : Moped) (lam phi : Float) {slam clam sphi cphi w q : Float} �
 unfolding figures_at_of prime_vertical_of meridian_of
 placed op lam phi sl cl sp cp ew eq = rw (eq, ew, sp, cp, sl, cl)
 
-first : (b : Bool) (x y : Offsets) → b ≡ true → x ≡ cond b x y
+-- the offsets as numbers
+pub unwrapped : (o : Option Offsets) {none : Float} → none ≡ nan → unwrap_or o (record { dlam = none; dphi = none; dh = none }) ≡ shift_of o
+unwrapped (Some o) e = refl
+unwrapped None e = rw e
+
+first : (b : Bool) (x y : Option Offsets) → b ≡ true → x ≡ cond b x y
 first b x y h = rw h
 
-second : (b : Bool) (x y : Offsets) → b ≡ false → y ≡ cond b x y
+second : (b : Bool) (x y : Option Offsets) → b ≡ false → y ≡ cond b x y
 second b x y h = rw h
 
 pub full : (op : Moped) (v : Tuple) {p : Place} → op.abridged ≡ false → p ≡ figures_at_of op v.x v.y → shift_of (full_offsets_of op p v.z) ≡ shift_of (offsets_of op v)
@@ -48,23 +53,20 @@ minus_nan : (x : Float) → x ⊖ nan ≡ nan
 unfolding sub neg
 minus_nan x = plus_nan x
 
-added_to : (v : Tuple) (o : Offsets) → record { x = v.x ⊕ (shift_of o).dlam; y = v.y ⊕ (shift_of o).dphi; z = v.z ⊕ (shift_of o).dh; t = v.t } ≡ offset_by_of false v o
-added_to v (Three dlam dphi dh) = refl
-added_to v Nothing = rw (plus_nan v.x, plus_nan v.y, plus_nan v.z)
-
-subtracted_from : (v : Tuple) (o : Offsets) → record { x = v.x ⊖ (shift_of o).dlam; y = v.y ⊖ (shift_of o).dphi; z = v.z ⊖ (shift_of o).dh; t = v.t } ≡ offset_by_of true v o
-subtracted_from v (Three dlam dphi dh) = refl
-subtracted_from v Nothing = rw (minus_nan v.x, minus_nan v.y, minus_nan v.z)
+moved_to : (inverse : Bool) (v : Tuple) (o : Option Offsets)
+    → record { x = cond inverse (v.x ⊖ (shift_of o).dlam) (v.x ⊕ (shift_of o).dlam); y = cond inverse (v.y ⊖ (shift_of o).dphi) (v.y ⊕ (shift_of o).dphi); z = cond inverse (v.z ⊖ (shift_of o).dh) (v.z ⊕ (shift_of o).dh); t = v.t } ≡ offset_by_of inverse v o
+moved_to true v (Some o) = refl
+moved_to false v (Some o) = refl
+moved_to true v None = rw (minus_nan v.x, minus_nan v.y, minus_nan v.z)
+moved_to false v None = rw (plus_nan v.x, plus_nan v.y, plus_nan v.z)
 
 -- the same place at another time
 abbrev timed : Tuple → Float → Tuple
 timed v t = record { x = v.x; y = v.y; z = v.z; t = t }
 
 -- the step adds the numbers, or subtracts them, and no offset looks at the time
-pub added : (op : Moped) (v : Tuple) (t : Float) → record { x = v.x ⊕ (shift_of (offsets_of op v)).dlam; y = v.y ⊕ (shift_of (offsets_of op v)).dphi; z = v.z ⊕ (shift_of (offsets_of op v)).dh; t = t } ≡ common_of op false (timed v t)
+pub moved_by : (op : Moped) (inverse : Bool) (v : Tuple) (t : Float)
+    → record { x = cond inverse (v.x ⊖ (shift_of (offsets_of op v)).dlam) (v.x ⊕ (shift_of (offsets_of op v)).dlam); y = cond inverse (v.y ⊖ (shift_of (offsets_of op v)).dphi) (v.y ⊕ (shift_of (offsets_of op v)).dphi); z = cond inverse (v.z ⊖ (shift_of (offsets_of op v)).dh) (v.z ⊕ (shift_of (offsets_of op v)).dh); t = t }
+    ≡ common_of op inverse (timed v t)
 unfolding offsets_of
-added op v t = added_to (timed v t) (offsets_of op v)
-
-pub subtracted : (op : Moped) (v : Tuple) (t : Float) → record { x = v.x ⊖ (shift_of (offsets_of op v)).dlam; y = v.y ⊖ (shift_of (offsets_of op v)).dphi; z = v.z ⊖ (shift_of (offsets_of op v)).dh; t = t } ≡ common_of op true (timed v t)
-unfolding offsets_of
-subtracted op v t = subtracted_from (timed v t) (offsets_of op v)
+moved_by op inverse v t = moved_to inverse (timed v t) (offsets_of op v)

@@ -8,57 +8,28 @@
 // `common` does. Used by the loops over a list.
 #![tactic(auto)]
 
-ghost use Rattle.std.specs.Prelude.{◌≡◌, ℕ, length};
+ghost use Rattle.std.specs.Prelude.{◌≡◌, ℕ, cond};
 ghost use Rattle.floats.specs.Binary64.{◌⊕◌, ◌⊖◌, ◌⊗◌};
 ghost use Rattle.trig.specs.Trig.{sin_of};
 ghost use Rattle.ellipsoid.specs.Figure.{two, w_of, radii_with};
 ghost use Rattle.blocks.specs.Each.{at, Each};
 ghost use Rattle.tuple.specs.Columns.{row_of};
-ghost use Rattle.molodensky.specs.Step.{place_with, unless_zero, abridged_with, full_offsets_of, common_of};
-ghost use Rattle.molodensky.specs.declared.Offsets.TheVariants.{Three};
+ghost use Rattle.molodensky.specs.Step.{place_with, common_of};
 ghost use Rattle.molodensky_block.specs.Block.{shift_of, full_at, abridged_at, shift_at};
 
 use blocks::WIDTH;
-use molodensky::{Moped, Place};
+use molodensky::{Moped, Offsets, Place};
 
 // The offsets as numbers: three NaNs where there are none.
-#[derive(Clone, Copy)]
-struct Shift {
-    dlam: f64,
-    dphi: f64,
-    dh: f64,
-}
-
-fn unless_zero(d: f64, dlam: f64, dphi: f64, dh: f64) -> Shift
-    ensures { result ≡ shift_of (unless_zero d (Three dlam dphi dh)) }
+fn numbers(offsets: Option<Offsets>) -> Offsets
+    ensures { result ≡ shift_of offsets }
 {
-    if d == 0.0 {
-        let none = 0.0 / 0.0;
-        return Shift {
-            dlam: none,
-            dphi: none,
-            dh: none,
-        };
-    }
-    Shift {
-        dlam: dlam,
-        dphi: dphi,
-        dh: dh,
-    }
-}
-
-fn unless_either_zero(d: f64, e: f64, dlam: f64, dphi: f64, dh: f64) -> Shift
-    ensures { result ≡ shift_of (unless_zero d (unless_zero e (Three dlam dphi dh))) }
-{
-    if d == 0.0 {
-        let none = 0.0 / 0.0;
-        return Shift {
-            dlam: none,
-            dphi: none,
-            dh: none,
-        };
-    }
-    unless_zero(e, dlam, dphi, dh)
+    let none = 0.0 / 0.0;
+    offsets.unwrap_or(Offsets {
+        dlam: none,
+        dphi: none,
+        dh: none,
+    })
 }
 
 // A place, given its sines and cosines and q, the root of w = 1 - es·sin²φ. That w is worked out
@@ -68,34 +39,6 @@ fn place_with(op: Moped, slam: f64, clam: f64, sphi: f64, cphi: f64, q: f64) -> 
 {
     let radii = op.ellps.radii_with(op.ellps.w(sphi), q);
     Place::with(op, slam, clam, sphi, cphi, radii)
-}
-
-// Given the sine of 2φ.
-fn abridged_shift(op: Moped, q: Place, sin2phi: f64) -> Shift
-    ensures { result ≡ shift_of (abridged_with op q sin2phi) }
-{
-    let dphi = (-q.fac * q.sphi + op.dz * q.cphi + op.adffda * sin2phi) / q.m;
-    let dlam_denom = q.n * q.cphi;
-    let dlam = (op.dy * q.clam - op.dx * q.slam) / dlam_denom;
-    let dh = q.fac * q.cphi + (op.dz + op.adffda * q.sphi) * q.sphi - op.da;
-    unless_zero(dlam_denom, dlam, dphi, dh)
-}
-
-fn full_shift(op: Moped, q: Place, h: f64) -> Shift
-    ensures { result ≡ shift_of (full_offsets_of op q h) }
-{
-    let n = q.n;
-    let m = q.m;
-    let a = op.ellps.a;
-    let f = op.ellps.f;
-    let dphi = (op.dz + n * op.ellps.es * q.sphi * op.da / a) * q.cphi - q.fac * q.sphi
-        + (m / (1.0 - f) + n * (1.0 - f)) * op.df * q.sphi * q.cphi;
-    let dphi_denom = q.m + h;
-    let dlam_denom = (n + h) * q.cphi;
-    let dlam = (op.dy * q.clam - op.dx * q.slam) / dlam_denom;
-    let dh = q.fac * q.cphi + op.dz * q.sphi - a / n * op.da
-        + n * (1.0 - f) * op.df * q.sphi * q.sphi;
-    unless_either_zero(dphi_denom, dlam_denom, dlam, dphi / dphi_denom, dh)
 }
 
 // The sines of 2φ. The angles are laid down in twice, the cosines in c.
@@ -122,19 +65,16 @@ fn abridged_shifts(
     dphi: &mut [f64; WIDTH],
     dh: &mut [f64; WIDTH],
 )
-    requires { (length dlam.old ≡ 16) × (length dphi.old ≡ 16) × (length dh.old ≡ 16) }
     ensures { Each dlam.new (λ (j : ℕ). (abridged_at op dh.old dlam.old dphi.old sphi.now cphi.now q.now j).dlam)
         × Each dphi.new (λ (j : ℕ). (abridged_at op dh.old dlam.old dphi.old sphi.now cphi.now q.now j).dphi)
         × Each dh.new (λ (j : ℕ). (abridged_at op dh.old dlam.old dphi.old sphi.now cphi.now q.now j).dh) }
 {
-    let mut i = 0;
-    while i < WIDTH {
+    for i in 0..WIDTH {
         let p = place_with(op, dlam[i], dphi[i], sphi[i], cphi[i], q[i]);
-        let shift = abridged_shift(op, p, dh[i]);
+        let shift = numbers(molodensky::abridged_offsets(op, p, dh[i]));
         dlam[i] = shift.dlam;
         dphi[i] = shift.dphi;
         dh[i] = shift.dh;
-        i += 1;
     }
 }
 
@@ -149,20 +89,16 @@ fn full_shifts(
     dphi: &mut [f64; WIDTH],
     dh: &mut [f64; WIDTH],
 )
-    requires { (length dlam.old ≡ 16) × (length dphi.old ≡ 16) }
     ensures { Each dlam.new (λ (j : ℕ). (full_at op h.now dlam.old dphi.old sphi.now cphi.now q.now j).dlam)
         × Each dphi.new (λ (j : ℕ). (full_at op h.now dlam.old dphi.old sphi.now cphi.now q.now j).dphi)
         × Each dh.new (λ (j : ℕ). (full_at op h.now dlam.old dphi.old sphi.now cphi.now q.now j).dh) }
 {
-    *dh = [0.0; WIDTH];
-    let mut i = 0;
-    while i < WIDTH {
+    for i in 0..WIDTH {
         let p = place_with(op, dlam[i], dphi[i], sphi[i], cphi[i], q[i]);
-        let shift = full_shift(op, p, h[i]);
+        let shift = numbers(molodensky::full_offsets(op, p, h[i]));
         dlam[i] = shift.dlam;
         dphi[i] = shift.dphi;
         dh[i] = shift.dh;
-        i += 1;
     }
 }
 
@@ -197,26 +133,12 @@ fn shifts(
     }
 }
 
-// A coordinate with the offsets added, over the offsets.
-fn plus(x: &[f64; WIDTH], d: &mut [f64; WIDTH])
-    requires { length d.old ≡ 16 }
-    ensures { Each d.new (λ (j : ℕ). at x.now j ⊕ at d.old j) }
+// A coordinate with the offsets added, or subtracted in an inverse run, over the offsets.
+fn moved(inverse: bool, x: &[f64; WIDTH], d: &mut [f64; WIDTH])
+    ensures { Each d.new (λ (j : ℕ). cond inverse (at x.now j ⊖ at d.old j) (at x.now j ⊕ at d.old j)) }
 {
-    let mut i = 0;
-    while i < WIDTH {
-        d[i] = x[i] + d[i];
-        i += 1;
-    }
-}
-
-fn minus(x: &[f64; WIDTH], d: &mut [f64; WIDTH])
-    requires { length d.old ≡ 16 }
-    ensures { Each d.new (λ (j : ℕ). at x.now j ⊖ at d.old j) }
-{
-    let mut i = 0;
-    while i < WIDTH {
-        d[i] = x[i] - d[i];
-        i += 1;
+    for i in 0..WIDTH {
+        d[i] = if inverse { x[i] - d[i] } else { x[i] + d[i] };
     }
 }
 
@@ -237,13 +159,7 @@ pub fn common_block(
         × Each oz.new (λ (j : ℕ). (common_of op inverse (row_of x.now y.now z.now t.now j)).z) }
 {
     shifts(op, x, y, z, ox, oy, oz);
-    if inverse {
-        minus(x, ox);
-        minus(y, oy);
-        minus(z, oz);
-    } else {
-        plus(x, ox);
-        plus(y, oy);
-        plus(z, oz);
-    }
+    moved(inverse, x, ox);
+    moved(inverse, y, oy);
+    moved(inverse, z, oz);
 }

@@ -9,8 +9,9 @@
 ghost use Rattle.std.specs.Prelude.{◌≡◌, ℕ};
 ghost use Rattle.floats.specs.Binary64.{◌⊕◌, ◌⊖◌};
 ghost use Rattle.blocks.specs.Each.{at, Each};
-ghost use Rattle.permtide.specs.Record.{blank_of, from_of, coefficient_of, system_of, in_rule_of};
-ghost use Rattle.permtide.specs.Step.{tide_of, geocentric_sine_of, height_of, lift_of, fwd_of, inv_of};
+ghost use Rattle.permtide.specs.Record.{blank_of, coefficient_of, in_rule_of};
+ghost use Rattle.permtide.specs.Systems.{coded_of, picked_of};
+ghost use Rattle.permtide.specs.Step.{tide_of, geocentric_sine_of, height_of, lift_of, shifted_of, fwd_of, inv_of};
 
 use blocks::WIDTH;
 use ellipsoid::Ellipsoid;
@@ -52,52 +53,65 @@ impl Permtide {
     pub fn in_rule(self) -> bool
         ensures { result ≡ in_rule_of self }
     {
-        if Ellipsoid::exists(self.ellipsoid) {
-            if floats::is_finite(self.k) {
-                return system(self.to) & system(self.from);
-            }
-            return false;
+        Ellipsoid::exists(self.ellipsoid)
+            && floats::is_finite(self.k)
+            && System::try_from(self.to).is_ok()
+            && System::try_from(self.from).is_ok()
+    }
+}
+
+// One of the three permanent tide systems.
+#[derive(Clone, Copy)]
+enum System {
+    Mean,
+    Zero,
+    Free,
+}
+
+// What a code is that names none of them.
+#[derive(Clone, Copy)]
+struct UnknownSystem;
+
+impl TryFrom<u32> for System {
+    type Error = UnknownSystem;
+
+    ghost try_from_gives = { λ code system. system ≡ coded_of code };
+
+    fn try_from(code: u32) -> Result<Self, UnknownSystem> {
+        match code {
+            1 => Ok(System::Mean),
+            2 => Ok(System::Zero),
+            3 => Ok(System::Free),
+            _ => Err(UnknownSystem),
         }
-        false
     }
 }
 
-// Whether a code names one of the three systems.
-fn system(code: u32) -> bool
-    ensures { result ≡ system_of code }
-{
-    (code == 1) | (code == 2) | (code == 3)
-}
-
-fn from_mean_zero_free(from: u32, mean: f64, zero: f64, free: f64) -> f64
-    ensures { result ≡ from_of from mean zero free }
-{
-    if from == 1 {
-        return mean;
+impl System {
+    // The number that stands for this system.
+    fn pick(self, mean: f64, zero: f64, free: f64) -> f64
+        ensures { result ≡ picked_of self mean zero free }
+    {
+        match self {
+            System::Mean => mean,
+            System::Zero => zero,
+            System::Free => free,
+        }
     }
-    if from == 2 {
-        return zero;
-    }
-    if from == 3 {
-        return free;
-    }
-    0.0 / 0.0
 }
 
 // The coefficient of a shift to one system from another; NaN for any other code.
 pub fn coefficient(to: u32, from: u32, k: f64) -> f64
     ensures { result ≡ coefficient_of to from k }
 {
-    if to == 1 {
-        return from_mean_zero_free(from, 0.0, 1.0, 1.0 + k);
+    let (Ok(to), Ok(from)) = (System::try_from(to), System::try_from(from)) else {
+        return 0.0 / 0.0;
+    };
+    match to {
+        System::Mean => from.pick(0.0, 1.0, 1.0 + k),
+        System::Zero => from.pick(-1.0, 0.0, k),
+        System::Free => from.pick(-(1.0 + k), -k, 0.0),
     }
-    if to == 2 {
-        return from_mean_zero_free(from, -1.0, 0.0, k);
-    }
-    if to == 3 {
-        return from_mean_zero_free(from, -(1.0 + k), -k, 0.0);
-    }
-    0.0 / 0.0
 }
 
 impl Tide {
@@ -140,27 +154,24 @@ fn sines(ellps: Ellipsoid, phi: &[f64; WIDTH], r: &mut [f64; WIDTH])
     trig_block::sin_cos_block(&phibar, r, &mut c);
 }
 
+// The heights of a block with the lifts at those sines added, or subtracted in an inverse run.
+fn shifted(op: Tide, inverse: bool, s: &[f64; WIDTH], z: &[f64; WIDTH], oz: &mut [f64; WIDTH])
+    ensures { Each oz.new (λ (j : ℕ). shifted_of inverse (at z.now j) (height_of op (at s.now j))) }
+{
+    for i in 0..WIDTH {
+        let h = height(op, s[i]);
+        oz[i] = if inverse { z[i] - h } else { z[i] + h };
+    }
+}
+
 // ----- F O R W A R D -----------------------------------------------------------------
 
 pub fn fwd(op: Tide, coord: Tuple) -> Tuple
     ensures { result ≡ fwd_of op coord }
 {
     Tuple {
-        x: coord.x,
-        y: coord.y,
         z: coord.z + lift(op, coord.y),
-        t: coord.t,
-    }
-}
-
-fn raised(op: Tide, s: &[f64; WIDTH], z: &[f64; WIDTH], oz: &mut [f64; WIDTH])
-    ensures { Each oz.new (λ (j : ℕ). at z.now j ⊕ height_of op (at s.now j)) }
-{
-    *oz = [0.0; WIDTH];
-    let mut i = 0;
-    while i < WIDTH {
-        oz[i] = z[i] + height(op, s[i]);
-        i += 1;
+        ..coord
     }
 }
 
@@ -170,7 +181,7 @@ pub fn fwd_block(op: Tide, y: &[f64; WIDTH], z: &[f64; WIDTH], oz: &mut [f64; WI
 {
     let mut s = [0.0; WIDTH];
     sines(op.ellps, y, &mut s);
-    raised(op, &s, z, oz);
+    shifted(op, false, &s, z, oz);
 }
 
 // ----- I N V E R S E -----------------------------------------------------------------
@@ -179,21 +190,8 @@ pub fn inv(op: Tide, coord: Tuple) -> Tuple
     ensures { result ≡ inv_of op coord }
 {
     Tuple {
-        x: coord.x,
-        y: coord.y,
         z: coord.z - lift(op, coord.y),
-        t: coord.t,
-    }
-}
-
-fn lowered(op: Tide, s: &[f64; WIDTH], z: &[f64; WIDTH], oz: &mut [f64; WIDTH])
-    ensures { Each oz.new (λ (j : ℕ). at z.now j ⊖ height_of op (at s.now j)) }
-{
-    *oz = [0.0; WIDTH];
-    let mut i = 0;
-    while i < WIDTH {
-        oz[i] = z[i] - height(op, s[i]);
-        i += 1;
+        ..coord
     }
 }
 
@@ -203,5 +201,5 @@ pub fn inv_block(op: Tide, y: &[f64; WIDTH], z: &[f64; WIDTH], oz: &mut [f64; WI
 {
     let mut s = [0.0; WIDTH];
     sines(op.ellps, y, &mut s);
-    lowered(op, &s, z, oz);
+    shifted(op, true, &s, z, oz);
 }

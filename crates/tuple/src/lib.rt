@@ -10,6 +10,8 @@
 ghost use Rattle.std.specs.Prelude.{◌≡◌};
 ghost use Rattle.tuple.specs.Sums.{nan_tuple, any_nan_of, add_of, scale_of, dot_of};
 
+use std::ops::{Add, Mul};
+
 #[derive(Clone, Copy)]
 pub struct Tuple {
     pub x: f64,
@@ -18,7 +20,8 @@ pub struct Tuple {
     pub t: f64,
 }
 
-// What a step makes of a tuple, and whether the step's count takes it in.
+// What a step makes of a tuple, and whether the step's count takes it in. No `Option`: a tuple that
+// does not count has numbers of its own all the same, and they are written to the list.
 #[derive(Clone, Copy)]
 pub struct Shifted {
     pub tuple: Tuple,
@@ -42,21 +45,26 @@ impl Tuple {
     pub fn any_nan(self) -> bool
         ensures { result ≡ any_nan_of self }
     {
-        if floats::is_nan(self.x) {
-            return true;
-        }
-        if floats::is_nan(self.y) {
-            return true;
-        }
-        if floats::is_nan(self.z) {
-            return true;
-        }
-        floats::is_nan(self.t)
+        floats::is_nan(self.x)
+            || floats::is_nan(self.y)
+            || floats::is_nan(self.z)
+            || floats::is_nan(self.t)
     }
 
-    pub fn add(self, w: Tuple) -> Self
-        ensures { result ≡ add_of self w }
+    pub fn dot(self, w: Tuple) -> f64
+        ensures { result ≡ dot_of self w }
     {
+        self.x * w.x + self.y * w.y + self.z * w.z + self.t * w.t
+    }
+}
+
+// The sum, the time too.
+impl Add for Tuple {
+    type Output = Tuple;
+
+    ghost add_gives = { λ v w sum. sum ≡ add_of v w };
+
+    fn add(self, w: Tuple) -> Tuple {
         Tuple {
             x: self.x + w.x,
             y: self.y + w.y,
@@ -64,21 +72,20 @@ impl Tuple {
             t: self.t + w.t,
         }
     }
+}
 
-    pub fn scale(self, k: f64) -> Self
-        ensures { result ≡ scale_of self k }
-    {
+// The product with a number, the time too.
+impl Mul<f64> for Tuple {
+    type Output = Tuple;
+
+    ghost mul_gives = { λ v k product. product ≡ scale_of v k };
+
+    fn mul(self, k: f64) -> Tuple {
         Tuple {
             x: self.x * k,
             y: self.y * k,
             z: self.z * k,
             t: self.t * k,
         }
-    }
-
-    pub fn dot(self, w: Tuple) -> f64
-        ensures { result ≡ dot_of self w }
-    {
-        self.x * w.x + self.y * w.y + self.z * w.z + self.t * w.t
     }
 }

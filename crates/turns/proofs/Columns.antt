@@ -4,6 +4,7 @@ use Prim.Native.Nat.{ℕ}
 use mathlib.Core.Path.{◌≡◌, refl}
 use mathlib.Core.Bool.{Bool, true, false, cond}
 use mathlib.Core.List.{List}
+use Rattle.std.specs.Prelude.{Option, Some, None}
 use lib.Ieee.{Float, lt}
 use Rattle.blocks.specs.Each.{Each, count_to}
 use Rattle.arctan.specs.Arctan.{atan2_of}
@@ -17,7 +18,6 @@ use Rattle.cart.specs.Step.{cart_fwd_of, cart_inv_of, counted_of, on_axis_of, of
 use Rattle.geocart.specs.Geocart.{cartesian_of}
 use Rattle.molodensky.specs.declared.Moped.{Moped}
 use Rattle.molodensky.specs.declared.Offsets.{Offsets}
-use Rattle.molodensky.specs.declared.Offsets.TheVariants.{Three, Nothing}
 use Rattle.molodensky.specs.Step.{offsets_of, offset_by_of, common_of}
 use Rattle.lists.specs.Sixteen.{row_at, put_block, turned_of, taken_of}
 use Rattle.lists.proofs.Sixteen.{Columns, columns, timed-columns, turned, taken}
@@ -41,11 +41,11 @@ inverse_time k v =
     let p = hypot_of v.x v.y in
     either_time (lt p k.cutoff) (on_axis_of k lam v) (counted_of (off_axis_of k lam p v)) refl refl
 
-moved_time : (inverse : Bool) (v : Tuple) (by : Offsets) → (offset_by_of inverse v by).t ≡ v.t
-moved_time true v (Three dlam dphi dh) = refl
-moved_time false v (Three dlam dphi dh) = refl
-moved_time true v Nothing = refl
-moved_time false v Nothing = refl
+moved_time : (inverse : Bool) (v : Tuple) (by : Option Offsets) → (offset_by_of inverse v by).t ≡ v.t
+moved_time true v (Some o) = refl
+moved_time false v (Some o) = refl
+moved_time true v None = refl
+moved_time false v None = refl
 
 pub common_time : (op : Moped) (inverse : Bool) (v : Tuple) → (common_of op inverse v).t ≡ v.t
 common_time op inverse v = moved_time inverse v (offsets_of op v)

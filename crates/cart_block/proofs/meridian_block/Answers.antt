@@ -1,11 +1,11 @@
-use mathlib.Core.Path.{refl, ap}
+use mathlib.Core.Path.{ap}
 use Rattle.blocks.proofs.Laws.{none_filled, one_more, all_filled}
 use Rattle.cart.specs.declared.Legs.{Legs}
 use borrow.Author.Rules.{rules}
 use Rattle.cart_block.proofs.meridian_block.Goals as goal
 
 pub loop-i-init : goal.loop-i-init
-loop-i-init c = (none_filled refl, none_filled refl)
+loop-i-init c = (none_filled (search rules), none_filled (search rules))
 
 pub loop-i-preserved : goal.loop-i-preserved
 loop-i-preserved c =

@@ -4,7 +4,7 @@ use borrow.Author.Rules.{rules}
 use Rattle.cart_block.proofs.reduced_block.Goals as goal
 
 pub loop-i-init : goal.loop-i-init
-loop-i-init c = (none_filled refl, none_filled refl)
+loop-i-init c = (none_filled (search rules), none_filled (search rules))
 
 pub loop-i-preserved : goal.loop-i-preserved
 loop-i-preserved c =

@@ -13,7 +13,7 @@ load_there-requires c = block_told _ _ _ _ _ (sym c.has_block.ensures ∙ c.if-h
 pub returns-then-has_block : goal.returns-then-has_block
 returns-then-has_block c = c.load_there.ensures
 
-pub returns : goal.returns
-returns c =
+pub returns-else-has_block : goal.returns-else-has_block
+returns-else-has_block c =
     let short = no_block _ _ _ _ _ (sym c.has_block.ensures ∙ c.if-has_block.false) in
     (none-there-block _ _ zero_over_zero short (λ (v : Tuple). v.x) refl, none-there-block _ _ zero_over_zero short (λ (v : Tuple). v.y) refl, none-there-block _ _ zero_over_zero short (λ (v : Tuple). v.z) refl, none-there-block _ _ zero_over_zero short (λ (v : Tuple). v.t) refl)

@@ -1,12 +1,12 @@
 use borrow.Author.Rules.{rules}
-use mathlib.Core.Path.{refl, ap}
+use mathlib.Core.Path.{ap}
 use Rattle.tuple.specs.declared.Tuple.{Tuple}
 use Rattle.blocks.proofs.Laws.{none_filled, one_more, all_filled}
 use Rattle.column_blocks.proofs.Blocks.{block_read}
 use Rattle.column_blocks.proofs.load_there.Goals as goal
 
 pub loop-j-init : goal.loop-j-init
-loop-j-init c = (none_filled refl, none_filled refl, none_filled refl, none_filled refl)
+loop-j-init c = (none_filled (search rules), none_filled (search rules), none_filled (search rules), none_filled (search rules))
 
 pub loop-j-preserved : goal.loop-j-preserved
 loop-j-preserved c =

@@ -1,6 +1,5 @@
--- Invariant: the first j places of each block hold the rows from the index on. The measure is
--- 16 - j. Assumes nothing.
-use Prim.Native.Nat.{ℕ, ◌*◌, ◌-◌}
+-- Invariant: the first j places of each block hold the rows from the index on. Assumes nothing.
+use Prim.Native.Nat.{ℕ, ◌*◌}
 use Rattle.blocks.specs.Each.{UpTo}
 use Rattle.lists.specs.Sixteen.{row_at}
 use Rattle.columns.specs.Columns.{flat_of}
@@ -12,6 +11,3 @@ invariant-loop-j l =
     × UpTo l.j l.by (λ (k : ℕ). (row_at (flat_of l.x l.y l.z l.t) (4 * l.i) k).y)
     × UpTo l.j l.bz (λ (k : ℕ). (row_at (flat_of l.x l.y l.z l.t) (4 * l.i) k).z)
     × UpTo l.j l.bt (λ (k : ℕ). (row_at (flat_of l.x l.y l.z l.t) (4 * l.i) k).t)
-
-abbrev pub decreases-loop-j : goal.decreases-loop-j
-decreases-loop-j l = 16 - l.j

@@ -1,7 +1,7 @@
 -- Invariant: where bt holds the times that stand in the column, the first j rows of the blocks
 -- stand in the columns. A turn's three stores put one more (`block-point`), and at j = 16 all are
--- put (`put-rows`). The measure is 16 - j. Assumes nothing.
-use Prim.Native.Nat.{ℕ, ◌*◌, ◌-◌, ◌≤◌}
+-- put (`put-rows`). Assumes nothing.
+use Prim.Native.Nat.{ℕ, ◌*◌, ◌≤◌}
 use mathlib.Core.Path.{◌≡◌}
 use lib.ListN.{length}
 use Rattle.blocks.specs.Each.{Each}
@@ -14,6 +14,3 @@ abbrev pub invariant-loop-j : goal.invariant-loop-j
 invariant-loop-j l =
     Level l.x l.y l.z l.t × (length l.x ≡ length l.initial.x) × (l.j ≤ 16)
     × (Each l.bt (λ (k : ℕ). (row_at (flat_of l.initial.x l.initial.y l.initial.z l.t) (4 * l.i) k).t) → flat_of l.x l.y l.z l.t ≡ put_rows (flat_of l.initial.x l.initial.y l.initial.z l.t) (4 * l.i) (row_of l.bx l.by l.bz l.bt) l.j)
-
-abbrev pub decreases-loop-j : goal.decreases-loop-j
-decreases-loop-j l = 16 - l.j

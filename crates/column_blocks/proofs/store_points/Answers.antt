@@ -11,5 +11,5 @@ points_there-requires c = block_told _ _ _ _ _ (sym c.has_block.ensures ∙ c.if
 pub returns-then-has_block : goal.returns-then-has_block
 returns-then-has_block c = c.points_there.ensures
 
-pub returns : goal.returns
-returns c = λ e. sym (put-no-rows _ _ _ _ _ _ (no_block _ _ _ _ _ (sym c.has_block.ensures ∙ c.if-has_block.false)))
+pub returns-else-has_block : goal.returns-else-has_block
+returns-else-has_block c = λ e. sym (put-no-rows _ _ _ _ _ _ (no_block _ _ _ _ _ (sym c.has_block.ensures ∙ c.if-has_block.false)))

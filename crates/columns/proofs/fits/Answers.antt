@@ -1,7 +1,13 @@
--- By what `level` ensures; the rest of the body is the definition's, in its order. Assumes nothing.
+-- One case for each way through the tests, which are the definition's, in its order. Assumes
+-- nothing.
+use borrow.Author.Rules.{rules}
 use Rattle.columns.specs.Columns.{fits_of}
 use Rattle.columns.proofs.fits.Goals as goal
 
-pub returns : goal.returns
+pub returns-then-list-eq0 : goal.returns-then-list-eq0
 unfolding fits_of
-returns c = rw c.level.ensures
+returns-then-list-eq0 c = search rules
+
+pub returns-else-list-eq0 : goal.returns-else-list-eq0
+unfolding fits_of
+returns-else-list-eq0 c = search rules

@@ -1,8 +1,13 @@
--- By computation: the body's operations are the definition's, in its order. Assumes nothing.
-use mathlib.Core.Path.{refl}
+-- One case for each way through the comparisons, which are the definition's, in its order. Assumes
+-- nothing.
+use borrow.Author.Rules.{rules}
 use Rattle.columns.specs.Columns.{level_of}
 use Rattle.columns.proofs.level.Goals as goal
 
-pub returns : goal.returns
+pub returns-then-z-x : goal.returns-then-z-x
 unfolding level_of
-returns c = refl
+returns-then-z-x c = search rules
+
+pub returns-else-z-x : goal.returns-else-z-x
+unfolding level_of
+returns-else-z-x c = search rules

@@ -11,5 +11,5 @@ there-requires c = row_told _ _ _ _ _ (sym c.has_row.ensures ∙ c.if-has_row.tr
 pub returns-then-has_row : goal.returns-then-has_row
 returns-then-has_row c = c.there.ensures
 
-pub returns : goal.returns
-returns c = c.nan.ensures ∙ sym (none_there _ _ (no_row _ _ _ _ _ (sym c.has_row.ensures ∙ c.if-has_row.false)))
+pub returns-else-has_row : goal.returns-else-has_row
+returns-else-has_row c = c.nan.ensures ∙ sym (none_there _ _ (no_row _ _ _ _ _ (sym c.has_row.ensures ∙ c.if-has_row.false)))

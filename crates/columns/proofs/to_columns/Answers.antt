@@ -10,5 +10,5 @@ into_columns-requires c = fits_told _ _ _ _ _ (sym c.fits.ensures ∙ c.if-fits.
 pub returns-then-fits : goal.returns-then-fits
 returns-then-fits c = rw (sym c.fits.ensures ∙ c.if-fits.true) c.into_columns.ensures
 
-pub returns : goal.returns
-returns c = rw (sym c.fits.ensures ∙ c.if-fits.false)
+pub returns-else-fits : goal.returns-else-fits
+returns-else-fits c = rw (sym c.fits.ensures ∙ c.if-fits.false)

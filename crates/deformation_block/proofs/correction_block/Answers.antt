@@ -3,9 +3,6 @@ use mathlib.Core.List.{[]}
 use Rattle.deformation_block.proofs.Laws.{turned-all}
 use Rattle.deformation_block.proofs.correction_block.Goals as goal
 
-pub turned_block-requires : goal.turned_block-requires
-turned_block-requires c = (c.sin_cos_block-2.ensures.0.block, c.sin_cos_block-2.ensures.1.block, c.sin_cos_block.ensures.1.block)
-
 pub returns : goal.returns
 returns c =
     let lon = c.sin_cos_block.ensures in

@@ -4,7 +4,7 @@ use Rattle.blocks.proofs.Over.{none_over, still, one_more_over, all_over}
 use Rattle.deformation_block.proofs.keep_block.Goals as goal
 
 pub loop-i-init : goal.loop-i-init
-loop-i-init c = none_over c.requires
+loop-i-init c = none_over (search rules)
 
 pub loop-i-preserved : goal.loop-i-preserved
 loop-i-preserved c =

@@ -1,19 +1,14 @@
 -- One case for each way through the tests. Each by `raw-all` and `sum-all`, from what the calls
--- ensure. Assumes nothing.
+-- ensure; the number added to a time is one of sixteen zeros. Assumes nothing.
+use mathlib.Core.Path.{ap}
+use lib.ListN.{get_or-replicate}
+use lib.Ieee.{Float, nan}
+use Rattle.floats.specs.Binary64.{◌⊕◌, bits}
+use Rattle.blocks.specs.Each.{at, whole_at}
+use Rattle.blocks.proofs.Laws.{told}
+use Rattle.deformation_block.specs.Places.{kept_of}
 use Rattle.deformation_block.proofs.Laws.{raw-all, sum-all}
 use Rattle.deformation_block.proofs.moved_block.Goals as goal
-
-pub keep_block-requires : goal.keep_block-requires
-keep_block-requires c = c.correction_block.ensures.0.block
-
-pub keep_block-requires-then-op : goal.keep_block-requires-then-op
-keep_block-requires-then-op c = c.correction_block.ensures.1.block
-
-pub keep_block-requires-then-op-2 : goal.keep_block-requires-then-op-2
-keep_block-requires-then-op-2 c = c.correction_block.ensures.2.block
-
-pub keep_block-requires-then-op-3 : goal.keep_block-requires-then-op-3
-keep_block-requires-then-op-3 c = c.length_block.ensures.block
 
 pub returns-then-op : goal.returns-then-op
 returns-then-op c =
@@ -41,15 +36,6 @@ returns-then-op c =
     c.keep_block-then-op-3.ensures
     c.count_block.ensures
 
-pub add_block-requires : goal.add_block-requires
-add_block-requires c = c.correction_block.ensures.0.block
-
-pub add_block-requires-2 : goal.add_block-requires-2
-add_block-requires-2 c = c.correction_block.ensures.1.block
-
-pub add_block-requires-3 : goal.add_block-requires-3
-add_block-requires-3 c = c.correction_block.ensures.2.block
-
 pub returns : goal.returns
 returns c =
     let d = c.correction_block.ensures in
@@ -72,5 +58,5 @@ returns c =
     c.add_block.ensures
     c.add_block-2.ensures
     c.add_block-3.ensures
-    c.time_block.ensures
+    (told (λ j k. ap (λ (u : Float). kept_of (whole_at a.marks.now j) (at a.t.now j ⊕ u)) (get_or-replicate 16 j (bits 0) nan k)) c.add_block-4.ensures)
     c.count_block-2.ensures

@@ -5,11 +5,8 @@ use mathlib.Core.Path.{sym, ◌∙◌}
 use Rattle.lists.proofs.Places.{tuple-there, none_there}
 use Rattle.lists.proofs.read4.Goals as goal
 
-pub returns-then-list-at : goal.returns-then-list-at
-returns-then-list-at c = c.nan.ensures ∙ sym (none_there _ _ (search rules))
-
-pub returns-then-list-at-lt4 : goal.returns-then-list-at-lt4
-returns-then-list-at-lt4 c = c.nan-then-list-at-lt4.ensures ∙ sym (none_there _ _ (search rules))
+pub returns-then-saturating_sub-lt4 : goal.returns-then-saturating_sub-lt4
+returns-then-saturating_sub-lt4 c = c.nan.ensures ∙ sym (none_there _ _ (search rules))
 
 pub returns : goal.returns
 returns c = sym (tuple-there _ _ (search rules))

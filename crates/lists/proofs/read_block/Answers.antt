@@ -18,14 +18,11 @@ none_there : (l : List Float) (i : ℕ) → length l < i + 64
 none_there l i h =
     (none-there-block l i zero_over_zero h (λ (v : Tuple). v.x) refl, none-there-block l i zero_over_zero h (λ (v : Tuple). v.y) refl, none-there-block l i zero_over_zero h (λ (v : Tuple). v.z) refl, none-there-block l i zero_over_zero h (λ (v : Tuple). v.t) refl)
 
-pub returns-then-list-at : goal.returns-then-list-at
-returns-then-list-at c = none_there _ _ (search rules)
-
-pub returns-then-list-at-lt64 : goal.returns-then-list-at-lt64
-returns-then-list-at-lt64 c = none_there _ _ (search rules)
+pub returns-then-saturating_sub-lt64 : goal.returns-then-saturating_sub-lt64
+returns-then-saturating_sub-lt64 c = none_there _ _ (search rules)
 
 pub loop-i-init : goal.loop-i-init
-loop-i-init c = (none_filled refl, none_filled refl, none_filled refl, none_filled refl)
+loop-i-init c = (none_filled (search rules), none_filled (search rules), none_filled (search rules), none_filled (search rules))
 
 pub loop-i-preserved : goal.loop-i-preserved
 loop-i-preserved c =

@@ -6,11 +6,8 @@ use lib.ListN.{length-set}
 use Rattle.lists.proofs.Places.{four-set, put_none}
 use Rattle.lists.proofs.write4.Goals as goal
 
-pub returns-then-list-at : goal.returns-then-list-at
-returns-then-list-at c = sym (put_none _ _ _ (search rules))
-
-pub returns-then-list-at-lt4 : goal.returns-then-list-at-lt4
-returns-then-list-at-lt4 c = sym (put_none _ _ _ (search rules))
+pub returns-then-saturating_sub-lt4 : goal.returns-then-saturating_sub-lt4
+returns-then-saturating_sub-lt4 c = sym (put_none _ _ _ (search rules))
 
 pub bounds-list-at-2 : goal.bounds-list-at-2
 bounds-list-at-2 c = simp length-set (omega arith)

@@ -12,11 +12,8 @@ use Rattle.lists.proofs.Places.{four-set}
 use Rattle.lists.proofs.Sixteen.{row_put, put-rows, put-no-rows}
 use Rattle.lists.proofs.write_block.Goals as goal
 
-pub returns-then-list-at : goal.returns-then-list-at
-returns-then-list-at c = sym (put-no-rows _ _ _ _ _ _ (search rules))
-
-pub returns-then-list-at-lt64 : goal.returns-then-list-at-lt64
-returns-then-list-at-lt64 c = sym (put-no-rows _ _ _ _ _ _ (search rules))
+pub returns-then-saturating_sub-lt64 : goal.returns-then-saturating_sub-lt64
+returns-then-saturating_sub-lt64 c = sym (put-no-rows _ _ _ _ _ _ (search rules))
 
 pub loop-i-init : goal.loop-i-init
 loop-i-init c = (refl, refl, search rules)

@@ -1,7 +1,6 @@
--- One case for each way through the tests. Calls are replaced by what they ensure; the definition
--- is left. Assumes nothing.
+-- One case for each way through the test. The test's outcome picks the definition's case. Assumes
+-- nothing.
 use Rattle.molodensky.specs.Step.{abridged_with}
-use Rattle.trig.proofs.Laws.{numbers_of_angle}
 use Rattle.molodensky.proofs.abridged_offsets.Goals as goal
 
 pub returns-then-dlam_denom : goal.returns-then-dlam_denom
@@ -10,10 +9,4 @@ returns-then-dlam_denom c = rw c.if-dlam_denom.true
 
 pub returns : goal.returns
 unfolding abridged_with
-returns c =
-    rw (
-      c.numbers-twice.ensures,
-      c.sin_cos.ensures,
-      numbers_of_angle _,
-      c.if-dlam_denom.false,
-    )
+returns c = rw c.if-dlam_denom.false

@@ -10,14 +10,14 @@ pub returns-in_default : goal.returns-in_default
 returns-in_default c =
     rw zero_over_zero
     (ap (offset_by_of c.args.inverse c.args.coord)
-    (sym c.in_default.is ∙ c.calc_molodensky_params-par.ensures))
+    (sym c.in_default.is ∙ c.calc_molodensky_params.ensures))
 
 pub returns-then-inverse : goal.returns-then-inverse
 returns-then-inverse c =
     rw c.if-inverse.true
-    (ap (offset_by_of true c.args.coord) (sym c.in-Three.is ∙ c.calc_molodensky_params-par.ensures))
+    (ap (offset_by_of true c.args.coord) (sym c.in-Some.is ∙ c.calc_molodensky_params.ensures))
 
 pub returns : goal.returns
 returns c =
     rw c.if-inverse.false
-    (ap (offset_by_of false c.args.coord) (sym c.in-Three.is ∙ c.calc_molodensky_params-par.ensures))
+    (ap (offset_by_of false c.args.coord) (sym c.in-Some.is ∙ c.calc_molodensky_params.ensures))

@@ -3,14 +3,14 @@ use Rattle.blocks.proofs.Over.{none_over, still, one_more_over, all_over}
 use Rattle.molodensky_block.proofs.abridged_shifts.Goals as goal
 
 pub loop-i-init : goal.loop-i-init
-loop-i-init c = (none_over c.requires.0, none_over c.requires.1, none_over c.requires.2)
+loop-i-init c = (none_over (search rules), none_over (search rules), none_over (search rules))
 
 pub loop-i-preserved : goal.loop-i-preserved
 loop-i-preserved c =
     let u = c.loop-i.invariant in (
-      one_more_over (search rules) (rw (c.abridged_shift-shift.ensures, c.place_with-p.ensures, still u.0, still u.1, still u.2)) u.0,
-      one_more_over (search rules) (rw (c.abridged_shift-shift.ensures, c.place_with-p.ensures, still u.0, still u.1, still u.2)) u.1,
-      one_more_over (search rules) (rw (c.abridged_shift-shift.ensures, c.place_with-p.ensures, still u.0, still u.1, still u.2)) u.2,
+      one_more_over (search rules) (rw (c.numbers-shift.ensures, c.abridged_offsets.ensures, c.place_with-p.ensures, still u.0, still u.1, still u.2)) u.0,
+      one_more_over (search rules) (rw (c.numbers-shift.ensures, c.abridged_offsets.ensures, c.place_with-p.ensures, still u.0, still u.1, still u.2)) u.1,
+      one_more_over (search rules) (rw (c.numbers-shift.ensures, c.abridged_offsets.ensures, c.place_with-p.ensures, still u.0, still u.1, still u.2)) u.2,
     )
 
 pub returns : goal.returns

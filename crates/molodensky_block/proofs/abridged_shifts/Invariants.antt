@@ -2,8 +2,8 @@
 -- elements of dlam, dphi and dh are the offsets of the columns as they stood at the start
 -- (`abridged_at`), and the others are as they stood (`Over`). So what a turn reads is what stood
 -- there (`still`), and it writes one offset more in each column (`one_more_over`). At i = 16 every
--- element is an offset (`all_filled`). The measure is 16 - i. Assumes nothing.
-use Prim.Native.Nat.{ℕ, ◌-◌}
+-- element is an offset (`all_filled`). Assumes nothing.
+use Prim.Native.Nat.{ℕ}
 use Rattle.molodensky_block.specs.Block.{abridged_at}
 use Rattle.blocks.proofs.Over.{Over}
 use Rattle.molodensky_block.proofs.abridged_shifts.Given as goal
@@ -13,6 +13,3 @@ invariant-loop-i l =
     Over l.i l.initial.dlam l.dlam (λ (j : ℕ). (abridged_at l.op l.initial.dh l.initial.dlam l.initial.dphi l.sphi l.cphi l.q j).dlam)
     × Over l.i l.initial.dphi l.dphi (λ (j : ℕ). (abridged_at l.op l.initial.dh l.initial.dlam l.initial.dphi l.sphi l.cphi l.q j).dphi)
     × Over l.i l.initial.dh l.dh (λ (j : ℕ). (abridged_at l.op l.initial.dh l.initial.dlam l.initial.dphi l.sphi l.cphi l.q j).dh)
-
-abbrev pub decreases-loop-i : goal.decreases-loop-i
-decreases-loop-i l = 16 - l.i

@@ -2,7 +2,7 @@
 -- what the calls ensure. Assumes nothing.
 use mathlib.Core.Path.{ap}
 use Rattle.blocks.proofs.Laws.{told}
-use Rattle.molodensky_block.specs.declared.Shift.{Shift}
+use Rattle.molodensky.specs.declared.Offsets.{Offsets}
 use Rattle.molodensky_block.proofs.Block.{placed, full, abridged}
 use Rattle.molodensky_block.proofs.shifts.Goals as goal
 
@@ -15,19 +15,19 @@ returns-then-op c =
     let lat = c.sin_cos_block.ensures in (
       told
           (λ j k.
-          ap (λ (s : Shift). s.dlam)
+          ap (λ (s : Offsets). s.dlam)
           (abridged _ _ c.if-op.true
           (placed _ _ _ (lon.0.held j k) (lon.1.held j k) (lat.0.held j k) (lat.1.held j k) (w.held j k) (root.held j k)) (twice.held j k)))
           c.abridged_shifts.ensures.0,
       told
           (λ j k.
-          ap (λ (s : Shift). s.dphi)
+          ap (λ (s : Offsets). s.dphi)
           (abridged _ _ c.if-op.true
           (placed _ _ _ (lon.0.held j k) (lon.1.held j k) (lat.0.held j k) (lat.1.held j k) (w.held j k) (root.held j k)) (twice.held j k)))
           c.abridged_shifts.ensures.1,
       told
           (λ j k.
-          ap (λ (s : Shift). s.dh)
+          ap (λ (s : Offsets). s.dh)
           (abridged _ _ c.if-op.true
           (placed _ _ _ (lon.0.held j k) (lon.1.held j k) (lat.0.held j k) (lat.1.held j k) (w.held j k) (root.held j k)) (twice.held j k)))
           c.abridged_shifts.ensures.2,
@@ -41,19 +41,19 @@ returns-else-op c =
     let lat = c.sin_cos_block.ensures in (
       told
           (λ j k.
-          ap (λ (s : Shift). s.dlam)
+          ap (λ (s : Offsets). s.dlam)
           (full _ _ c.if-op.false
           (placed _ _ _ (lon.0.held j k) (lon.1.held j k) (lat.0.held j k) (lat.1.held j k) (w.held j k) (root.held j k))))
           c.full_shifts.ensures.0,
       told
           (λ j k.
-          ap (λ (s : Shift). s.dphi)
+          ap (λ (s : Offsets). s.dphi)
           (full _ _ c.if-op.false
           (placed _ _ _ (lon.0.held j k) (lon.1.held j k) (lat.0.held j k) (lat.1.held j k) (w.held j k) (root.held j k))))
           c.full_shifts.ensures.1,
       told
           (λ j k.
-          ap (λ (s : Shift). s.dh)
+          ap (λ (s : Offsets). s.dh)
           (full _ _ c.if-op.false
           (placed _ _ _ (lon.0.held j k) (lon.1.held j k) (lat.0.held j k) (lat.1.held j k) (w.held j k) (root.held j k))))
           c.full_shifts.ensures.2,

@@ -5,4 +5,4 @@ use Rattle.permtide.proofs.fwd_block.Goals as goal
 
 pub returns : goal.returns
 unfolding lift_of
-returns c = told (λ j k. rw (c.sines.ensures.held j k)) c.raised.ensures
+returns c = told (λ j k. rw (c.sines.ensures.held j k)) c.shifted.ensures

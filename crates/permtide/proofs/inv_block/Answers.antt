@@ -5,4 +5,4 @@ use Rattle.permtide.proofs.inv_block.Goals as goal
 
 pub returns : goal.returns
 unfolding lift_of
-returns c = told (λ j k. rw (c.sines.ensures.held j k)) c.lowered.ensures
+returns c = told (λ j k. rw (c.sines.ensures.held j k)) c.shifted.ensures

@@ -6,6 +6,6 @@ pub returns-then-by_comment : goal.returns-then-by_comment
 unfolding directed_of
 returns-then-by_comment c = rw (← c.by_comment.ensures, c.if-by_comment.true)
 
-pub returns : goal.returns
+pub returns-else-by_comment : goal.returns-else-by_comment
 unfolding directed_of
-returns c = rw (← c.by_comment.ensures, c.if-by_comment.false)
+returns-else-by_comment c = rw (← c.by_comment.ensures, c.if-by_comment.false)

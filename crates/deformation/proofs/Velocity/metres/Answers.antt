@@ -2,4 +2,4 @@
 use Rattle.deformation.proofs.Velocity.metres.Goals as goal
 
 pub returns : goal.returns
-returns c = rw (c.scale.ensures, c.metre.ensures)
+returns c = rw (c.mul.ensures, c.metre.ensures)

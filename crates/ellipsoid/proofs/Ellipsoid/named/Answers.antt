@@ -1,5 +1,6 @@
 -- One case for each return. Each by `zero_over_zero` and `no_row`, from what the calls ensure.
 -- Assumes nothing.
+use borrow.Author.Rules.{rules}
 use Rattle.floats.proofs.Nan.{zero_over_zero}
 use Rattle.ellipsoid.proofs.Table.{no_row}
 use Rattle.ellipsoid.specs.Figure.{named_of}
@@ -31,5 +32,5 @@ returns-in_default c =
     rw (
       c.new-in_default.ensures,
       zero_over_zero,
-      no_row c.args.number c.in_default.in_default-own.rest.0.0.0.0.1 c.in_default.in_default-own.rest.0.0.0.1 c.in_default.in_default-own.rest.0.0.1 c.in_default.in_default-own.rest.0.1 c.in_default.in_default-own.rest.1,
+      no_row c.args.number (search rules) (search rules) (search rules) (search rules) (search rules),
     )
