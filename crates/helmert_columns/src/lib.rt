@@ -16,7 +16,7 @@ ghost use Rattle.helmert.specs.Modes.{own_epoch_step_of};
 ghost use Rattle.helmert.specs.Turns.{no_state, all_turns, helmert_turns};
 ghost use Rattle.helmert_columns.specs.Given.{given_of};
 
-use helmert::{Shift, State};
+use helmert::{Mode, Shift, State};
 use helmert_still_columns::Through;
 
 // ----- the count of own-epoch mode -------------------------------------------------------------
@@ -109,24 +109,28 @@ fn in_mode(
         × (result.state ≡ state_after_of (helmert_turns inverse shift) 0 from (flat_of x.old y.old z.old t.now))
         × (result.count ≡ count_of (helmert_turns inverse shift) 0 from (flat_of x.old y.old z.old t.now)) }
 {
-    if helmert::is_running(shift) {
-        let state = helmert_running_columns::run_running(x, y, z, t, inverse, shift, from);
-        return Went {
-            count: t.len(),
-            state: state,
-        };
-    }
-    if helmert::is_own_epoch(shift) {
-        run_own_epoch(x, y, z, t, inverse, shift);
-        return Went {
-            count: times_given(t),
-            state: from,
-        };
-    }
-    helmert_still_columns::run_still(x, y, z, t, inverse, shift);
-    Went {
-        count: t.len(),
-        state: from,
+    match shift.mode() {
+        Mode::Still => {
+            helmert_still_columns::run_still(x, y, z, t, inverse, shift);
+            Went {
+                count: t.len(),
+                state: from,
+            }
+        }
+        Mode::Running => {
+            let state = helmert_running_columns::run_running(x, y, z, t, inverse, shift, from);
+            Went {
+                count: t.len(),
+                state: state,
+            }
+        }
+        Mode::OwnEpoch => {
+            run_own_epoch(x, y, z, t, inverse, shift);
+            Went {
+                count: times_given(t),
+                state: from,
+            }
+        }
     }
 }
 

@@ -20,7 +20,7 @@ ghost use Rattle.columns.specs.Columns.{Level, flat_of};
 ghost use Rattle.reach.specs.Met.{meeting_of, place_met, latitude_met, offsets_met, helmert_met};
 
 use blocks::one_if;
-use helmert::{Shift, State};
+use helmert::{Mode, Shift, State};
 use tuple::Tuple;
 
 // ----- by the tuple alone -----------------------------------------------------------------------
@@ -187,16 +187,15 @@ fn helmert_rows(
     requires { Level x.now y.now z.now t.now × (shift.rotated ≡ true) × (shift.exact ≡ true) }
     ensures { result ≡ count_of (meeting_of (helmert_met shift) (helmert_turns inverse shift)) 0 from (flat_of x.now y.now z.now t.now) }
 {
-    if helmert::is_running(shift) {
-        return running_rows(x, y, z, t, inverse, shift, from);
+    match shift.mode() {
+        Mode::Still => if reach::rotation_out(shift.parameters.r) {
+            x.len()
+        } else {
+            0
+        },
+        Mode::Running => running_rows(x, y, z, t, inverse, shift, from),
+        Mode::OwnEpoch => rows_where(x, y, z, t, |v| reach::own_out(shift, v.t)),
     }
-    if helmert::is_own_epoch(shift) {
-        return rows_where(x, y, z, t, |v| reach::own_out(shift, v.t));
-    }
-    if reach::rotation_out(shift.parameters.r) {
-        return x.len();
-    }
-    0
 }
 
 // Helmert, from the state that the columns' first fix is met in. Only an exact shift that is
