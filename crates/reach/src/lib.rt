@@ -115,15 +115,16 @@ pub fn own_out(shift: Shift, time: f64) -> bool
 pub fn helmert_met(shift: Shift, state: State, v: Tuple) -> bool
     ensures { result ≡ matrix_out shift state v }
 {
-    if !(shift.exact & shift.rotated) {
-        return false;
-    }
-    match shift.mode() {
-        Mode::Still => rotation_out(shift.parameters.r),
-        Mode::Running => {
-            let now = helmert::next(shift, state, v.t);
-            rotation_at_out(shift, now.last - shift.epoch)
+    if shift.exact & shift.rotated {
+        match shift.mode() {
+            Mode::Still => rotation_out(shift.parameters.r),
+            Mode::Running => {
+                let now = helmert::next(shift, state, v.t);
+                rotation_at_out(shift, now.last - shift.epoch)
+            }
+            Mode::OwnEpoch => own_out(shift, v.t),
         }
-        Mode::OwnEpoch => own_out(shift, v.t),
+    } else {
+        false
     }
 }
