@@ -298,6 +298,7 @@ fn run(
     }
     let mut state = from;
     let mut i = 0;
+    // A piece says how many rows it took, so the index has no fixed step: `for` has no such form.
     while i < x.len() {
         if worth(t, i, own, shift) {
             state = sixteen(x, y, z, t, i, inverse, own, shift, state);

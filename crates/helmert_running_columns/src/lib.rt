@@ -9,7 +9,7 @@
 // tuple. Exact: no rounding but the step's own. Used by `helmert_columns`.
 #![tactic(auto)]
 
-ghost use Rattle.std.specs.Prelude.{◌+◌, ◌-◌, ◌≤◌, ◌<◌, ◌≡◌, false, ◌&&◌, length};
+ghost use Rattle.std.specs.Prelude.{◌+◌, ◌-◌, ◌≤◌, ◌<◌, ◌≡◌, true, false, ◌&&◌, length};
 ghost use Rattle.lists.specs.Run.{ran_of, state_after_of};
 ghost use Rattle.columns.specs.Columns.{Level, flat_of};
 ghost use Rattle.columns.specs.Passed.{Passed};
@@ -169,17 +169,15 @@ fn sixteen(
 
 // ----- the whole list ------------------------------------------------------------------------
 
-// Sixteen where as many are left and the next row has another time, else one.
-fn together(t: &[f64], i: usize) -> usize
+// Whether sixteen rows are worth taking at once: as many are left, and the next row has another time.
+fn worth(t: &[f64], i: usize) -> bool
     requires { i < length t.now }
-    ensures { i + result ≤ length t.now }
+    ensures { result ≡ true → i + 16 ≤ length t.now }
 {
-    if 16 <= t.len() - i {
-        if t[i + 1] != t[i] {
-            return 16;
-        }
+    if t.len() - i < 16 {
+        return false;
     }
-    1
+    t[i + 1] != t[i]
 }
 
 // Which piece takes the next rows is a matter of speed alone: each is proved to go on to the same
@@ -200,8 +198,9 @@ fn in_pieces(
 {
     let mut state = from;
     let mut i = 0;
+    // A piece says how many rows it took, so the index has no fixed step: `for` has no such form.
     while i < x.len() {
-        if together(t, i) == 16 {
+        if worth(t, i) {
             state = sixteen(x, y, z, t, i, inverse, shift, state);
             i += 16;
         } else {
