@@ -9,7 +9,7 @@
 // runs a step over columns.
 #![tactic(auto)]
 
-ghost use Rattle.std.specs.Prelude.{◌≡◌, Bool, true, false, ℕ, ◌<◌, length};
+ghost use Rattle.std.specs.Prelude.{◌≡◌, Bool, true, false, ℕ, ◌<◌, length, IfSome};
 ghost use Rattle.std.specs.Float.Ieee.{ne};
 ghost use Rattle.blocks.specs.Each.{at};
 ghost use Rattle.lists.specs.Run.{count_of};
@@ -98,15 +98,8 @@ fn running_any(
     n
 }
 
-// How many times are equal to the one before, and, where none is, how many rows met it.
-#[derive(Clone, Copy)]
-pub struct Apart {
-    pub equal: usize,
-    pub met: usize,
-}
-
-// Where every time differs from the one before, each row goes by its own time: no row waits for
-// another, and the loop becomes vector instructions.
+// Where every time differs from the one before, each row goes by its own time, and this is how many
+// rows met it; else nothing. No row waits for another, so the loop is quick.
 fn running_apart(
     x: &[f64],
     y: &[f64],
@@ -115,9 +108,10 @@ fn running_apart(
     inverse: bool,
     shift: Shift,
     from: State,
-) -> Apart
+) -> Option<usize>
     requires { Level x.now y.now z.now t.now × (is_running_of shift ≡ true) × (shift.rotated ≡ true) × (shift.exact ≡ true) }
-    ensures { (result.equal ≡ 0) → (result.met ≡ count_of (meeting_of (helmert_met shift) (helmert_turns inverse shift)) 0 from (flat_of x.now y.now z.now t.now)) }
+    ensures { IfSome result
+        (λ n. n ≡ count_of (meeting_of (helmert_met shift) (helmert_turns inverse shift)) 0 from (flat_of x.now y.now z.now t.now)) }
 {
     let mut state = from;
     let mut before = state.last;
@@ -130,10 +124,7 @@ fn running_apart(
         state = helmert::next(shift, state, time);
         before = time;
     }
-    Apart {
-        equal: equal,
-        met: n,
-    }
+    if equal == 0 { Some(n) } else { None }
 }
 
 // Whether every time is equal to one.
@@ -166,11 +157,10 @@ fn running_rows(
         }
         return 0;
     }
-    let quick = running_apart(x, y, z, t, inverse, shift, from);
-    if quick.equal == 0 {
-        return quick.met;
+    match running_apart(x, y, z, t, inverse, shift, from) {
+        Some(met) => met,
+        None => running_any(x, y, z, t, inverse, shift, from),
     }
-    running_any(x, y, z, t, inverse, shift, from)
 }
 
 // By the mode, of an exact shift that is rotated: in own-epoch mode R is the sheet's at each fix's
