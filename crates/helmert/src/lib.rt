@@ -24,7 +24,7 @@ ghost use Rattle.std.specs.Prelude.{◌≡◌};
 ghost use Rattle.helmert.specs.Record.{exact_of, uas_of, mm_of, own_epoch_of, zeros_with, blank_helmert, zero_helmert};
 ghost use Rattle.helmert.specs.Units.{linear_scale_of, angular_scale_of, winner_of, lengths_of, angles_of, parameters_of};
 ghost use Rattle.helmert.specs.Rules.{some_of, rotated_of, dynamic_of, finite3_of, time_of, vectors_finite_of, scales_finite_of, fields_in_rule_of, lacks_convention_of, lacks_epoch_of};
-ghost use Rattle.helmert.specs.Apply.{offset_of, deoffset_of, forward_of, inverse_of, apply_of, less_of, more_of, forward_about_of, inverse_about_of, apply_about_of};
+ghost use Rattle.helmert.specs.Apply.{position_of, tuple_of, offset_of, deoffset_of, forward_of, inverse_of, apply_of, less_of, more_of, forward_about_of, inverse_about_of, apply_about_of};
 ghost use Rattle.helmert.specs.Modes.{advanced_of, observed_of, prepare_of, grown_of, rotation_at_of, scale_at_of, shifted_of, fixed_step_of, start_of, next_of, running_of, own_epoch_step_of, is_own_epoch_of, is_running_of, mode_of, step_of, counted_of};
 
 use rotation::Vec3;
@@ -393,56 +393,46 @@ pub fn deoffset(t: Vec3, s: f64, v: Vec3) -> Vec3
     }
 }
 
-pub fn forward(t: Vec3, s: f64, rotated: bool, m: [[f64; 3]; 3], v: Tuple) -> Tuple
-    ensures { result ≡ forward_of t s rotated m v }
+// The coordinates of a tuple, and a tuple of coordinates and a time. Functions, because `From` would
+// be of another crate's types on both sides.
+fn position(v: Tuple) -> Vec3
+    ensures { result ≡ position_of v }
 {
-    let c = Vec3 {
+    Vec3 {
         x: v.x,
         y: v.y,
         z: v.z,
-    };
-    if rotated {
-        let w = offset(t, s, rotation::rotate(m, c));
-        return Tuple {
-            x: w.x,
-            y: w.y,
-            z: w.z,
-            t: v.t,
-        };
     }
-    let w = offset(t, s, c);
+}
+
+fn at_time(v: Vec3, t: f64) -> Tuple
+    ensures { result ≡ tuple_of v t }
+{
     Tuple {
-        x: w.x,
-        y: w.y,
-        z: w.z,
-        t: v.t,
+        x: v.x,
+        y: v.y,
+        z: v.z,
+        t: t,
     }
+}
+
+pub fn forward(t: Vec3, s: f64, rotated: bool, m: [[f64; 3]; 3], v: Tuple) -> Tuple
+    ensures { result ≡ forward_of t s rotated m v }
+{
+    if rotated {
+        return at_time(offset(t, s, rotation::rotate(m, position(v))), v.t);
+    }
+    at_time(offset(t, s, position(v)), v.t)
 }
 
 pub fn inverse(t: Vec3, s: f64, rotated: bool, m: [[f64; 3]; 3], v: Tuple) -> Tuple
     ensures { result ≡ inverse_of t s rotated m v }
 {
-    let c = Vec3 {
-        x: v.x,
-        y: v.y,
-        z: v.z,
-    };
-    let u = deoffset(t, s, c);
+    let u = deoffset(t, s, position(v));
     if rotated {
-        let w = rotation::rotate_back(m, u);
-        return Tuple {
-            x: w.x,
-            y: w.y,
-            z: w.z,
-            t: v.t,
-        };
+        return at_time(rotation::rotate_back(m, u), v.t);
     }
-    Tuple {
-        x: u.x,
-        y: u.y,
-        z: u.z,
-        t: v.t,
-    }
+    at_time(u, v.t)
 }
 
 // Forward, or inverse where `inv` says so.
