@@ -115,6 +115,7 @@ impl Helmert {
         zeros_with(0)
     }
 
+    // One method a flag, and the only place that reads its bit.
     pub fn exact(self) -> bool
         ensures { result ≡ exact_of self }
     {
@@ -307,7 +308,8 @@ pub struct Shift {
     pub pivot: Vec3,
 }
 
-// A parameter moved once by rate·d.
+// A parameter moved once by rate·d. Sums of vectors are functions and no operators: five impls would
+// serve four bodies, and the order of the factors, which is the Rust's, would stand elsewhere.
 fn moved(v: Vec3, rate: Vec3, d: f64) -> Vec3
     ensures { result ≡ advanced_of v rate d }
 {

@@ -181,7 +181,9 @@ fn worth(t: &[f64], i: usize) -> bool
 }
 
 // Which piece takes the next rows is a matter of speed alone: each is proved to go on to the same
-// list. A row whose time the next does not have goes with fifteen more.
+// list. A row whose time the next does not have goes with fifteen more. `helmert_exact_columns` has
+// such a loop over its own pieces: one for both would take three functions with all that each asks
+// and ensures, and is no plainer than ten lines.
 fn in_pieces(
     x: &mut [f64],
     y: &mut [f64],
