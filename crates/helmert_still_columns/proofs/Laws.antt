@@ -40,15 +40,11 @@ module _ (x y z t : List Float) (h : Level x y z t) (i : ℕ) (k : i < length x)
       point-set x y z t h i k w (ap (λ (v : Tuple). v.t) e ∙ timed _)
       ∙ ap (put_at (flat_of x y z t) (4 * i)) (e ∙ ap f (row-there x y z t h i k))
 
-  -- through T, S and a matrix, and about a pivot
+  -- through T, S and a matrix
   module _ (inverse : Bool) where
     pub row-applied : (by : Vec3) (s : Float) (rotated : Bool) (m : Matrix) {w : Tuple} → w ≡ apply_of inverse by s rotated m (four_of (at x i) (at y i) (at z i) (at t i))
         → flat_of (set x i w.x) (set y i w.y) (set z i w.z) t ≡ put_at (flat_of x y z t) (4 * i) (apply_of inverse by s rotated m (tuple_at (flat_of x y z t) (4 * i)))
     row-applied by s rotated m e = row_put (apply_of inverse by s rotated m) (apply_time inverse by s rotated m) e
-
-    pub row-about : (pivot by : Vec3) (s : Float) (rotated : Bool) (m : Matrix) {w : Tuple} → w ≡ apply_about_of inverse pivot by s rotated m (four_of (at x i) (at y i) (at z i) (at t i))
-        → flat_of (set x i w.x) (set y i w.y) (set z i w.z) t ≡ put_at (flat_of x y z t) (4 * i) (apply_about_of inverse pivot by s rotated m (tuple_at (flat_of x y z t) (4 * i)))
-    row-about pivot by s rotated m e = row_put (apply_about_of inverse pivot by s rotated m) (about_time inverse pivot by s rotated m) e
 
 -- a row that counts, from what its turn is
 pub turned-row : {S : Type 0} {f : Turns S} {state now : S} {l l' : List Float} {v : Tuple} (i : ℕ) → 4 * i + 4 ≤ length l
