@@ -57,31 +57,13 @@ impl Badekas {
     pub fn helmert(self) -> Helmert
         ensures { result ≡ helmert_of self }
     {
-        let none = 0.0 / 0.0;
-        let zero = Vec3 {
-            x: 0.0,
-            y: 0.0,
-            z: 0.0,
-        };
-        let translation = self.translation;
-        let rotation = self.rotation;
         Helmert {
             flags: self.flags,
             convention: self.convention,
-            translation: translation,
-            xyz: zero,
-            translation_rate: zero,
-            dxyz: zero,
-            rotation: rotation,
-            rxyz: zero,
-            rotation_rate: zero,
-            drxyz: zero,
+            translation: self.translation,
+            rotation: self.rotation,
             scale: self.scale,
-            s: 0.0,
-            scale_rate: 0.0,
-            ds: 0.0,
-            t_epoch: none,
-            t_obs: none,
+            ..Helmert::zeros()
         }
     }
 
@@ -109,18 +91,10 @@ impl Badekas {
 fn about(shift: Shift, pivot: Vec3) -> Shift
     ensures { result ≡ about_of shift pivot }
 {
-    let parameters = shift.parameters;
     Shift {
-        parameters: parameters,
-        epoch: shift.epoch,
-        rotated: shift.rotated,
-        dynamic: shift.dynamic,
-        fixed: shift.fixed,
-        exact: shift.exact,
-        position_vector: shift.position_vector,
-        own_epoch: shift.own_epoch,
         pivoted: true,
         pivot: pivot,
+        ..shift
     }
 }
 

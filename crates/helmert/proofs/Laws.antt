@@ -7,9 +7,10 @@ use Rattle.tuple.specs.declared.Tuple.{Tuple}
 use Rattle.rotation.specs.declared.Vec3.{Vec3}
 use Rattle.helmert.specs.declared.Shift.{Shift}
 use Rattle.helmert.specs.declared.State.{State}
+use Rattle.helmert.specs.declared.Mode.{Mode}
 use Rattle.helmert.specs.Apply.{offset_of, deoffset_of, forward_of, inverse_of, apply_of, forward_about_of, inverse_about_of}
 use Rattle.rotation.specs.Matrix.{Matrix}
-use Rattle.helmert.specs.Modes.{nothing3, shifted_of, fixed_step_of, grown_of, rotation_at_of, scale_at_of, next_of, running_of, lost_of, own_epoch_step_of, time_varying_of, is_own_epoch_of, is_running_of, step_of, counted_of}
+use Rattle.helmert.specs.Modes.{nothing3, shifted_of, fixed_step_of, grown_of, rotation_at_of, scale_at_of, next_of, running_of, lost_of, own_epoch_step_of, time_varying_of, is_own_epoch_of, is_running_of, mode_of, step_of, counted_of}
 
 -- ---- the step by its mode: what a loop that decides the mode beforehand leans on
 
@@ -195,3 +196,34 @@ given_time_counts shift v given = by_flag (is_own_epoch_of shift)
 pub counts_but_in_own_epoch : (shift : Shift) (v : Tuple) → is_own_epoch_of shift ≡ false → counted_of shift v ≡ true
 unfolding counted_of
 counts_but_in_own_epoch shift v other = rw other
+
+-- ---- the three modes in one
+
+abbrev pub runs : Mode → Bool
+runs Mode.Running = true
+runs Mode.OwnEpoch = false
+runs Mode.Still = false
+
+abbrev pub owns : Mode → Bool
+owns Mode.Running = false
+owns Mode.OwnEpoch = true
+owns Mode.Still = false
+
+runs_as : (a b : Bool) → runs (cond a Mode.Running (cond b Mode.OwnEpoch Mode.Still)) ≡ a
+runs_as true b = refl
+runs_as false true = refl
+runs_as false false = refl
+
+owns_as : (a b : Bool) → a ≡ false → owns (cond a Mode.Running (cond b Mode.OwnEpoch Mode.Still)) ≡ b
+owns_as true b h = absurd (true≢false h)
+owns_as false true h = refl
+owns_as false false h = refl
+
+-- a mode tells of both tests
+pub runs_told : (shift : Shift) {m : Mode} → mode_of shift ≡ m → is_running_of shift ≡ runs m
+unfolding mode_of
+runs_told shift e = sym (runs_as (is_running_of shift) (is_own_epoch_of shift)) ∙ ap runs e
+
+pub owns_told : (shift : Shift) {m : Mode} → mode_of shift ≡ m → runs m ≡ false → is_own_epoch_of shift ≡ owns m
+unfolding mode_of
+owns_told shift e h = sym (owns_as (is_running_of shift) (is_own_epoch_of shift) (runs_told shift e ∙ h)) ∙ ap owns e

@@ -10,6 +10,7 @@ use Rattle.helmert.specs.declared.Helmert.{Helmert}
 use Rattle.helmert.specs.declared.Parameters.{Parameters}
 use Rattle.helmert.specs.declared.Shift.{Shift}
 use Rattle.helmert.specs.declared.State.{State}
+use Rattle.helmert.specs.declared.Mode.{Mode}
 use Rattle.helmert.specs.declared.Stepped.{Stepped}
 use Rattle.helmert.specs.Record.{exact_of, own_epoch_of, zero3}
 use Rattle.helmert.specs.Units.{parameters_of}
@@ -135,6 +136,10 @@ is_own_epoch_of shift = time_varying_of shift && shift.own_epoch
 
 abbrev pub is_running_of : Shift → Bool
 is_running_of shift = time_varying_of shift && not shift.own_epoch
+
+-- the three in one
+unfoldable pub mode_of : Shift → Mode
+mode_of shift = cond (is_running_of shift) Mode.Running (cond (is_own_epoch_of shift) Mode.OwnEpoch Mode.Still)
 
 -- Only running changes the state.
 unfoldable pub step_of : Shift → Bool → State → Tuple → Stepped

@@ -12,8 +12,8 @@
 // the angles. The own-epoch mode is ours.
 //
 // A step sees one tuple and never the list: a state goes in and comes out. A loop over a list
-// decides the mode once, by `is_running` and `is_own_epoch`, and builds the matrix anew only when
-// the time changes, from the pieces that are public for it.
+// decides the mode once, by `Shift::mode`, and builds the matrix anew only when the time changes,
+// from the pieces that are public for it.
 //
 // A prepared shift may have a pivot, about which a static or fixed step rotates and scales: request
 // A4's ten-parameter shift, whose record stands in the crate badekas. A Helmert record's shift has
@@ -24,8 +24,8 @@ ghost use Rattle.std.specs.Prelude.{◌≡◌};
 ghost use Rattle.helmert.specs.Record.{exact_of, uas_of, mm_of, own_epoch_of, zeros_with, blank_helmert, zero_helmert};
 ghost use Rattle.helmert.specs.Units.{linear_scale_of, angular_scale_of, winner_of, lengths_of, angles_of, parameters_of};
 ghost use Rattle.helmert.specs.Rules.{some_of, rotated_of, dynamic_of, finite3_of, time_of, vectors_finite_of, scales_finite_of, fields_in_rule_of, lacks_convention_of, lacks_epoch_of};
-ghost use Rattle.helmert.specs.Apply.{offset_of, deoffset_of, forward_of, inverse_of, apply_of, less_of, more_of, forward_about_of, inverse_about_of, apply_about_of};
-ghost use Rattle.helmert.specs.Modes.{advanced_of, observed_of, prepare_of, grown_of, rotation_at_of, scale_at_of, shifted_of, fixed_step_of, start_of, next_of, running_of, own_epoch_step_of, is_own_epoch_of, is_running_of, step_of, counted_of};
+ghost use Rattle.helmert.specs.Apply.{position_of, tuple_of, offset_of, deoffset_of, forward_of, inverse_of, apply_of, less_of, more_of, forward_about_of, inverse_about_of, apply_about_of};
+ghost use Rattle.helmert.specs.Modes.{advanced_of, observed_of, prepare_of, grown_of, rotation_at_of, scale_at_of, shifted_of, fixed_step_of, start_of, next_of, running_of, own_epoch_step_of, is_own_epoch_of, is_running_of, mode_of, step_of, counted_of};
 
 use rotation::Vec3;
 use tuple::Tuple;
@@ -37,7 +37,8 @@ const PI: f64 = 3.141592653589793;
 // The record as the sheet carries it. The singles x, y, z are xyz, and so on; t_epoch and t_obs are
 // NaN where they are not given.
 // flags: 1 exact, 2 uas, 4 mm, 8 own-epoch. convention: 0 none, 1 position vector, 2 coordinate
-// frame.
+// frame. It stays a number, asked three times and each time by one comparison: an enum would need a
+// case for the numbers out of rule, which `prepare` takes as the Rust does.
 #[derive(Clone, Copy)]
 pub struct Helmert {
     pub flags: u32,
@@ -114,6 +115,7 @@ impl Helmert {
         zeros_with(0)
     }
 
+    // One method a flag, and the only place that reads its bit.
     pub fn exact(self) -> bool
         ensures { result ≡ exact_of self }
     {
@@ -290,7 +292,8 @@ fn time(x: f64) -> bool
 // ----- the prepared shift ------------------------------------------------------------------
 
 // A record made ready to be applied to any number of tuples. The pivot, in metres, counts only where
-// `pivoted` says so.
+// `pivoted` says so. Its flags are independent of one another, but for three that make the mode:
+// `Shift::mode` is these as an enum.
 #[derive(Clone, Copy)]
 pub struct Shift {
     pub parameters: Parameters,
@@ -305,7 +308,8 @@ pub struct Shift {
     pub pivot: Vec3,
 }
 
-// A parameter moved once by rate·d.
+// A parameter moved once by rate·d. Sums of vectors are functions and no operators: five impls would
+// serve four bodies, and the order of the factors, which is the Rust's, would stand elsewhere.
 fn moved(v: Vec3, rate: Vec3, d: f64) -> Vec3
     ensures { result ≡ advanced_of v rate d }
 {
@@ -391,56 +395,46 @@ pub fn deoffset(t: Vec3, s: f64, v: Vec3) -> Vec3
     }
 }
 
-pub fn forward(t: Vec3, s: f64, rotated: bool, m: [[f64; 3]; 3], v: Tuple) -> Tuple
-    ensures { result ≡ forward_of t s rotated m v }
+// The coordinates of a tuple, and a tuple of coordinates and a time. Functions, because `From` would
+// be of another crate's types on both sides.
+fn position(v: Tuple) -> Vec3
+    ensures { result ≡ position_of v }
 {
-    let c = Vec3 {
+    Vec3 {
         x: v.x,
         y: v.y,
         z: v.z,
-    };
-    if rotated {
-        let w = offset(t, s, rotation::rotate(m, c));
-        return Tuple {
-            x: w.x,
-            y: w.y,
-            z: w.z,
-            t: v.t,
-        };
     }
-    let w = offset(t, s, c);
+}
+
+fn at_time(v: Vec3, t: f64) -> Tuple
+    ensures { result ≡ tuple_of v t }
+{
     Tuple {
-        x: w.x,
-        y: w.y,
-        z: w.z,
-        t: v.t,
+        x: v.x,
+        y: v.y,
+        z: v.z,
+        t: t,
     }
+}
+
+pub fn forward(t: Vec3, s: f64, rotated: bool, m: [[f64; 3]; 3], v: Tuple) -> Tuple
+    ensures { result ≡ forward_of t s rotated m v }
+{
+    if rotated {
+        return at_time(offset(t, s, rotation::rotate(m, position(v))), v.t);
+    }
+    at_time(offset(t, s, position(v)), v.t)
 }
 
 pub fn inverse(t: Vec3, s: f64, rotated: bool, m: [[f64; 3]; 3], v: Tuple) -> Tuple
     ensures { result ≡ inverse_of t s rotated m v }
 {
-    let c = Vec3 {
-        x: v.x,
-        y: v.y,
-        z: v.z,
-    };
-    let u = deoffset(t, s, c);
+    let u = deoffset(t, s, position(v));
     if rotated {
-        let w = rotation::rotate_back(m, u);
-        return Tuple {
-            x: w.x,
-            y: w.y,
-            z: w.z,
-            t: v.t,
-        };
+        return at_time(rotation::rotate_back(m, u), v.t);
     }
-    Tuple {
-        x: u.x,
-        y: u.y,
-        z: u.z,
-        t: v.t,
-    }
+    at_time(u, v.t)
 }
 
 // Forward, or inverse where `inv` says so.
@@ -637,24 +631,43 @@ pub fn is_running(shift: Shift) -> bool
     shift.dynamic & !shift.fixed & !shift.own_epoch
 }
 
+// What a shift does with a fix's time: nothing, as one that is static or fixed; T grown from fix to
+// fix; or T, R and S each at the fix's own time.
+#[derive(Clone, Copy)]
+pub enum Mode {
+    Still,
+    Running,
+    OwnEpoch,
+}
+
+impl Shift {
+    pub fn mode(self) -> Mode
+        ensures { result ≡ mode_of self }
+    {
+        if is_running(self) {
+            Mode::Running
+        } else if is_own_epoch(self) {
+            Mode::OwnEpoch
+        } else {
+            Mode::Still
+        }
+    }
+}
+
 // One tuple by the mode that the shift calls for.
 pub fn step(shift: Shift, inv: bool, state: State, v: Tuple) -> Stepped
     ensures { result ≡ step_of shift inv state v }
 {
-    if is_running(shift) {
-        return running(shift, inv, state, v);
-    }
-    if is_own_epoch(shift) {
-        let w = own_epoch_step(shift, inv, v);
-        return Stepped {
+    match shift.mode() {
+        Mode::Still => Stepped {
             state: state,
-            tuple: w,
-        };
-    }
-    let w = fixed_step(shift, inv, v);
-    Stepped {
-        state: state,
-        tuple: w,
+            tuple: fixed_step(shift, inv, v),
+        },
+        Mode::Running => running(shift, inv, state, v),
+        Mode::OwnEpoch => Stepped {
+            state: state,
+            tuple: own_epoch_step(shift, inv, v),
+        },
     }
 }
 

@@ -1,16 +1,15 @@
 -- A step's own loop, by its mode, makes the list, the state and the count that the definition says.
 -- A static, fixed or own-epoch step sees the tuple alone and leaves the state. Assumes nothing.
-use Prim.Native.Nat.{ℕ, suc, ◌+◌, ◌/◌, ◌≤◌, ◌<◌}
-use native.Mathlib.Nat.{add_assoc, add-zero, zero-add}
+use Prim.Native.Nat.{ℕ, suc, ◌+◌, ◌/◌}
+use native.Mathlib.Nat.{zero-add}
 use native.Mathlib.Omega.{arith}
 use mathlib.Core.Path.{◌≡◌, refl, sym, ap, ◌∙◌}
 use mathlib.Core.Bool.{Bool, true, false, not, cond, ◌&&◌, true≢false}
 use mathlib.Core.List.{List, [], ◌∷◌, ◌++◌}
-use lib.ListN.{length, drop, drop_of_length-le}
-use lib.Seq.{drop-cons}
-use lib.Ieee.{Float, nan, is_nan}
-use Rattle.blocks.specs.Each.{at}
-use Rattle.blocks.proofs.Counts.{at_most_one}
+use lib.ListN.{length}
+use Rattle.std.specs.List.{count_by}
+use Rattle.std.proofs.lemmas.List.Recursion.{is_count_by}
+use lib.Ieee.{Float, is_nan}
 use Rattle.tuple.specs.declared.Tuple.{Tuple}
 use Rattle.lists.specs.Flat.{four_of, numbers_of}
 use Rattle.lists.specs.Run.{Turn, Turns, ran_of, count_of, state_after_of}
@@ -71,26 +70,13 @@ rows-timed (x ∷ xs) [] zs ts h = absurd (omega (arith, h.0))
 rows-timed [] ys zs [] h = refl
 rows-timed [] ys zs (t ∷ ts) h = absurd (omega (arith, h.2))
 
--- n of the first i times are given
-pub record GivenTo (t : List Float) (i n : ℕ) : Type 0 where
-  pub total : n + given_of (drop i t) ≡ given_of t
-  pub few : n ≤ i
+one_or_none : (b : Bool) (n : ℕ) → cond b 1 0 + n ≡ cond b (1 + n) n
+one_or_none true n = refl
+one_or_none false n = zero-add n
 
-pub given_start : (t : List Float) → GivenTo t 0 0
-given_start t = record { total = zero-add _; few = omega arith }
-
-pub given_again : (t : List Float) (i n m : ℕ) → i < length t → m ≡ cond (not (is_nan (at t i))) 1 0 → GivenTo t i n → GivenTo t (i + 1) (n + m)
+pub given_counted : (t : List Float) → given_of t ≡ count_by (λ (time : Float). not (is_nan time)) t
 unfolding given_of
-given_again t i n m k e now =
-    let one : i + 1 ≡ suc i = omega arith in
-    record {
-      total = rw (one, e, add_assoc n) (rw (drop-cons t i nan k) at now.total);
-      few = omega (arith, now.few, at_most_one (not (is_nan (at t i))), e);
-    }
-
-pub given_end : (t : List Float) (i n : ℕ) → length t ≤ i → GivenTo t i n → n ≡ given_of t
-unfolding given_of
-given_end t i n k now = rw (drop_of_length-le t {i = i} k, add-zero n) at now.total
+given_counted t = is_count_by given_of (λ (time : Float). not (is_nan time)) refl (λ time rest. one_or_none (not (is_nan time)) (given_of rest)) t
 
 -- ---- Helmert's modes
 

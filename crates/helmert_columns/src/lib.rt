@@ -2,81 +2,33 @@
 // and on to the next.
 //
 // Mode and exactness are decided once a list, before a loop starts; direction and convention need no
-// loop of their own. Own-epoch mode with small angles stands here. The caller prepares the shift and keeps the state, so that a list may come in
-// parts. Proved equal, list, state and count, on the flat list that the columns stand for, to the
-// step's own definition from tuple to tuple. Exact: no rounding but the step's own. The loops:
-// `helmert_still_columns`, `helmert_running_columns`, `helmert_exact_columns`.
+// loop of their own. Own-epoch mode with small angles stands here. The caller prepares the shift and
+// keeps the state, so that a list may come in parts. Proved equal, list, state and count, on the flat
+// list that the columns stand for, to the step's own definition from tuple to tuple. Exact: no
+// rounding but the step's own. The loops: `helmert_still_columns`, `helmert_running_columns`,
+// `helmert_exact_columns`.
 #![tactic(auto)]
 
-ghost use Rattle.std.specs.Prelude.{◌≡◌, false, not, cond, ◌&&◌, ◌*◌, ◌<◌, length};
-ghost use Rattle.std.specs.Float.Ieee.{is_nan};
-ghost use Rattle.lists.specs.Flat.{tuple_at, put_at};
+ghost use Rattle.std.specs.Prelude.{◌≡◌, false, ◌&&◌};
 ghost use Rattle.lists.specs.Run.{ran_of, count_of, state_after_of};
 ghost use Rattle.columns.specs.Columns.{Level, flat_of};
-ghost use Rattle.helmert.specs.Apply.{apply_of};
 ghost use Rattle.helmert.specs.Modes.{own_epoch_step_of};
 ghost use Rattle.helmert.specs.Turns.{no_state, all_turns, helmert_turns};
 ghost use Rattle.helmert_columns.specs.Given.{given_of};
 
-use helmert::{Shift, State};
-use rotation::Vec3;
-use tuple::Tuple;
+use helmert::{Mode, Shift, State};
+use helmert_still_columns::Through;
 
 // ----- the count of own-epoch mode -------------------------------------------------------------
-
-fn given(time: f64) -> usize
-    ensures { result ≡ cond (not (is_nan time)) 1 0 }
-{
-    if floats::is_nan(time) {
-        return 0;
-    }
-    1
-}
 
 // How many times are given, which is any but a NaN.
 fn times_given(t: &[f64]) -> usize
     ensures { result ≡ given_of t.now }
 {
-    let mut n = 0;
-    let mut i = 0;
-    while i < t.len() {
-        n += given(t[i]);
-        i += 1;
-    }
-    n
+    t.iter().filter(|time| !floats::is_nan(**time)).count()
 }
 
 // ----- own-epoch mode --------------------------------------------------------------------------
-
-// One row through T, S and a matrix, reached without a test (see `helmert_still_columns`).
-fn row(
-    x: &mut [f64],
-    y: &mut [f64],
-    z: &mut [f64],
-    t: &[f64],
-    i: usize,
-    inverse: bool,
-    by: Vec3,
-    s: f64,
-    rotated: bool,
-    m: [[f64; 3]; 3],
-)
-    requires { Level x.old y.old z.old t.now × (i < length x.old) }
-    ensures { flat_of x.new y.new z.new t.now
-        ≡ put_at (flat_of x.old y.old z.old t.now) (4 * i)
-        (apply_of inverse by s rotated m (tuple_at (flat_of x.old y.old z.old t.now) (4 * i))) }
-{
-    let v = Tuple {
-        x: x[i],
-        y: y[i],
-        z: z[i],
-        t: t[i],
-    };
-    let w = helmert::apply(inverse, by, s, rotated, m, v);
-    x[i] = w.x;
-    y[i] = w.y;
-    z[i] = w.z;
-}
 
 // With small angles, or not rotated: then no matrix is used, and any serves. A row whose time is
 // missing, a NaN, needs no test: its dt is NaN, so T is, and so are its coordinates.
@@ -93,8 +45,7 @@ fn own_epoch_rows(
         ≡ ran_of (all_turns (own_epoch_step_of shift inverse)) 0 no_state (flat_of x.old y.old z.old t.now) }
 {
     let p = shift.parameters;
-    let mut i = 0;
-    while i < x.len() {
+    for i in 0..x.len() {
         let dt = t[i] - shift.epoch;
         let by = helmert::grown(p.t, dt, p.dt);
         let s = helmert::scale_at(p, dt);
@@ -103,8 +54,14 @@ fn own_epoch_rows(
             false,
             shift.position_vector,
         );
-        row(x, y, z, t, i, inverse, by, s, shift.rotated, m);
-        i += 1;
+        let through = Through {
+            inverse,
+            t: by,
+            s,
+            rotated: shift.rotated,
+            m,
+        };
+        through.row(&mut x[i], &mut y[i], &mut z[i], t[i]);
     }
 }
 
@@ -152,24 +109,28 @@ fn in_mode(
         × (result.state ≡ state_after_of (helmert_turns inverse shift) 0 from (flat_of x.old y.old z.old t.now))
         × (result.count ≡ count_of (helmert_turns inverse shift) 0 from (flat_of x.old y.old z.old t.now)) }
 {
-    if helmert::is_running(shift) {
-        let state = helmert_running_columns::run_running(x, y, z, t, inverse, shift, from);
-        return Went {
-            count: t.len(),
-            state: state,
-        };
-    }
-    if helmert::is_own_epoch(shift) {
-        run_own_epoch(x, y, z, t, inverse, shift);
-        return Went {
-            count: times_given(t),
-            state: from,
-        };
-    }
-    helmert_still_columns::run_still(x, y, z, t, inverse, shift);
-    Went {
-        count: t.len(),
-        state: from,
+    match shift.mode() {
+        Mode::Still => {
+            helmert_still_columns::run_still(x, y, z, t, inverse, shift);
+            Went {
+                count: t.len(),
+                state: from,
+            }
+        }
+        Mode::Running => {
+            let state = helmert_running_columns::run_running(x, y, z, t, inverse, shift, from);
+            Went {
+                count: t.len(),
+                state: state,
+            }
+        }
+        Mode::OwnEpoch => {
+            run_own_epoch(x, y, z, t, inverse, shift);
+            Went {
+                count: times_given(t),
+                state: from,
+            }
+        }
     }
 }
 

@@ -11,55 +11,22 @@
 // `helmert_columns`.
 #![tactic(auto)]
 
-ghost use Rattle.std.specs.Prelude.{◌≡◌, true, false, ℕ, ◌+◌, ◌-◌, ◌*◌, ◌≤◌, ◌<◌, length};
+ghost use Rattle.std.specs.Prelude.{◌≡◌, true, false, ℕ, ◌+◌, ◌-◌, ◌≤◌, ◌<◌, length};
 ghost use Rattle.std.specs.Float.Ieee.{ne};
 ghost use Rattle.floats.specs.Binary64.{◌⊕◌, ◌⊗◌};
 ghost use Rattle.blocks.specs.Each.{at, Each};
 ghost use Rattle.rotation.specs.Matrix.{second_order_of, rows_of};
-ghost use Rattle.lists.specs.Flat.{tuple_at, put_at};
 ghost use Rattle.lists.specs.Run.{ran_of, state_after_of};
 ghost use Rattle.columns.specs.Columns.{Level, flat_of};
 ghost use Rattle.columns.specs.Passed.{Passed};
-ghost use Rattle.helmert.specs.Apply.{apply_of};
 ghost use Rattle.helmert.specs.Modes.{running_of, own_epoch_step_of};
 ghost use Rattle.helmert.specs.Turns.{no_state, all_turns, stepped_turns};
 ghost use Rattle.helmert_exact_columns.specs.Exact.{met_of, exact_turns, lapse_of, sines_at, Sined};
 
 use blocks::WIDTH;
 use helmert::{Shift, State};
-use rotation::{Sines, Vec3};
-use tuple::Tuple;
-
-// One row through T, S and a matrix. It is private and tests nothing, because the compiler makes
-// vectors of a loop only where a row is reached without a test.
-fn row(
-    x: &mut [f64],
-    y: &mut [f64],
-    z: &mut [f64],
-    t: &[f64],
-    i: usize,
-    inverse: bool,
-    by: Vec3,
-    s: f64,
-    rotated: bool,
-    m: [[f64; 3]; 3],
-)
-    requires { Level x.old y.old z.old t.now × (i < length x.old) }
-    ensures { flat_of x.new y.new z.new t.now
-        ≡ put_at (flat_of x.old y.old z.old t.now) (4 * i)
-        (apply_of inverse by s rotated m (tuple_at (flat_of x.old y.old z.old t.now) (4 * i))) }
-{
-    let v = Tuple {
-        x: x[i],
-        y: y[i],
-        z: z[i],
-        t: t[i],
-    };
-    let w = helmert::apply(inverse, by, s, rotated, m, v);
-    x[i] = w.x;
-    y[i] = w.y;
-    z[i] = w.z;
-}
+use helmert_still_columns::Through;
+use rotation::Sines;
 
 // The last time and T that a fix of this time goes by.
 fn met(own: bool, shift: Shift, state: State, time: f64) -> State
@@ -82,11 +49,9 @@ fn lapses(t: &[f64], i: usize, own: bool, shift: Shift, from: State, d: &mut [f6
 {
     *d = [0.0; WIDTH];
     let mut state = from;
-    let mut j = 0;
-    while j < WIDTH {
+    for j in 0..WIDTH {
         state = met(own, shift, state, t[i + j]);
         d[j] = state.last - shift.epoch;
-        j += 1;
     }
 }
 
@@ -95,10 +60,8 @@ fn turned(r: f64, rate: f64, d: &[f64; WIDTH], a: &mut [f64; WIDTH])
     ensures { Each a.new (λ (j : ℕ). r ⊕ at d.now j ⊗ rate) }
 {
     *a = [0.0; WIDTH];
-    let mut j = 0;
-    while j < WIDTH {
+    for j in 0..WIDTH {
         a[j] = r + d[j] * rate;
-        j += 1;
     }
 }
 
@@ -182,13 +145,19 @@ fn turn_sixteen(
 {
     let p = shift.parameters;
     let mut state = from;
-    let mut j = 0;
-    while j < WIDTH { // row by row, because T is carried on
-        state = met(own, shift, state, t[i + j]);
+    for j in 0..WIDTH { // row by row, because T is carried on
+        let k = i + j;
+        state = met(own, shift, state, t[k]);
         let s = helmert::scale_at(p, state.last - shift.epoch);
         let m = matrix_at(shift.position_vector, j, sx, cx, sy, cy, sz, cz);
-        row(x, y, z, t, i + j, inverse, state.t, s, shift.rotated, m);
-        j += 1;
+        let through = Through {
+            inverse,
+            t: state.t,
+            s,
+            rotated: shift.rotated,
+            m,
+        };
+        through.row(&mut x[k], &mut y[k], &mut z[k], t[k]);
     }
     state
 }
@@ -236,10 +205,11 @@ fn run_end(own: bool, t: &[f64], i: usize, last: f64) -> usize
     helmert_still_columns::run_end(t, i, last)
 }
 
+// How far a piece came: the index of the next row, and the state there.
 #[derive(Clone, Copy)]
-struct Went {
-    at: usize,
-    state: State,
+pub struct Reached {
+    pub at: usize,
+    pub state: State,
 }
 
 // The row at an index, and the rows after it that go by the same time.
@@ -253,7 +223,7 @@ fn one_time(
     own: bool,
     shift: Shift,
     from: State,
-) -> Went
+) -> Reached
     requires { Level x.old y.old z.old t.now × (i < length x.old) }
     ensures { (i < result.at) × (result.at ≤ length x.old)
         × Passed (exact_turns own shift inverse) i from (flat_of x.old y.old z.old t.now)
@@ -269,13 +239,18 @@ fn one_time(
         shift.position_vector,
     );
     let end = run_end(own, t, i + 1, state.last);
-    row(x, y, z, t, i, inverse, state.t, s, shift.rotated, m);
-    let mut j = i + 1;
-    while j < end {
-        row(x, y, z, t, j, inverse, state.t, s, shift.rotated, m);
-        j += 1;
+    let through = Through {
+        inverse,
+        t: state.t,
+        s,
+        rotated: shift.rotated,
+        m,
+    };
+    through.row(&mut x[i], &mut y[i], &mut z[i], t[i]);
+    for j in i + 1..end {
+        through.row(&mut x[j], &mut y[j], &mut z[j], t[j]);
     }
-    Went {
+    Reached {
         at: end,
         state: state,
     }
@@ -323,6 +298,7 @@ fn run(
     }
     let mut state = from;
     let mut i = 0;
+    // A piece says how many rows it took, so the index has no fixed step: `for` has no such form.
     while i < x.len() {
         if worth(t, i, own, shift) {
             state = sixteen(x, y, z, t, i, inverse, own, shift, state);

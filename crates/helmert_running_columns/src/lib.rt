@@ -9,59 +9,21 @@
 // tuple. Exact: no rounding but the step's own. Used by `helmert_columns`.
 #![tactic(auto)]
 
-ghost use Rattle.std.specs.Prelude.{◌+◌, ◌-◌, ◌*◌, ◌≤◌, ◌<◌, ◌≡◌, false, ◌&&◌, length};
-ghost use Rattle.lists.specs.Flat.{tuple_at, put_at};
+ghost use Rattle.std.specs.Prelude.{◌+◌, ◌-◌, ◌≤◌, ◌<◌, ◌≡◌, true, false, ◌&&◌, length};
 ghost use Rattle.lists.specs.Run.{ran_of, state_after_of};
 ghost use Rattle.columns.specs.Columns.{Level, flat_of};
 ghost use Rattle.columns.specs.Passed.{Passed};
-ghost use Rattle.helmert.specs.Apply.{apply_of};
 ghost use Rattle.helmert.specs.Modes.{running_of};
 ghost use Rattle.helmert.specs.Turns.{stepped_turns};
 ghost use Rattle.helmert_running_columns.specs.Lanes.{Lanes, states_of};
 
 use blocks::WIDTH;
 use helmert::{Shift, State};
+use helmert_exact_columns::Reached;
+use helmert_still_columns::Through;
 use rotation::Vec3;
-use tuple::Tuple;
 
 // ----- rows of one time ----------------------------------------------------------------------
-
-// One row through T, S and a matrix, reached without a test (see `helmert_still_columns`).
-fn row(
-    x: &mut [f64],
-    y: &mut [f64],
-    z: &mut [f64],
-    t: &[f64],
-    i: usize,
-    inverse: bool,
-    by: Vec3,
-    s: f64,
-    rotated: bool,
-    m: [[f64; 3]; 3],
-)
-    requires { Level x.old y.old z.old t.now × (i < length x.old) }
-    ensures { flat_of x.new y.new z.new t.now
-        ≡ put_at (flat_of x.old y.old z.old t.now) (4 * i)
-        (apply_of inverse by s rotated m (tuple_at (flat_of x.old y.old z.old t.now) (4 * i))) }
-{
-    let v = Tuple {
-        x: x[i],
-        y: y[i],
-        z: z[i],
-        t: t[i],
-    };
-    let w = helmert::apply(inverse, by, s, rotated, m, v);
-    x[i] = w.x;
-    y[i] = w.y;
-    z[i] = w.z;
-}
-
-// How far a piece came: the index of the next row, and the state there.
-#[derive(Clone, Copy)]
-pub struct Reached {
-    pub at: usize,
-    pub state: State,
-}
 
 // The run of one time from an index on. Its first row has the time that T grows for. The loop is
 // that of a static shift, written out here: a call for each run costs short runs half as much
@@ -82,20 +44,25 @@ fn one_time(
         result.at result.state (flat_of x.new y.new z.new t.now) (result.at - i) }
 {
     let p = shift.parameters;
-    let state = helmert::next(shift, from, t[i]);
-    let end = helmert_still_columns::run_end(t, i + 1, state.last);
-    let dt = state.last - shift.epoch;
+    let now = helmert::next(shift, from, t[i]);
+    let end = helmert_still_columns::run_end(t, i + 1, now.last);
+    let dt = now.last - shift.epoch;
     let s = helmert::scale_at(p, dt);
     let m = rotation::rotation_matrix(helmert::rotation_at(p, dt), false, shift.position_vector);
-    row(x, y, z, t, i, inverse, state.t, s, shift.rotated, m);
-    let mut j = i + 1;
-    while j < end {
-        row(x, y, z, t, j, inverse, state.t, s, shift.rotated, m);
-        j += 1;
+    let through = Through {
+        inverse,
+        t: now.t,
+        s,
+        rotated: shift.rotated,
+        m,
+    };
+    through.row(&mut x[i], &mut y[i], &mut z[i], t[i]);
+    for j in i + 1..end {
+        through.row(&mut x[j], &mut y[j], &mut z[j], t[j]);
     }
     Reached {
         at: end,
-        state: state,
+        state: now,
     }
 }
 
@@ -121,15 +88,13 @@ fn ahead(
     *tz = [0.0; WIDTH];
     *d = [0.0; WIDTH];
     let mut state = from;
-    let mut j = 0;
-    while j < WIDTH {
+    for j in 0..WIDTH {
         state = helmert::next(shift, state, t[i + j]);
         let by = state.t;
         tx[j] = by.x;
         ty[j] = by.y;
         tz[j] = by.z;
         d[j] = state.last - shift.epoch;
-        j += 1;
     }
     state
 }
@@ -155,8 +120,8 @@ fn lanes(
         (i + 16) (states_of shift from t.now i 16) (flat_of x.new y.new z.new t.now) 16 }
 {
     let p = shift.parameters;
-    let mut j = 0;
-    while j < WIDTH { // no lane waits for another
+    for j in 0..WIDTH { // no lane waits for another
+        let k = i + j;
         let by = Vec3 {
             x: tx[j],
             y: ty[j],
@@ -168,8 +133,14 @@ fn lanes(
             false,
             shift.position_vector,
         );
-        row(x, y, z, t, i + j, inverse, by, s, shift.rotated, m);
-        j += 1;
+        let through = Through {
+            inverse,
+            t: by,
+            s,
+            rotated: shift.rotated,
+            m,
+        };
+        through.row(&mut x[k], &mut y[k], &mut z[k], t[k]);
     }
 }
 
@@ -198,21 +169,21 @@ fn sixteen(
 
 // ----- the whole list ------------------------------------------------------------------------
 
-// Sixteen where as many are left and the next row has another time, else one.
-fn together(t: &[f64], i: usize) -> usize
+// Whether sixteen rows are worth taking at once: as many are left, and the next row has another time.
+fn worth(t: &[f64], i: usize) -> bool
     requires { i < length t.now }
-    ensures { i + result ≤ length t.now }
+    ensures { result ≡ true → i + 16 ≤ length t.now }
 {
-    if 16 <= t.len() - i {
-        if t[i + 1] != t[i] {
-            return 16;
-        }
+    if t.len() - i < 16 {
+        return false;
     }
-    1
+    t[i + 1] != t[i]
 }
 
 // Which piece takes the next rows is a matter of speed alone: each is proved to go on to the same
-// list. A row whose time the next does not have goes with fifteen more.
+// list. A row whose time the next does not have goes with fifteen more. `helmert_exact_columns` has
+// such a loop over its own pieces: one for both would take three functions with all that each asks
+// and ensures, and is no plainer than ten lines.
 fn in_pieces(
     x: &mut [f64],
     y: &mut [f64],
@@ -229,8 +200,9 @@ fn in_pieces(
 {
     let mut state = from;
     let mut i = 0;
+    // A piece says how many rows it took, so the index has no fixed step: `for` has no such form.
     while i < x.len() {
-        if together(t, i) == 16 {
+        if worth(t, i) {
             state = sixteen(x, y, z, t, i, inverse, shift, state);
             i += 16;
         } else {
@@ -261,12 +233,17 @@ fn one_by_one(
     let p = shift.parameters;
     let m = rotation::rotation_matrix(p.r, false, false);
     let mut state = from;
-    let mut i = 0;
-    while i < x.len() {
+    for i in 0..x.len() {
         state = helmert::next(shift, state, t[i]);
         let s = helmert::scale_at(p, state.last - shift.epoch);
-        row(x, y, z, t, i, inverse, state.t, s, false, m);
-        i += 1;
+        let through = Through {
+            inverse,
+            t: state.t,
+            s,
+            rotated: false,
+            m,
+        };
+        through.row(&mut x[i], &mut y[i], &mut z[i], t[i]);
     }
     state
 }

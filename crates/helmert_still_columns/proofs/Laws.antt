@@ -22,33 +22,29 @@ use Rattle.rotation.specs.declared.Vec3.{Vec3}
 use Rattle.rotation.specs.Matrix.{Matrix}
 use Rattle.helmert.specs.Apply.{forward_of, inverse_of, apply_of, forward_about_of, inverse_about_of, apply_about_of}
 
-apply_time : (inverse : Bool) (by : Vec3) (s : Float) (rotated : Bool) (m : Matrix) (v : Tuple) → (apply_of inverse by s rotated m v).t ≡ v.t
+pub apply_time : (inverse : Bool) (by : Vec3) (s : Float) (rotated : Bool) (m : Matrix) (v : Tuple) → (apply_of inverse by s rotated m v).t ≡ v.t
 unfolding forward_of inverse_of
 apply_time true by s rotated m v = refl
 apply_time false by s rotated m v = refl
 
-about_time : (inverse : Bool) (pivot by : Vec3) (s : Float) (rotated : Bool) (m : Matrix) (v : Tuple) → (apply_about_of inverse pivot by s rotated m v).t ≡ v.t
+pub about_time : (inverse : Bool) (pivot by : Vec3) (s : Float) (rotated : Bool) (m : Matrix) (v : Tuple) → (apply_about_of inverse pivot by s rotated m v).t ≡ v.t
 unfolding forward_about_of inverse_about_of
 about_time true pivot by s rotated m v = refl
 about_time false pivot by s rotated m v = refl
 
 -- the three numbers of what a row becomes, its time kept, set in its place
 module _ (x y z t : List Float) (h : Level x y z t) (i : ℕ) (k : i < length x) where
-  row_put : (f : Tuple → Tuple) → ((v : Tuple) → (f v).t ≡ v.t) → {w : Tuple} → w ≡ f (four_of (at x i) (at y i) (at z i) (at t i))
+  pub row_put : (f : Tuple → Tuple) → ((v : Tuple) → (f v).t ≡ v.t) → {w : Tuple} → w ≡ f (four_of (at x i) (at y i) (at z i) (at t i))
       → flat_of (set x i w.x) (set y i w.y) (set z i w.z) t ≡ put_at (flat_of x y z t) (4 * i) (f (tuple_at (flat_of x y z t) (4 * i)))
   row_put f timed {w} e =
       point-set x y z t h i k w (ap (λ (v : Tuple). v.t) e ∙ timed _)
       ∙ ap (put_at (flat_of x y z t) (4 * i)) (e ∙ ap f (row-there x y z t h i k))
 
-  -- through T, S and a matrix, and about a pivot
+  -- through T, S and a matrix
   module _ (inverse : Bool) where
     pub row-applied : (by : Vec3) (s : Float) (rotated : Bool) (m : Matrix) {w : Tuple} → w ≡ apply_of inverse by s rotated m (four_of (at x i) (at y i) (at z i) (at t i))
         → flat_of (set x i w.x) (set y i w.y) (set z i w.z) t ≡ put_at (flat_of x y z t) (4 * i) (apply_of inverse by s rotated m (tuple_at (flat_of x y z t) (4 * i)))
     row-applied by s rotated m e = row_put (apply_of inverse by s rotated m) (apply_time inverse by s rotated m) e
-
-    pub row-about : (pivot by : Vec3) (s : Float) (rotated : Bool) (m : Matrix) {w : Tuple} → w ≡ apply_about_of inverse pivot by s rotated m (four_of (at x i) (at y i) (at z i) (at t i))
-        → flat_of (set x i w.x) (set y i w.y) (set z i w.z) t ≡ put_at (flat_of x y z t) (4 * i) (apply_about_of inverse pivot by s rotated m (tuple_at (flat_of x y z t) (4 * i)))
-    row-about pivot by s rotated m e = row_put (apply_about_of inverse pivot by s rotated m) (about_time inverse pivot by s rotated m) e
 
 -- a row that counts, from what its turn is
 pub turned-row : {S : Type 0} {f : Turns S} {state now : S} {l l' : List Float} {v : Tuple} (i : ℕ) → 4 * i + 4 ≤ length l

@@ -1,19 +1,21 @@
 // Helmert over columns where one T, S and matrix serve the whole list: a static or fixed shift.
 //
-// One loop serves both directions and both conventions, and a second one a shift that has a pivot:
-// whether it has is decided once a list. Proved equal, on the flat list that the columns stand for,
-// to the step's own definition from tuple to tuple. Exact: no rounding but the step's own. Also here, because the loops of the other modes need them too: where a run of rows of
+// One loop serves both directions and both conventions, with a pivot and without: what a row becomes
+// is decided once a list. Proved equal, on the flat list that the columns stand for, to the step's
+// own definition from tuple to tuple. Exact: no rounding but the step's own. Also here, because the
+// loops of the other modes need them too: one row through T, S and a matrix, where a run of rows of
 // one time ends, and the laws about a row and about the end of a loop. Used by
 // `helmert_exact_columns`, `helmert_running_columns` and `helmert_columns`.
 #![tactic(auto)]
 
-ghost use Rattle.std.specs.Prelude.{ℕ, ◌*◌, ◌≤◌, ◌<◌, ◌≡◌, false, length};
+ghost use Rattle.std.specs.Prelude.{ℕ, ◌≤◌, ◌<◌, ◌≡◌, false, length};
 ghost use Rattle.std.specs.Float.Ieee.{ne};
 ghost use Rattle.blocks.specs.Each.{at};
-ghost use Rattle.lists.specs.Flat.{tuple_at, put_at};
+ghost use Rattle.tuple.specs.declared.Tuple.{Tuple};
+ghost use Rattle.lists.specs.Flat.{four_of};
 ghost use Rattle.lists.specs.Run.{ran_of};
 ghost use Rattle.columns.specs.Columns.{Level, flat_of};
-ghost use Rattle.helmert.specs.Apply.{apply_of, apply_about_of};
+ghost use Rattle.helmert.specs.Apply.{apply_of};
 ghost use Rattle.helmert.specs.Modes.{fixed_step_of};
 ghost use Rattle.helmert.specs.Turns.{no_state, all_turns};
 
@@ -21,113 +23,53 @@ use helmert::Shift;
 use rotation::Vec3;
 use tuple::Tuple;
 
-// One row through T, S and a matrix. Each crate with such a loop has this function for itself: a
-// public one would have to test for the row, and the compiler makes vectors of the loop only where
-// a row is reached without a test.
-fn row(
-    x: &mut [f64],
-    y: &mut [f64],
-    z: &mut [f64],
-    t: &[f64],
-    i: usize,
-    inverse: bool,
-    by: Vec3,
-    s: f64,
-    rotated: bool,
-    m: [[f64; 3]; 3],
-)
-    requires { Level x.old y.old z.old t.now × (i < length x.old) }
-    ensures { flat_of x.new y.new z.new t.now
-        ≡ put_at (flat_of x.old y.old z.old t.now) (4 * i)
-        (apply_of inverse by s rotated m (tuple_at (flat_of x.old y.old z.old t.now) (4 * i))) }
+// Every row as `to` makes it of its tuple; the times stay.
+fn rows<F: Fn(Tuple) -> Tuple>(x: &mut [f64], y: &mut [f64], z: &mut [f64], t: &[f64], to: F)
+    requires level { Level x.old y.old z.old t.now }
+    requires callable { F.IsAlwaysCallable to }
+    ensures { (f : Tuple → Tuple) → ((v : Tuple) → (f v).t ≡ v.t) → ((v w : Tuple) → F.post to v w → w ≡ f v)
+        → flat_of x.new y.new z.new t.now ≡ ran_of (all_turns f) 0 no_state (flat_of x.old y.old z.old t.now) }
 {
-    let v = Tuple {
-        x: x[i],
-        y: y[i],
-        z: z[i],
-        t: t[i],
-    };
-    let w = helmert::apply(inverse, by, s, rotated, m, v);
-    x[i] = w.x;
-    y[i] = w.y;
-    z[i] = w.z;
-}
-
-// Every row through one T, S and matrix.
-fn rows(
-    x: &mut [f64],
-    y: &mut [f64],
-    z: &mut [f64],
-    t: &[f64],
-    inverse: bool,
-    by: Vec3,
-    s: f64,
-    rotated: bool,
-    m: [[f64; 3]; 3],
-)
-    requires { Level x.old y.old z.old t.now }
-    ensures { flat_of x.new y.new z.new t.now
-        ≡ ran_of (all_turns (apply_of inverse by s rotated m)) 0 no_state (flat_of x.old y.old z.old t.now) }
-{
-    let mut i = 0;
-    while i < x.len() {
-        row(x, y, z, t, i, inverse, by, s, rotated, m);
-        i += 1;
+    for i in 0..x.len() {
+        let w = to(Tuple {
+            x: x[i],
+            y: y[i],
+            z: z[i],
+            t: t[i],
+        });
+        x[i] = w.x;
+        y[i] = w.y;
+        z[i] = w.z;
     }
 }
 
-// One row about a pivot.
-fn row_about(
-    x: &mut [f64],
-    y: &mut [f64],
-    z: &mut [f64],
-    t: &[f64],
-    i: usize,
-    inverse: bool,
-    pivot: Vec3,
-    by: Vec3,
-    s: f64,
-    rotated: bool,
-    m: [[f64; 3]; 3],
-)
-    requires { Level x.old y.old z.old t.now × (i < length x.old) }
-    ensures { flat_of x.new y.new z.new t.now
-        ≡ put_at (flat_of x.old y.old z.old t.now) (4 * i)
-        (apply_about_of inverse pivot by s rotated m (tuple_at (flat_of x.old y.old z.old t.now) (4 * i))) }
-{
-    let v = Tuple {
-        x: x[i],
-        y: y[i],
-        z: z[i],
-        t: t[i],
-    };
-    let moved = helmert::apply_about(inverse, pivot, by, s, rotated, m, v);
-    x[i] = moved.x;
-    y[i] = moved.y;
-    z[i] = moved.z;
+// One T, S and matrix, in one direction: what a row goes through.
+#[derive(Clone, Copy)]
+pub struct Through {
+    pub inverse: bool,
+    pub t: Vec3,
+    pub s: f64,
+    pub rotated: bool,
+    pub m: [[f64; 3]; 3],
 }
 
-// Every row about one pivot.
-fn rows_about(
-    x: &mut [f64],
-    y: &mut [f64],
-    z: &mut [f64],
-    t: &[f64],
-    inverse: bool,
-    pivot: Vec3,
-    by: Vec3,
-    s: f64,
-    rotated: bool,
-    m: [[f64; 3]; 3],
-)
-    requires { Level x.old y.old z.old t.now }
-    ensures { flat_of x.new y.new z.new t.now
-        ≡ ran_of (all_turns (apply_about_of inverse pivot by s rotated m)) 0 no_state (flat_of x.old y.old z.old t.now) }
-{
-    let mut i = 0;
-    while i < x.len() {
-        row_about(x, y, z, t, i, inverse, pivot, by, s, rotated, m);
-        i += 1;
+impl Through {
+    // The three numbers of a row, by its time, which stays. The loops of the other modes pass their
+    // rows through this: it is lent the numbers and not the columns, so there is no row to test for.
+    pub fn row(self, x: &mut f64, y: &mut f64, z: &mut f64, t: f64)
+        ensures { four_of x.new y.new z.new t
+            ≡ apply_of self.inverse self.t self.s self.rotated self.m (four_of x.old y.old z.old t) }
+    {
+        let v = Tuple {
+            x: *x,
+            y: *y,
+            z: *z,
+            t: t,
+        };
+        let w = helmert::apply(self.inverse, self.t, self.s, self.rotated, self.m, v);
+        *x = w.x;
+        *y = w.y;
+        *z = w.z;
     }
 }
 
@@ -147,11 +89,13 @@ pub fn run_still(
         let p = shift.parameters;
         let m = rotation::rotation_matrix(p.r, shift.exact, shift.position_vector);
         if shift.pivoted {
-            rows_about(x, y, z, t, inverse, shift.pivot, p.t, p.s, shift.rotated, m);
-            return;
+            let pivot = shift.pivot;
+            let about = |v| helmert::apply_about(inverse, pivot, p.t, p.s, shift.rotated, m, v);
+            rows(x, y, z, t, about);
+        } else {
+            let plain = |v| helmert::apply(inverse, p.t, p.s, shift.rotated, m, v);
+            rows(x, y, z, t, plain);
         }
-        rows(x, y, z, t, inverse, p.t, p.s, shift.rotated, m);
-        return;
     }
 }
 
@@ -160,12 +104,10 @@ pub fn run_end(t: &[f64], i: usize, last: f64) -> usize
     ensures { (i ≤ result) × (i ≤ length t.now → result ≤ length t.now)
         × ((k : ℕ) → i ≤ k → k < result → ne (at t.now k) last ≡ false) }
 {
-    let mut end = i;
-    while end < t.len() {
+    for end in i..t.len() {
         if t[end] != last {
             return end;
         }
-        end += 1;
     }
-    end
+    i.max(t.len())
 }

@@ -16,7 +16,7 @@ ghost use Rattle.helmert.specs.Modes.{rotation_at_of};
 ghost use Rattle.deformation.specs.Step.{common_of};
 
 use deformation::{Motion, Velocity};
-use helmert::{Shift, State};
+use helmert::{Mode, Shift, State};
 use rotation::Vec3;
 use tuple::Tuple;
 
@@ -116,15 +116,15 @@ pub fn helmert_met(shift: Shift, state: State, v: Tuple) -> bool
     ensures { result ≡ matrix_out shift state v }
 {
     if shift.exact & shift.rotated {
-        if helmert::is_running(shift) {
-            let now = helmert::next(shift, state, v.t);
-            return rotation_at_out(shift, now.last - shift.epoch);
+        match shift.mode() {
+            Mode::Still => rotation_out(shift.parameters.r),
+            Mode::Running => {
+                let now = helmert::next(shift, state, v.t);
+                rotation_at_out(shift, now.last - shift.epoch)
+            }
+            Mode::OwnEpoch => own_out(shift, v.t),
         }
-        if helmert::is_own_epoch(shift) {
-            return own_out(shift, v.t);
-        }
-        let p = shift.parameters;
-        return rotation_out(p.r);
+    } else {
+        false
     }
-    false
 }

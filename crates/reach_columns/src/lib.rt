@@ -9,55 +9,39 @@
 // runs a step over columns.
 #![tactic(auto)]
 
-ghost use Rattle.std.specs.Prelude.{◌≡◌, true, false, ℕ, ◌<◌, length};
+ghost use Rattle.std.specs.Prelude.{◌≡◌, Bool, true, false, ℕ, ◌<◌, length, IfSome};
 ghost use Rattle.std.specs.Float.Ieee.{ne};
 ghost use Rattle.blocks.specs.Each.{at};
 ghost use Rattle.lists.specs.Run.{count_of};
-ghost use Rattle.helmert.specs.Modes.{is_running_of, is_own_epoch_of};
+ghost use Rattle.tuple.specs.declared.Tuple.{Tuple};
+ghost use Rattle.helmert.specs.Modes.{is_running_of};
 ghost use Rattle.helmert.specs.Turns.{number_of, helmert_turns};
 ghost use Rattle.columns.specs.Columns.{Level, flat_of};
 ghost use Rattle.reach.specs.Met.{meeting_of, place_met, latitude_met, offsets_met, helmert_met};
 
 use blocks::one_if;
-use helmert::{Shift, State};
+use helmert::{Mode, Shift, State};
+use tuple::Tuple;
 
-// ----- cart, permtide, Molodensky ---------------------------------------------------------------
+// ----- by the tuple alone -----------------------------------------------------------------------
 
-fn place_rows(x: &[f64], y: &[f64], z: &[f64], t: &[f64]) -> usize
-    requires { Level x.now y.now z.now t.now }
-    ensures { result ≡ number_of place_met (flat_of x.now y.now z.now t.now) }
+// How many rows there are of which `holds` is true. Columns of unequal length have none.
+fn rows_where<P: Fn(Tuple) -> bool>(x: &[f64], y: &[f64], z: &[f64], t: &[f64], holds: P) -> usize
+    requires { P.IsAlwaysCallable holds }
+    ensures { (p : Tuple → Bool) → ((v : Tuple) (r : Bool) → P.post holds v r → r ≡ p v)
+        → result ≡ number_of p (flat_of x.now y.now z.now t.now) }
 {
-    let mut n = 0;
-    let mut i = 0;
-    while i < x.len() {
-        n += one_if(reach::place_out(x[i], y[i]));
-        i += 1;
+    if !columns::level(x, y, z, t) {
+        return 0;
     }
-    n
-}
-
-fn latitude_rows(x: &[f64], y: &[f64], z: &[f64], t: &[f64]) -> usize
-    requires { Level x.now y.now z.now t.now }
-    ensures { result ≡ number_of latitude_met (flat_of x.now y.now z.now t.now) }
-{
     let mut n = 0;
-    let mut i = 0;
-    while i < y.len() {
-        n += one_if(reach::out_of_reach(y[i]));
-        i += 1;
-    }
-    n
-}
-
-fn offset_rows(x: &[f64], y: &[f64], z: &[f64], t: &[f64], abridged: bool) -> usize
-    requires { Level x.now y.now z.now t.now }
-    ensures { result ≡ number_of (offsets_met abridged) (flat_of x.now y.now z.now t.now) }
-{
-    let mut n = 0;
-    let mut i = 0;
-    while i < x.len() {
-        n += one_if(reach::offsets_out(abridged, x[i], y[i]));
-        i += 1;
+    for i in 0..x.len() {
+        n += one_if(holds(Tuple {
+            x: x[i],
+            y: y[i],
+            z: z[i],
+            t: t[i],
+        }));
     }
     n
 }
@@ -66,30 +50,21 @@ fn offset_rows(x: &[f64], y: &[f64], z: &[f64], t: &[f64], abridged: bool) -> us
 pub fn place(x: &[f64], y: &[f64], z: &[f64], t: &[f64]) -> usize
     ensures { result ≡ number_of place_met (flat_of x.now y.now z.now t.now) }
 {
-    if columns::level(x, y, z, t) {
-        return place_rows(x, y, z, t);
-    }
-    0
+    rows_where(x, y, z, t, |v| reach::place_out(v.x, v.y))
 }
 
 // By latitude: permtide.
 pub fn latitude(x: &[f64], y: &[f64], z: &[f64], t: &[f64]) -> usize
     ensures { result ≡ number_of latitude_met (flat_of x.now y.now z.now t.now) }
 {
-    if columns::level(x, y, z, t) {
-        return latitude_rows(x, y, z, t);
-    }
-    0
+    rows_where(x, y, z, t, |v| reach::out_of_reach(v.y))
 }
 
 // By longitude or latitude, in the abridged form also by twice the latitude: Molodensky.
 pub fn offsets(x: &[f64], y: &[f64], z: &[f64], t: &[f64], abridged: bool) -> usize
     ensures { result ≡ number_of (offsets_met abridged) (flat_of x.now y.now z.now t.now) }
 {
-    if columns::level(x, y, z, t) {
-        return offset_rows(x, y, z, t, abridged);
-    }
-    0
+    rows_where(x, y, z, t, |v| reach::offsets_out(abridged, v.x, v.y))
 }
 
 // ----- Helmert ----------------------------------------------------------------------------------
@@ -112,28 +87,19 @@ fn running_any(
     let mut state = from;
     let mut met = reach::rotation_at_out(shift, state.last - shift.epoch);
     let mut n = 0;
-    let mut i = 0;
-    while i < t.len() {
+    for i in 0..t.len() {
         let time = t[i];
         if time != state.last {
             state = helmert::next(shift, state, time);
             met = reach::rotation_at_out(shift, time - shift.epoch);
         }
         n += one_if(met);
-        i += 1;
     }
     n
 }
 
-// How many times are equal to the one before, and, where none is, how many rows met it.
-#[derive(Clone, Copy)]
-pub struct Apart {
-    pub equal: usize,
-    pub met: usize,
-}
-
-// Where every time differs from the one before, each row goes by its own time: no row waits for
-// another, and the loop becomes vector instructions.
+// Where every time differs from the one before, each row goes by its own time, and this is how many
+// rows met it; else nothing. No row waits for another, so the loop is quick.
 fn running_apart(
     x: &[f64],
     y: &[f64],
@@ -142,40 +108,30 @@ fn running_apart(
     inverse: bool,
     shift: Shift,
     from: State,
-) -> Apart
+) -> Option<usize>
     requires { Level x.now y.now z.now t.now × (is_running_of shift ≡ true) × (shift.rotated ≡ true) × (shift.exact ≡ true) }
-    ensures { (result.equal ≡ 0) → (result.met ≡ count_of (meeting_of (helmert_met shift) (helmert_turns inverse shift)) 0 from (flat_of x.now y.now z.now t.now)) }
+    ensures { IfSome result
+        (λ n. n ≡ count_of (meeting_of (helmert_met shift) (helmert_turns inverse shift)) 0 from (flat_of x.now y.now z.now t.now)) }
 {
     let mut state = from;
     let mut before = state.last;
     let mut equal = 0;
     let mut n = 0;
-    let mut i = 0;
-    while i < t.len() {
+    for i in 0..t.len() {
         let time = t[i];
         equal += one_if(!(time != before));
         n += one_if(reach::rotation_at_out(shift, time - shift.epoch));
         state = helmert::next(shift, state, time);
         before = time;
-        i += 1;
     }
-    Apart {
-        equal: equal,
-        met: n,
-    }
+    if equal == 0 { Some(n) } else { None }
 }
 
 // Whether every time is equal to one.
 fn one_time(t: &[f64], last: f64) -> bool
     ensures { (result ≡ true) → (j : ℕ) → (j < length t.now) → (ne (at t.now j) last ≡ false) }
 {
-    let mut all = true;
-    let mut i = 0;
-    while i < t.len() {
-        all = all & !(t[i] != last);
-        i += 1;
-    }
-    all
+    t.iter().all(|time| *time == last)
 }
 
 // All rows at one time, or each at another than the one before, or any: the first two are quick.
@@ -201,56 +157,14 @@ fn running_rows(
         }
         return 0;
     }
-    let quick = running_apart(x, y, z, t, inverse, shift, from);
-    if quick.equal == 0 {
-        return quick.met;
+    match running_apart(x, y, z, t, inverse, shift, from) {
+        Some(met) => met,
+        None => running_any(x, y, z, t, inverse, shift, from),
     }
-    running_any(x, y, z, t, inverse, shift, from)
 }
 
-// Own-epoch mode: R is the sheet's at each fix's own time.
-fn own_epoch_rows(
-    x: &[f64],
-    y: &[f64],
-    z: &[f64],
-    t: &[f64],
-    inverse: bool,
-    shift: Shift,
-    from: State,
-) -> usize
-    requires { Level x.now y.now z.now t.now × (is_own_epoch_of shift ≡ true) × (shift.rotated ≡ true) × (shift.exact ≡ true) }
-    ensures { result ≡ count_of (meeting_of (helmert_met shift) (helmert_turns inverse shift)) 0 from (flat_of x.now y.now z.now t.now) }
-{
-    let mut n = 0;
-    let mut i = 0;
-    while i < t.len() {
-        n += one_if(reach::own_out(shift, t[i]));
-        i += 1;
-    }
-    n
-}
-
-// Static and fixed mode: one matrix, used by all fixes or by none.
-fn fixed_rows(
-    x: &[f64],
-    y: &[f64],
-    z: &[f64],
-    t: &[f64],
-    inverse: bool,
-    shift: Shift,
-    from: State,
-) -> usize
-    requires { Level x.now y.now z.now t.now × (is_running_of shift ≡ false) × (is_own_epoch_of shift ≡ false) × (shift.rotated ≡ true) × (shift.exact ≡ true) }
-    ensures { result ≡ count_of (meeting_of (helmert_met shift) (helmert_turns inverse shift)) 0 from (flat_of x.now y.now z.now t.now) }
-{
-    let p = shift.parameters;
-    if reach::rotation_out(p.r) {
-        return x.len();
-    }
-    0
-}
-
-// By the mode, of an exact shift that is rotated.
+// By the mode, of an exact shift that is rotated: in own-epoch mode R is the sheet's at each fix's
+// own time; in static and fixed mode one matrix is used by all fixes or by none.
 fn helmert_rows(
     x: &[f64],
     y: &[f64],
@@ -263,13 +177,15 @@ fn helmert_rows(
     requires { Level x.now y.now z.now t.now × (shift.rotated ≡ true) × (shift.exact ≡ true) }
     ensures { result ≡ count_of (meeting_of (helmert_met shift) (helmert_turns inverse shift)) 0 from (flat_of x.now y.now z.now t.now) }
 {
-    if helmert::is_running(shift) {
-        return running_rows(x, y, z, t, inverse, shift, from);
+    match shift.mode() {
+        Mode::Still => if reach::rotation_out(shift.parameters.r) {
+            x.len()
+        } else {
+            0
+        },
+        Mode::Running => running_rows(x, y, z, t, inverse, shift, from),
+        Mode::OwnEpoch => rows_where(x, y, z, t, |v| reach::own_out(shift, v.t)),
     }
-    if helmert::is_own_epoch(shift) {
-        return own_epoch_rows(x, y, z, t, inverse, shift, from);
-    }
-    fixed_rows(x, y, z, t, inverse, shift, from)
 }
 
 // Helmert, from the state that the columns' first fix is met in. Only an exact shift that is

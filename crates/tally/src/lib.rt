@@ -28,24 +28,12 @@ pub fn none() -> Tally
 pub fn counts(tallies: [Tally; 16]) -> [usize; 16]
     ensures { result ≡ counts_of tallies }
 {
-    let mut numbers = [0usize; 16];
-    let mut i = 0;
-    while i < 16 {
-        numbers[i] = tallies[i].count;
-        i += 1;
-    }
-    numbers
+    tallies.map(|tally| tally.count)
 }
 
 // How many tuples met such an angle in each of sixteen steps.
 pub fn mets(tallies: [Tally; 16]) -> [usize; 16]
     ensures { result ≡ mets_of tallies }
 {
-    let mut numbers = [0usize; 16];
-    let mut i = 0;
-    while i < 16 {
-        numbers[i] = tallies[i].met;
-        i += 1;
-    }
-    numbers
+    tallies.map(|tally| tally.met)
 }

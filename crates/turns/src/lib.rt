@@ -35,8 +35,5 @@ pub fn velocity_at(velocities: &[f64], k: usize) -> Velocity
 pub fn mark_at(marks: &[u8], k: usize) -> u8
     ensures { result ≡ mark_at marks.now k }
 {
-    if k < marks.len() {
-        return marks[k];
-    }
-    0
+    marks.get(k).copied().unwrap_or(0)
 }

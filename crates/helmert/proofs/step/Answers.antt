@@ -1,30 +1,22 @@
--- One case for each way through the tests. Calls are replaced by what they ensure; the definition
--- is left. Assumes nothing.
+-- One case for each mode, which tells of the definition's tests (`runs_told`, `owns_told`). Calls are
+-- replaced by what they ensure; the definition is left. Assumes nothing.
+use mathlib.Core.Path.{refl, sym, ◌∙◌}
 use Rattle.helmert.specs.Modes.{step_of}
+use Rattle.helmert.proofs.Laws.{runs_told, owns_told}
 use Rattle.helmert.proofs.step.Goals as goal
 
-pub returns-then-is_running : goal.returns-then-is_running
+pub returns-in-Running : goal.returns-in-Running
 unfolding step_of
-returns-then-is_running c = rw (c.running.ensures, ← c.is_running.ensures, c.if-is_running.true)
+returns-in-Running c = rw (c.running.ensures, runs_told c.args.shift (sym c.mode.ensures ∙ c.in-Running.is))
 
-pub returns-then-is_own_epoch : goal.returns-then-is_own_epoch
+pub returns-in-OwnEpoch : goal.returns-in-OwnEpoch
 unfolding step_of
-returns-then-is_own_epoch c =
-    rw (
-      c.own_epoch_step-w.ensures,
-      ← c.is_running.ensures,
-      c.if-is_running.false,
-      ← c.is_own_epoch.ensures,
-      c.if-is_own_epoch.true,
-    )
+returns-in-OwnEpoch c =
+    let e = sym c.mode.ensures ∙ c.in-OwnEpoch.is in
+    rw (c.own_epoch_step.ensures, runs_told c.args.shift e, owns_told c.args.shift e refl)
 
-pub returns : goal.returns
+pub returns-in-Still : goal.returns-in-Still
 unfolding step_of
-returns c =
-    rw (
-      c.fixed_step-w.ensures,
-      ← c.is_running.ensures,
-      c.if-is_running.false,
-      ← c.is_own_epoch.ensures,
-      c.if-is_own_epoch.false,
-    )
+returns-in-Still c =
+    let e = sym c.mode.ensures ∙ c.in-Still.is in
+    rw (c.fixed_step.ensures, runs_told c.args.shift e, owns_told c.args.shift e refl)

@@ -11,7 +11,4 @@ use Rattle.helmert_exact_columns.proofs.one_time.Given as goal
 
 abbrev pub invariant-loop-j : goal.invariant-loop-j
 invariant-loop-j l =
-    Level l.x l.y l.z l.t × (length l.x ≡ length l.initial.x) × (l.initial.j ≤ l.j) × (l.j ≤ l.end) × Passed (exact_turns l.own l.shift l.inverse) l.initial.j l.state (flat_of l.initial.x l.initial.y l.initial.z l.t) l.j l.state (flat_of l.x l.y l.z l.t) (l.j - l.initial.j)
-
-abbrev pub decreases-loop-j : goal.decreases-loop-j
-decreases-loop-j l = l.end - l.j
+    Level l.x l.y l.z l.t × (length l.x ≡ length l.initial.x) × (l.initial.j ≤ l.j) × (l.j ≤ l.end) × Passed (exact_turns l.own l.fn.shift l.inverse) l.initial.j l.state (flat_of l.initial.x l.initial.y l.initial.z l.t) l.j l.state (flat_of l.x l.y l.z l.t) (l.j - l.initial.j)

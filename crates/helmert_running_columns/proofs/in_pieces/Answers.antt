@@ -9,13 +9,13 @@ pub loop-i-init : goal.loop-i-init
 loop-i-init c = (c.requires.0, refl, search rules, passed_none _ _ _ _)
 
 pub sixteen-state-requires : goal.sixteen-state-requires
-sixteen-state-requires c = (c.loop-i.invariant.0, omega (arith, c.if-together-eq16.true, c.together.ensures, c.loop-i.invariant.0.2), c.requires.1)
+sixteen-state-requires c = (c.loop-i.invariant.0, omega (arith, c.worth.ensures c.if-worth.true, c.loop-i.invariant.0.2), c.requires.1)
 
-pub loop-i-smaller-then-together-eq16 : goal.loop-i-smaller-then-together-eq16
-loop-i-smaller-then-together-eq16 c = let l = c.loop-i in omega (arith, l.invariant.1, c.loop-i-test.true)
+pub loop-i-smaller-then-worth : goal.loop-i-smaller-then-worth
+loop-i-smaller-then-worth c = let l = c.loop-i in omega (arith, l.invariant.1, c.loop-i-test.true)
 
-pub loop-i-preserved-then-together-eq16 : goal.loop-i-preserved-then-together-eq16
-loop-i-preserved-then-together-eq16 c = let l = c.loop-i in ((search rules, search rules, search rules), search rules, search (rules, c.if-together-eq16.true, c.together.ensures, l.invariant.0.2), passed_on l.invariant.3 c.sixteen-state.ensures)
+pub loop-i-preserved-then-worth : goal.loop-i-preserved-then-worth
+loop-i-preserved-then-worth c = let l = c.loop-i in ((search rules, search rules, search rules), search rules, search (rules, c.worth.ensures c.if-worth.true, l.invariant.0.2), passed_on l.invariant.3 c.sixteen-state.ensures)
 
 pub one_time-w-requires : goal.one_time-w-requires
 one_time-w-requires c = (c.loop-i.invariant.0, omega (arith, c.loop-i-test.true), c.requires.1)

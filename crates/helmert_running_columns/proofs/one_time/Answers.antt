@@ -10,21 +10,12 @@ use Rattle.columns.proofs.Laws.{room, row-time}
 use Rattle.columns.proofs.Passed.{passed_none, passed_on, passed_as}
 use Rattle.rotation.specs.declared.Vec3.{Vec3}
 use Rattle.rotation.specs.Matrix.{rotation_matrix_of}
-use Rattle.helmert_still_columns.proofs.Laws.{turned-row}
+use Rattle.helmert_still_columns.proofs.Laws.{row-applied, turned-row}
 use Rattle.helmert_running_columns.proofs.Laws.{met-row, same-time}
 use Rattle.helmert_running_columns.proofs.one_time.Goals as goal
 
-pub row-requires : goal.row-requires
-row-requires c = (c.requires.0, c.requires.1)
-
 pub loop-j-init : goal.loop-j-init
 loop-j-init c = ((search (rules, c.requires.0.0), search (rules, c.requires.0.1), search (rules, c.requires.0.2)), refl, search rules, c.run_end-end.ensures.0, passed_as refl refl (omega arith) (passed_none _ _ _ _))
-
-pub row-requires-in-loop-j : goal.row-requires-in-loop-j
-row-requires-in-loop-j c =
-    let l = c.loop-j in
-    let r = c.run_end-end.ensures in
-    (l.invariant.0, omega (arith, c.loop-j-test.true, r.1 (omega (arith, c.requires.1, c.requires.0.2)), l.invariant.0.2))
 
 pub loop-j-preserved : goal.loop-j-preserved
 loop-j-preserved c =
@@ -40,7 +31,7 @@ loop-j-preserved c =
       search rules,
       omega (arith, l.invariant.2),
       omega (arith, before),
-      passed_as refl refl (omega (arith, l.invariant.2)) (passed_on l.invariant.4 (turned-row l.j fits (alike l.j l.invariant.2 before (tuple_at (flat_of l.x l.y l.z a.t.now) (4 * l.j)) (row-time l.x l.y l.z a.t.now l.invariant.0 l.j inside)) c.row-in-loop-j.ensures)),
+      passed_as refl refl (omega (arith, l.invariant.2)) (passed_on l.invariant.4 (turned-row l.j fits (alike l.j l.invariant.2 before (tuple_at (flat_of l.x l.y l.z a.t.now) (4 * l.j)) (row-time l.x l.y l.z a.t.now l.invariant.0 l.j inside)) (row-applied l.x l.y l.z a.t.now l.invariant.0 l.j inside a.inverse _ _ _ _ c.row-in-loop-j.ensures))),
     )
 
 pub returns : goal.returns
@@ -50,5 +41,5 @@ returns c =
     let l = c.loop-j in
     let r = c.run_end-end.ensures in
     let all : l.j ≡ c.run_end-end.result = omega (arith, c.loop-j-test.false, l.invariant.3) in
-    let first = met-row a.shift a.inverse c.requires.2 _ _ _ _ c.requires.0 a.i c.requires.1 c.next-state.ensures c.scale_at-s.ensures m c.row.ensures in
+    let first = met-row a.shift a.inverse c.requires.2 _ _ _ _ c.requires.0 a.i c.requires.1 c.next-now.ensures c.scale_at-s.ensures m (row-applied _ _ _ _ c.requires.0 a.i c.requires.1 a.inverse _ _ _ _ c.row.ensures) in
     (omega (arith, r.0), omega (arith, r.1 (omega (arith, c.requires.1, c.requires.0.2)), c.requires.0.2), passed_as all refl (omega (arith, all, r.0)) (passed_on first l.invariant.4))

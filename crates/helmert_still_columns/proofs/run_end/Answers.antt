@@ -13,4 +13,7 @@ pub loop-end-preserved : goal.loop-end-preserved
 loop-end-preserved c = let l = c.loop-end in let a = c.args in (search rules, λ h. search rules, still-more a.t.now a.last a.i l.end l.invariant.2 c.if-t-end.false)
 
 pub returns : goal.returns
-returns c = c.loop-end.invariant
+returns c =
+    let l = c.loop-end in
+    let past = c.loop-end-test.false in
+    (search (rules, arith), λ h. search (rules, arith), λ k a b. l.invariant.2 k a (search (rules, arith, past)))

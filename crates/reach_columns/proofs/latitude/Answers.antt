@@ -1,14 +1,7 @@
--- Columns of one length go through `latitude_rows`; others stand for no tuple (`flat-uneven`).
--- Assumes nothing.
-use mathlib.Core.Path.{sym, ◌∙◌}
-use Rattle.columns.proofs.Laws.{level_told, flat-uneven}
+-- The pass asks of each row what the definition asks. Assumes nothing.
+use borrow.Author.Rules.{rules}
+use Rattle.reach.specs.Met.{latitude_met}
 use Rattle.reach_columns.proofs.latitude.Goals as goal
 
-pub latitude_rows-requires : goal.latitude_rows-requires
-latitude_rows-requires c = level_told _ _ _ _ (sym c.level.ensures ∙ c.if-level.true)
-
-pub returns-then-level : goal.returns-then-level
-returns-then-level c = c.latitude_rows.ensures
-
 pub returns : goal.returns
-returns c = rw (flat-uneven _ _ _ _ (sym c.level.ensures ∙ c.if-level.false))
+returns c = c.rows_where.ensures latitude_met (λ v r post. search (rules, post))

@@ -2,7 +2,7 @@
 -- (`Along`); met is what R at the last time says; i is at most the length. A turn keeps met at an
 -- equal time (`seen-again`) and asks anew otherwise (`seen-anew`), which is what the definition
 -- says of the row (`running_met`). Assumes nothing.
-use Prim.Native.Nat.{◌-◌, ◌≤◌}
+use Prim.Native.Nat.{◌≤◌}
 use mathlib.Core.Path.{◌≡◌}
 use lib.ListN.{length}
 use Rattle.helmert.specs.Turns.{helmert_turns}
@@ -15,6 +15,3 @@ use Rattle.reach_columns.proofs.running_any.Given as goal
 abbrev pub invariant-loop-i : goal.invariant-loop-i
 invariant-loop-i l =
     Along (meeting_of (helmert_met l.shift) (helmert_turns l.inverse l.shift)) l.initial.state (flat_of l.x l.y l.z l.t) l.i l.state l.n × (l.met ≡ out_at l.shift l.state.last) × (l.i ≤ length l.t)
-
-abbrev pub decreases-loop-i : goal.decreases-loop-i
-decreases-loop-i l = length l.t - l.i

@@ -37,8 +37,8 @@ returns-then-one_time c =
     ap (λ (b : Bool). cond b (length a.t.now) 0) (sym out)
     ∙ one-time-count a.inverse a.shift a.from a.x.now a.y.now a.z.now a.t.now p.0 p.1 p.2 p.3 c.next-first.result (sym c.next-first.ensures) (c.one_time.ensures c.if-one_time.true) (omega (arith, c.if-t-eq0.false))
 
-pub returns-then-quick-eq0 : goal.returns-then-quick-eq0
-returns-then-quick-eq0 c = c.running_apart-quick.ensures c.if-quick-eq0.true
+pub returns-in-Some : goal.returns-in-Some
+returns-in-Some c = rw c.in-Some.is at c.running_apart.ensures
 
-pub returns : goal.returns
-returns c = c.running_any.ensures
+pub returns-in-None : goal.returns-in-None
+returns-in-None c = c.running_any.ensures

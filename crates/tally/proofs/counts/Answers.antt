@@ -1,13 +1,12 @@
-use Rattle.tally.specs.Tallies.{no_tally}
-use Rattle.tally.proofs.Laws.{read_start, read_again, read_end}
+-- Each number is that of the tally there (`each_is`). Assumes nothing.
 use borrow.Author.Rules.{rules}
+use mathlib.Core.Path.{refl}
+use Rattle.tally.specs.declared.Tally.{Tally}
+use Rattle.tally.specs.Tallies.{no_tally}
+use Rattle.tally.proofs.Laws.{each_is}
 use Rattle.tally.proofs.counts.Goals as goal
 
-pub loop-i-init : goal.loop-i-init
-loop-i-init c = read_start _ _
-
-pub loop-i-preserved : goal.loop-i-preserved
-loop-i-preserved c = read_again no_tally c.loop-i-test.true (search rules) c.loop-i.invariant
-
 pub returns : goal.returns
-returns c = read_end (search rules) (search rules) c.loop-i.invariant
+returns c =
+    let m = c.map.ensures.items in
+    each_is (λ (a : Tally). a.count) _ refl (search rules) m.long (λ i h. search (rules, m.at i no_tally 0 h))
