@@ -2,13 +2,12 @@
 -- the block form's blocks hold what the step gives for each row (`moved-there`), and the same of
 -- those that meet an angle out of reach, by the longitudes and latitudes at hand (`met-there`), so
 -- the blocks and both counts are the step's (`moved-made`). Assumes nothing.
-use Prim.Native.Nat.{ℕ, ◌+◌, ◌*◌, ◌/◌, ◌≤◌, ◌<◌}
+use Prim.Native.Nat.{ℕ, ◌+◌, ◌<◌}
 use native.Mathlib.Omega.{arith}
 use mathlib.Core.Path.{◌≡◌, refl, ap, ◌∙◌}
 use mathlib.Core.Bool.{Bool, ◌&&◌}
 use mathlib.Core.List.{List}
 use lib.Dec.{eqb}
-use lib.ListN.{length}
 use lib.Ieee.{Float}
 use Rattle.blocks.specs.Each.{at, whole_at, Each, EachWhole, count_to}
 use Rattle.blocks.proofs.Counts.{count_told}
