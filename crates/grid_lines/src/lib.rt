@@ -155,6 +155,7 @@ fn number_place(g: &[u8]) -> usize
     }
 }
 
+// By the rule's number, which stays a number as in `grid_rules`.
 pub fn put_refusal(room: &mut [u8], at: usize, g: &[u8], number: u32) -> usize
     ensures { text room.new result ≡ appended (text room.old at) (refusal_text g.now number) }
 {
