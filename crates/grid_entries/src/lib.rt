@@ -19,7 +19,10 @@ ghost use Rattle.grid_entries.specs.Codes.{grid_told, grid_told_of};
 pub extern "C" fn sillfeather_check_grid(grid: &[u8]) -> u32
     ensures { result ≡ check_grid_of grid.now }
 {
-    grid_rules::check_grid(grid)
+    match grid_rules::check_grid(grid) {
+        Ok(()) => 0,
+        Err(number) => number,
+    }
 }
 
 // A sheet over a list with a velocity grid, in place: forward where inverse is 0, else inverse.
