@@ -272,11 +272,10 @@ fn check_body(s: &[u8], i: usize) -> Result<(), Refusal>
     requires { i < 16 }
     ensures { result ≡ unless (first_broken (rules_of_step i (refusal5_at s.now i) (step_at s.now i))) tt }
 {
-    let number = bodies::lowest_broken(kind_at(s, i), body_at(s, i));
-    if number == 0 {
-        return Ok(());
+    match bodies::lowest_broken(kind_at(s, i), body_at(s, i)) {
+        Some(number) => Err(Refusal::of_step(number, i)),
+        None => Ok(()),
     }
-    Err(Refusal::of_step(number, i))
 }
 
 // Step by step 5 to 8.
