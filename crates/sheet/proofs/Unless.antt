@@ -4,6 +4,7 @@
 -- fact on the refusal's number, and `hands_on` says what the exit returns. The laws of `rule` put
 -- that fact in front of a list of rules. Assumes nothing.
 use mathlib.Core.Path.{◌≡◌, refl, sym, ap, ◌∙◌}
+use Prim.Native.Nat.{ℕ}
 use mathlib.Core.List.{List, ◌∷◌}
 use mathlib.Core.Bool.{Bool, true, false, not, cond}
 use borrow.Author.Tests.{eqb-true, eqb-false, eq-eqb, ne_eqb}
@@ -11,7 +12,8 @@ use lib.Dec.{eqb}
 use Rattle.std.specs.Prelude.{Result, Ok, Err, IsErrAnd}
 use Rattle.std.proofs.lemmas.Result.{err_from_is_err_and}
 use Rattle.sheet.specs.declared.Refusal.{Refusal}
-use Rattle.sheet.specs.Rules.{Rule, rule, first_broken, unless}
+use Rattle.sheet.specs.Layout.{blank_sheet, record_of}
+use Rattle.sheet.specs.Rules.{Rule, rule, first_broken, refusal_of, reading_of, unless}
 
 -- ---- one answer
 
@@ -42,6 +44,20 @@ at_ok r x y e = let p = ok_as (eqb r.number 0) r x y e in (eqb-true _ _ p.0, p.1
 pub at_err : {A : Type 0} (r e : Refusal) (x : A) → unless r x ≡ Err e → (r.number ≡ 0 → ⊥) × (r ≡ e)
 unfolding unless
 at_err r e x p = let q = err_as (eqb r.number 0) r e x p in (eqb-false _ _ q.0, q.1)
+
+-- a value that is only taken where there is no refusal may be anything where there is one
+pub else_any : {A : Type 0} (r : Refusal) (x y : A) → unless r (cond (eqb r.number 0) x y) ≡ unless r x
+unfolding unless
+else_any r x y = by (eqb r.number 0)
+  where
+    by : (b : Bool) → cond b (Ok (cond b x y)) (Err r) ≡ cond b (Ok x) (Err r)
+    by true = refl
+    by false = refl
+
+-- so a reading answers as `read` does
+pub read_answers : (s : List ℕ) → unless (reading_of s).refusal (reading_of s).sheet ≡ unless (refusal_of s) (record_of s)
+unfolding reading_of
+read_answers s = else_any (refusal_of s) (record_of s) blank_sheet
 
 -- ---- a call with a `?`: what it ensures, and which variant it gave
 

@@ -1,5 +1,4 @@
 -- The body's lowest broken rule is the first of the step's rules that is broken. Assumes nothing.
-use native.Mathlib.Omega.{arith}
 use mathlib.Core.Path.{◌≡◌, refl, sym, ◌∙◌}
 use borrow.Author.Tests.{eq-eqb, ne_eqb}
 use Rattle.bodies.proofs.Laws.{no_rule, a_rule}
@@ -14,9 +13,10 @@ pub returns-in-Some : goal.returns-in-Some
 returns-in-Some c =
     let s = c.args.s.now in
     let i = c.args.i in
-    let rule = a_rule (lowest_broken (kind_at s i) (body_at s i)) _ (rw (← c.body_at.ensures, ← c.kind_at.ensures) (sym c.lowest_broken.ensures ∙ c.in-Some.is)) in
+    let rule = a_rule (lowest_broken (kind_at s i) (body_at s i)) c.in-Some.number (rw (← c.body_at.ensures, ← c.kind_at.ensures) (sym c.lowest_broken.ensures ∙ c.in-Some.is)) in
     let lowest : first_broken (rules_of_step i (refusal5_at s i) (step_at s i)) ≡ of_step c.in-Some.number i = rw (lowest_first, rule.0, ne_eqb _ 0 rule.1) in
-    rw (lowest, c.of_step.ensures, of_index_lem _ i (omega arith)) (sym (refuses _ tt rule.1))
+    let named = of_index_lem c.in-Some.number i c.requires in
+    rw (lowest, c.of_step.ensures, named) (sym (refuses _ tt rule.1))
 
 pub returns-in-None : goal.returns-in-None
 returns-in-None c =
