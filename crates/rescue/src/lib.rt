@@ -82,7 +82,8 @@ fn is_lost(s: &[u8]) -> bool
 
 // ----- the rebuilt sheet ----------------------------------------------------------------------
 
-// Four words: the header, or an entry of the directory.
+// Four words: the header, or an entry of the directory. sheet_writer has these lines too: a public
+// function asks nothing of its caller, so one for both would test again what both have proved.
 fn put_words(r: &mut [u8], at: usize, a: u32, b: u32, c: u32, d: u32)
     requires { at + 16 ≤ length r.old }
     ensures { r.new ≡ put r.old at (le32 a ++ le32 b ++ le32 c ++ le32 d) }

@@ -12,6 +12,8 @@ ghost use Rattle.words.specs.Words.{word32, word64, number_at, one_nan_at, le32,
 
 // ----- the same number in a wider type -----------------------------------------------------
 
+// `From` goes neither from `u32` to `usize` nor from `usize` to `u64`, and says no bound: callers'
+// proofs lean on the one here.
 pub fn wide(x: u32) -> usize
     ensures { (result ≡ x) × (result < 4294967296) }
 {
