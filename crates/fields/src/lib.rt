@@ -8,10 +8,10 @@
 // of any length. Used by `show`.
 #![tactic(auto)]
 
-ghost use Rattle.std.specs.Prelude.{◌≡◌, ◌++◌};
+ghost use Rattle.std.specs.Prelude.{◌≡◌, ◌++◌, map};
 ghost use Rattle.text.specs.Text.{text, appended};
 ghost use Rattle.text.specs.Digits.{decimal_of};
-ghost use Rattle.fields.specs.Words.{helmert_flags, molodensky_flags, deformation_flags, badekas_flags, convention_text, convention_line, system_text, system_line, kind_text, kind_line, inverted_text, inverted_line};
+ghost use Rattle.fields.specs.Words.{flags_line, convention_text, convention_line, system_text, system_line, kind_text, kind_line, inverted_text, inverted_line};
 ghost use Rattle.fields.specs.Fields.{length_unit, angle_unit, lengths_text, angles_text, scales_text, helmert_text, cart_text, figures_text, shifts_text, molodensky_text, permtide_text, deformation_text, badekas_numbers, badekas_text, fields_text};
 
 use lines::Unit;
@@ -24,47 +24,27 @@ fn put_u32(room: &mut [u8], at: usize, n: u32) -> usize
     text::put_decimal(room, at, words::wide64(n))
 }
 
-fn put_helmert_flags(room: &mut [u8], at: usize, flags: u32) -> usize
-    ensures { text room.new result ≡ appended (text room.old at) (helmert_flags flags) }
-{
-    let p = text::put_bytes(room, at, b"  flags: ");
-    let q = put_u32(room, p, flags);
-    let r = lines::put_flag(room, q, b"; exact ", flags % 2 == 1);
-    let t = lines::put_flag(room, r, b"; uas ", flags / 2 % 2 == 1);
-    let u = lines::put_flag(room, t, b"; mm ", flags / 4 % 2 == 1);
-    let v = lines::put_flag(room, u, b"; own-epoch ", flags / 8 % 2 == 1);
-    text::put_bytes(room, v, b"\n")
-}
+// The names of the flags 1, 2, 4 .. of each kind that has some.
+const HELMERT_FLAGS: [&[u8]; 4] = [b"; exact ", b"; uas ", b"; mm ", b"; own-epoch "];
 
-fn put_molodensky_flags(room: &mut [u8], at: usize, flags: u32) -> usize
-    ensures { text room.new result ≡ appended (text room.old at) (molodensky_flags flags) }
-{
-    let p = text::put_bytes(room, at, b"  flags: ");
-    let q = put_u32(room, p, flags);
-    let r = lines::put_flag(room, q, b"; abridged ", flags % 2 == 1);
-    let t = lines::put_flag(room, r, b"; two ellipsoids ", flags / 2 % 2 == 1);
-    text::put_bytes(room, t, b"\n")
-}
+const MOLODENSKY_FLAGS: [&[u8]; 2] = [b"; abridged ", b"; two ellipsoids "];
 
-fn put_deformation_flags(room: &mut [u8], at: usize, flags: u32) -> usize
-    ensures { text room.new result ≡ appended (text room.old at) (deformation_flags flags) }
-{
-    let p = text::put_bytes(room, at, b"  flags: ");
-    let q = put_u32(room, p, flags);
-    let r = lines::put_flag(room, q, b"; raw ", flags % 2 == 1);
-    let t = lines::put_flag(room, r, b"; comment's sign ", flags / 2 % 2 == 1);
-    text::put_bytes(room, t, b"\n")
-}
+const DEFORMATION_FLAGS: [&[u8]; 2] = [b"; raw ", b"; comment's sign "];
 
-fn put_badekas_flags(room: &mut [u8], at: usize, flags: u32) -> usize
-    ensures { text room.new result ≡ appended (text room.old at) (badekas_flags flags) }
+const BADEKAS_FLAGS: [&[u8]; 3] = [b"; exact ", b"; uas ", b"; mm "];
+
+// A word of flags: its number, and of each flag that has a name whether it is set.
+fn put_flags(room: &mut [u8], at: usize, names: &[&[u8]], flags: u32) -> usize
+    ensures { text room.new result ≡ appended (text room.old at) (flags_line (map (λ name. name.now) names.now) flags) }
 {
     let p = text::put_bytes(room, at, b"  flags: ");
-    let q = put_u32(room, p, flags);
-    let r = lines::put_flag(room, q, b"; exact ", flags % 2 == 1);
-    let t = lines::put_flag(room, r, b"; uas ", flags / 2 % 2 == 1);
-    let u = lines::put_flag(room, t, b"; mm ", flags / 4 % 2 == 1);
-    text::put_bytes(room, u, b"\n")
+    let mut q = put_u32(room, p, flags);
+    let mut left = flags;
+    for name in names {
+        q = lines::put_flag(room, q, name, left % 2 == 1);
+        left /= 2;
+    }
+    text::put_bytes(room, q, b"\n")
 }
 
 // A word of a few values: its name, its number and what the number stands for.
@@ -258,7 +238,7 @@ fn put_helmert(room: &mut [u8], at: usize, s: &[u8], base: u32) -> usize
 {
     let flags = lines::word_in(s, base, 0);
     let convention = lines::word_in(s, base, 4);
-    let p = put_helmert_flags(room, at, flags);
+    let p = put_flags(room, at, &HELMERT_FLAGS, flags);
     let q = put_convention(room, p, convention);
     let r = put_lengths(room, q, s, base, flags / 4 % 2 == 1);
     let t = put_angles(room, r, s, base, flags / 2 % 2 == 1);
@@ -282,7 +262,7 @@ fn put_figures(room: &mut [u8], at: usize, s: &[u8], base: u32) -> usize
     ensures { text room.new result ≡ appended (text room.old at) (figures_text s.now base) }
 {
     let flags = lines::word_in(s, base, 0);
-    let p = put_molodensky_flags(room, at, flags);
+    let p = put_flags(room, at, &MOLODENSKY_FLAGS, flags);
     let q = lines::put_ellipsoid(room, p, b"  first: ", s, base, 4);
     let r = lines::put_ellipsoid(room, q, b"  second: ", s, base, 8);
     lines::put_word(room, r, b"  reserved: ", s, base, 12)
@@ -325,7 +305,7 @@ fn put_deformation(room: &mut [u8], at: usize, s: &[u8], base: u32) -> usize
     ensures { text room.new result ≡ appended (text room.old at) (deformation_text s.now base) }
 {
     let flags = lines::word_in(s, base, 0);
-    let p = put_deformation_flags(room, at, flags);
+    let p = put_flags(room, at, &DEFORMATION_FLAGS, flags);
     let q = lines::put_ellipsoid(room, p, b"  ellipsoid: ", s, base, 4);
     let r = lines::put_time(room, q, b"  dt: ", s, base, 8);
     lines::put_time(room, r, b"  t_epoch: ", s, base, 16)
@@ -356,7 +336,7 @@ fn put_badekas(room: &mut [u8], at: usize, s: &[u8], base: u32) -> usize
 {
     let flags = lines::word_in(s, base, 0);
     let convention = lines::word_in(s, base, 4);
-    let p = put_badekas_flags(room, at, flags);
+    let p = put_flags(room, at, &BADEKAS_FLAGS, flags);
     let q = put_convention(room, p, convention);
     put_badekas_numbers(room, q, s, base, flags / 4 % 2 == 1, flags / 2 % 2 == 1)
 }
