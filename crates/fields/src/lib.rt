@@ -18,12 +18,6 @@ use lines::Unit;
 
 // ----- words ------------------------------------------------------------------------------
 
-fn put_u32(room: &mut [u8], at: usize, n: u32) -> usize
-    ensures { text room.new result ≡ appended (text room.old at) (decimal_of n) }
-{
-    text::put_decimal(room, at, words::wide64(n))
-}
-
 // The names of the flags 1, 2, 4 .. of each kind that has some.
 const HELMERT_FLAGS: [&[u8]; 4] = [b"; exact ", b"; uas ", b"; mm ", b"; own-epoch "];
 
@@ -38,7 +32,7 @@ fn put_flags(room: &mut [u8], at: usize, names: &[&[u8]], flags: u32) -> usize
     ensures { text room.new result ≡ appended (text room.old at) (flags_line (map (λ name. name.now) names.now) flags) }
 {
     let p = text::put_bytes(room, at, b"  flags: ");
-    let mut q = put_u32(room, p, flags);
+    let mut q = text::put_u32(room, p, flags);
     let mut left = flags;
     for name in names {
         q = lines::put_flag(room, q, name, left % 2 == 1);
@@ -52,7 +46,7 @@ fn put_code(room: &mut [u8], at: usize, name: &[u8], n: u32, words: &[u8]) -> us
     ensures { text room.new result ≡ appended (text room.old at) (name.now ++ decimal_of n ++ words.now) }
 {
     let p = text::put_bytes(room, at, name);
-    let q = put_u32(room, p, n);
+    let q = text::put_u32(room, p, n);
     text::put_bytes(room, q, words)
 }
 

@@ -74,3 +74,9 @@ pub fn put_decimal(room: &mut [u8], at: usize, n: u64) -> usize
 {
     put_digits(room, at, 10, places(n), n)
 }
+
+pub fn put_u32(room: &mut [u8], at: usize, n: u32) -> usize
+    ensures { text room.new result ≡ appended (text room.old at) (decimal_of n) }
+{
+    put_decimal(room, at, n as u64)
+}
