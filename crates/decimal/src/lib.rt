@@ -21,7 +21,7 @@ pub struct Decimal {
 }
 
 // The whole number nearest to p, for p from 0 to below 2^52: the sum with 2^52 rounds to one.
-fn whole(p: f64) -> u64
+pub fn whole(p: f64) -> u64
     ensures { (result ≡ whole_of p) × (result < 2 ^ 52) }
 {
     floats::to_bits(p + 4503599627370496.0) % 4503599627370496
