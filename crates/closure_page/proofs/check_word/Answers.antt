@@ -7,7 +7,7 @@ pub loop-n-init : goal.loop-n-init
 loop-n-init c = (omega arith, omega arith, refl)
 
 pub heard-requires : goal.heard-requires
-heard-requires c = (c.loop-n.invariant.1, omega (arith, c.shared_slice_known-in-loop-n-1.given c.loop-n.n-index))
+heard-requires c = (c.loop-n.invariant.1, omega (arith, c.type_inv.numbers c.loop-n.n-index))
 
 pub heard-c-requires : goal.heard-c-requires
 heard-c-requires c = (c.heard.ensures.1, omega arith)
