@@ -33,7 +33,8 @@ fn digit(d: u64) -> u8
     48 + d as u8
 }
 
-// The last k digits of n.
+// The last k digits of n. Not `text`'s own writer of digits: k may pass 20, where ten to the k does
+// not fit.
 fn put_places(room: &mut [u8], at: usize, n: u64, k: usize) -> usize
     ensures { text room.new result ≡ appended (text room.old at) (digits_of 10 k n) }
 {

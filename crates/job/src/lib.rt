@@ -10,7 +10,7 @@
 ghost use Rattle.std.specs.Prelude.{◌≡◌, ◌<◌, length};
 ghost use Rattle.job.specs.Job.{head_of, tuples_at, velocities_at, marks_at, end_at, refusal16, numbers_of};
 
-// The four words in front.
+// The four words in front, raw: rule 16 judges the direction as the number that it is.
 #[derive(Clone, Copy)]
 pub struct Head {
     pub direction: u32,

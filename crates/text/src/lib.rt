@@ -3,7 +3,9 @@
 // Every function takes a room and a place, writes from the place on and answers the place past what
 // it wrote. Past the room's end nothing is written: the place then is the room's end, and stays
 // there. So a text written in pieces is the text written at once, in a room of any length
-// (`appended-twice`). Used by the program's report and by whoever writes a text for people.
+// (`appended-twice`). Used by the program's report and by whoever writes a text for people. Room and
+// place stay two parameters: a struct that holds the `&mut` needs a clause in every contract that
+// it is the same room.
 #![tactic(auto)]
 
 ghost use Rattle.std.specs.Prelude.{◌≡◌, [], ◌∷◌, ◌-◌, ◌^◌, ◌<◌, ◌≤◌};
