@@ -1,5 +1,8 @@
 -- The programs' answers: from a job's bytes to the bytes of its text.
 use Rattle.std.specs.Prelude.{ℕ, Bool, true, false, cond, List, [], eqb, ltb, length, take, drop, Float}
+use Rattle.std.specs.declared.option.Option.{Option}
+use Rattle.std.specs.declared.option.Option.TheVariants.{Some, None}
+use denote.Ref.{Bor}
 use Rattle.sheet.specs.Layout.{step_count_of}
 use Rattle.tally.specs.Tallies.{counts_of, mets_of}
 use Rattle.chain.specs.Rules.{Outcome, shift_of}
@@ -13,6 +16,15 @@ told_of steps o =
     cond (eqb o.answer.refusal.number 0)
     (ran_text steps (counts_of o.answer.tallies) (mets_of o.answer.tallies) o.list)
     (refused_text o.answer.refusal.number o.answer.refusal.step)
+
+-- whether a velocity grid is lent, and its bytes
+unfoldable pub is_lent : Option (Bor (List ℕ)) → Bool
+is_lent (Some grid) = true
+is_lent None = false
+
+unfoldable pub grid_in : Option (Bor (List ℕ)) → List ℕ
+grid_in (Some grid) = grid.now
+grid_in None = []
 
 -- a sheet over a list: with a velocity grid where one is lent, else without
 abbrev pub lent_shift_of : Bool → List ℕ → Bool → List ℕ → List Float → List Float → List ℕ → Outcome

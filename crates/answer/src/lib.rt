@@ -11,43 +11,41 @@ ghost use Rattle.std.specs.Prelude.{◌≡◌, ◌*◌, ◌≤◌, length};
 ghost use Rattle.text.specs.Text.{text, appended};
 ghost use Rattle.job.specs.Job.{head_of, marks_at};
 ghost use Rattle.chain.specs.Rules.{outcome};
-ghost use Rattle.answer.specs.Answer.{lent_shift_of, shift_text, lent_job_text, lent_answer_of, answer_of, grid_answer_of};
+ghost use Rattle.answer.specs.Answer.{is_lent, grid_in, lent_shift_of, shift_text, lent_job_text, lent_answer_of, answer_of, grid_answer_of};
 
 use chain::Answer;
 use job::Head;
 
-// A sheet over a list, with the grid where one is lent. Without one the grid is not looked at.
+// A sheet over a list, with the grid where one is lent.
 fn shift(
-    gridded: bool,
-    grid: &[u8],
+    grid: Option<&[u8]>,
     inverse: bool,
     s: &[u8],
     list: &mut [f64],
     velocities: &[f64],
     marks: &[u8],
 ) -> Answer
-    ensures { outcome result list.new ≡ lent_shift_of gridded grid.now inverse s.now list.old velocities.now marks.now }
+    ensures { outcome result list.new ≡ lent_shift_of (is_lent grid.entry) (grid_in grid.entry) inverse s.now list.old velocities.now marks.now }
 {
-    if gridded {
-        return chain::shift_grid(inverse, s, list, velocities, marks, grid);
+    match grid {
+        Some(grid) => chain::shift_grid(inverse, s, list, velocities, marks, grid),
+        None => chain::shift(inverse, s, list, velocities, marks),
     }
-    chain::shift(inverse, s, list, velocities, marks)
 }
 
 // The same, told. The list is the caller's to drop.
 fn told(
     room: &mut [u8],
-    gridded: bool,
-    grid: &[u8],
+    grid: Option<&[u8]>,
     inverse: bool,
     s: &[u8],
     list: &mut [f64],
     velocities: &[f64],
     marks: &[u8],
 ) -> usize
-    ensures { text room.new result ≡ appended (text room.old 0) (shift_text gridded grid.now inverse s.now list.old velocities.now marks.now) }
+    ensures { text room.new result ≡ appended (text room.old 0) (shift_text (is_lent grid.entry) (grid_in grid.entry) inverse s.now list.old velocities.now marks.now) }
 {
-    let said = shift(gridded, grid, inverse, s, list, velocities, marks);
+    let said = shift(grid, inverse, s, list, velocities, marks);
     let refusal = said.refusal;
     if refusal.number != 0 {
         return report::refused(room, 0, refusal.number, refusal.step);
@@ -61,15 +59,14 @@ fn told(
 // A job's sheet over its list, in lists as long as its words say.
 fn shifted(
     room: &mut [u8],
-    gridded: bool,
-    grid: &[u8],
+    grid: Option<&[u8]>,
     job: &[u8],
     head: Head,
     list: &mut [f64],
     velocities: &mut [f64],
 ) -> usize
     requires { (head ≡ head_of job.now) × (marks_at head ≤ length job.now) × (length list.old ≡ 4 * head.tuples) × (length velocities.old ≡ 3 * head.velocities) }
-    ensures { text room.new result ≡ appended (text room.old 0) (lent_job_text gridded grid.now job.now) }
+    ensures { text room.new result ≡ appended (text room.old 0) (lent_job_text (is_lent grid.entry) (grid_in grid.entry) job.now) }
 {
     let a = job::tuples_at(head);
     let b = job::velocities_at(head);
@@ -78,7 +75,6 @@ fn shifted(
     job::numbers(&job[b..], velocities);
     told(
         room,
-        gridded,
         grid,
         head.direction == 1,
         &job[16..a],
@@ -95,8 +91,8 @@ fn zeros() -> [f64; 2048]
     [0.0; 2048]
 }
 
-fn answered(gridded: bool, grid: &[u8], job: &[u8], room: &mut [u8]) -> usize
-    ensures { text room.new result ≡ appended (text room.old 0) (lent_answer_of gridded grid.now job.now) }
+fn answered(grid: Option<&[u8]>, job: &[u8], room: &mut [u8]) -> usize
+    ensures { text room.new result ≡ appended (text room.old 0) (lent_answer_of (is_lent grid.entry) (grid_in grid.entry) job.now) }
 {
     let head = job::read_head(job);
     if job::is_bad(head, job.len()) {
@@ -106,22 +102,13 @@ fn answered(gridded: bool, grid: &[u8], job: &[u8], room: &mut [u8]) -> usize
     let mut velocities = zeros();
     let n = 4 * words::wide(head.tuples);
     let m = 3 * words::wide(head.velocities);
-    shifted(
-        room,
-        gridded,
-        grid,
-        job,
-        head,
-        &mut list[..n],
-        &mut velocities[..m],
-    )
+    shifted(room, grid, job, head, &mut list[..n], &mut velocities[..m])
 }
 
 pub fn answer(job: &[u8], room: &mut [u8]) -> usize
     ensures { text room.new result ≡ appended (text room.old 0) (answer_of job.now) }
 {
-    let none = chain::no_grid(job);
-    answered(false, none, job, room)
+    answered(None, job, room)
 }
 
 // A job, and a velocity grid from the job's end on.
@@ -133,5 +120,5 @@ pub fn answer_grid(bytes: &[u8], room: &mut [u8]) -> usize
     if bytes.len() < end {
         return report::refused(room, 0, 16, 0);
     }
-    answered(true, &bytes[end..], &bytes[..end], room)
+    answered(Some(&bytes[end..]), &bytes[..end], room)
 }

@@ -38,7 +38,8 @@ fn told(
     closure_page::put_page(room, 0, angles, report)
 }
 
-// A job's sheet over its list, in lists as long as its words say.
+// A job's sheet over its list, in lists as long as its words say. The like of it in `answer` lends
+// no room to come back in: one function for both would take the run as a closure, and its contract.
 fn closed(
     room: &mut [u8],
     profile: u32,

@@ -7,7 +7,7 @@ use Rattle.floats.specs.Binary64.{◌⊗◌, bits}
 use Rattle.decimal.specs.Places.{ten_to, two_to52, whole_of}
 use Rattle.text.specs.Ascii.{ascii}
 use Rattle.text.specs.Digits.{decimal_of, hex_of}
-use Rattle.show.specs.Show.{rule_text}
+use Rattle.show.specs.Show.{rule_text, told_text}
 use Rattle.closure_report.specs.declared.Largest.{Largest}
 use Rattle.closure_report.specs.declared.Report.{Report}
 use Rattle.closure_report.specs.Report.{numbers_of}
@@ -103,7 +103,7 @@ refusal_words n =
     (cond (eqb n 10) (ascii "velocities or marks of wrong length, or a mark over 1\n") (rule_text n))))
 
 unfoldable pub refused_text : ℕ → ℕ → List ℕ
-refused_text number step = ascii "refused " ++ decimal_of number ++ ascii " step " ++ decimal_of step ++ ascii ": " ++ refusal_words number
+refused_text number step = told_text number step (refusal_words number)
 
 -- ---- what a job asks for
 

@@ -8,24 +8,17 @@
 // by the program closure.
 #![tactic(auto)]
 
-ghost use Rattle.std.specs.Prelude.{◌≡◌, ◌<◌, ◌≤◌, ◌^◌};
+ghost use Rattle.std.specs.Prelude.{◌≡◌, ◌<◌, ◌≤◌};
 ghost use Rattle.floats.specs.Binary64.{◌⊗◌};
 ghost use Rattle.text.specs.Text.{text, appended};
 ghost use Rattle.text.specs.Digits.{decimal_of};
 ghost use Rattle.decimal.specs.Places.{whole_of, ten_to};
 ghost use Rattle.closure_report.specs.Report.{numbers_of};
-ghost use Rattle.closure_page.specs.Page.{places_from, three_text, power_text, four_text, below_text, figure_text, place_text, largest_text, heard_of, check_from, radio_text, count_text, counts_text, unit_text, coordinates_text, page_text, refusal_words, refused_text, takes_angles, is_chart, profile_asked};
+ghost use Rattle.closure_page.specs.Page.{places_from, three_text, power_text, four_text, below_text, figure_text, place_text, largest_text, heard_of, check_from, radio_text, count_text, counts_text, unit_text, coordinates_text, page_text, refusal_words, refused_text, takes_angles, profile_asked};
 
 use closure_report::{Largest, Report};
 
 // ----- a figure --------------------------------------------------------------------------------
-
-// The whole number nearest to p, for p from 0 to below 2^52.
-fn whole(p: f64) -> u64
-    ensures { (result ≡ whole_of p) × (result < 2 ^ 52) }
-{
-    floats::to_bits(p + 4503599627370496.0) % 4503599627370496
-}
 
 // x with so many decimal places that it has four digits, at most 22.
 #[derive(Clone, Copy)]
@@ -38,9 +31,8 @@ fn four_of(x: f64) -> Four
     ensures { (result.places ≡ places_from 22 0 x) × (result.digits ≡ whole_of (x ⊗ ten_to (places_from 22 0 x))) × (result.places ≤ 22) }
 {
     let mut ten = 1.0;
-    let mut k = 0;
-    while k < 22 {
-        let digits = whole(x * ten);
+    for k in 0..22 {
+        let digits = decimal::whole(x * ten);
         if 1000 <= digits {
             return Four {
                 digits: digits,
@@ -48,11 +40,10 @@ fn four_of(x: f64) -> Four
             };
         }
         ten = ten * 10.0;
-        k += 1;
     }
     Four {
-        digits: whole(x * ten),
-        places: k,
+        digits: decimal::whole(x * ten),
+        places: 22,
     }
 }
 
@@ -140,11 +131,8 @@ pub fn check_word(numbers: &[u64]) -> u64
     ensures { result ≡ check_from 0 numbers.now }
 {
     let mut c = 0;
-    let mut i = 0;
-    while i < numbers.len() {
-        let n = numbers[i];
+    for &n in numbers {
         c = heard(heard(c, n / 4294967296), n % 4294967296);
-        i += 1;
     }
     c
 }
@@ -208,37 +196,22 @@ pub fn put_page(room: &mut [u8], at: usize, angles: bool, r: Report) -> usize
 
 // ----- a refusal -------------------------------------------------------------------------------
 
-fn put_words(room: &mut [u8], at: usize, number: u32) -> usize
-    ensures { text room.new result ≡ appended (text room.old at) (refusal_words number) }
+fn refusal_words(number: u32) -> &'static [u8]
+    ensures { result.now ≡ refusal_words number }
 {
-    if number == 25 {
-        return text::put_bytes(room, at, b"outside the profile that was asked for\n");
+    match number {
+        9 => b"list not of whole tuples, or over 2,048\n",
+        10 => b"velocities or marks of wrong length, or a mark over 1\n",
+        16 => b"a bad job\n",
+        25 => b"outside the profile that was asked for\n",
+        _ => show::rule_words(number),
     }
-    if number == 16 {
-        return text::put_bytes(room, at, b"a bad job\n");
-    }
-    if number == 9 {
-        return text::put_bytes(room, at, b"list not of whole tuples, or over 2,048\n");
-    }
-    if number == 10 {
-        return text::put_bytes(
-            room,
-            at,
-            b"velocities or marks of wrong length, or a mark over 1\n",
-        );
-    }
-    show::put_rule(room, at, number)
 }
 
 pub fn put_refused(room: &mut [u8], at: usize, number: u32, step: u32) -> usize
     ensures { text room.new result ≡ appended (text room.old at) (refused_text number step) }
 {
-    let p = text::put_bytes(room, at, b"refused ");
-    let q = text::put_decimal(room, p, words::wide64(number));
-    let r = text::put_bytes(room, q, b" step ");
-    let s = text::put_decimal(room, r, words::wide64(step));
-    let t = text::put_bytes(room, s, b": ");
-    put_words(room, t, number)
+    show::put_refusal(room, at, number, step, refusal_words(number))
 }
 
 // ----- what a job asks for ---------------------------------------------------------------------
@@ -247,27 +220,20 @@ pub fn put_refused(room: &mut [u8], at: usize, number: u32, step: u32) -> usize
 pub fn takes_angles(kind: u32, inverted: u32) -> bool
     ensures { result ≡ takes_angles kind inverted }
 {
-    ((kind == 2) & (inverted != 1)) | (kind == 3) | (kind == 4)
-}
-
-fn is_chart(word: &[u8]) -> bool
-    ensures { result ≡ is_chart word.now }
-{
-    if word.len() != 5 {
-        return false;
+    match kind {
+        2 => inverted != 1,
+        3 | 4 => true,
+        _ => false,
     }
-    (word[0] == 99) & (word[1] == 104) & (word[2] == 97) & (word[3] == 114) & (word[4] == 116)
 }
 
-// The profile that a word asks for.
+// The profile that a word asks for: none, the chart's, or one that nobody knows.
 pub fn profile_asked(word: &[u8]) -> u32
     ensures { result ≡ profile_asked word.now }
 {
-    if word.len() == 0 {
-        return 0;
+    match word {
+        b"" => 0,
+        b"chart" => 1,
+        _ => 2,
     }
-    if is_chart(word) {
-        return 1;
-    }
-    2
 }

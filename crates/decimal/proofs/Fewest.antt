@@ -25,8 +25,8 @@ use lib.Ieee.Positive.{positive_of_value, first_pos, mul_at}
 use Rattle.floats.specs.Binary64.{◌⊗◌}
 use Rattle.floats.specs.Number.{abs_of, same_of}
 use Rattle.floats.proofs.Laws.{equal_are_same}
-use Rattle.decimal.specs.declared.Decimal.TheVariants.{Found, Nothing}
-use Rattle.decimal.specs.Places.{ten_to, two_to52, whole_of, digits_of, read_of, passes_of, decimal_of}
+use Rattle.std.specs.declared.option.Option.TheVariants.{None}
+use Rattle.decimal.specs.Places.{ten_to, two_to52, whole_of, digits_of, read_of, passes_of, decimal_of, found}
 use Rattle.decimal.proofs.Tens.{each, there, ten_is_exact}
 use Rattle.decimal.proofs.Near.{Close, rounds_close}
 use Rattle.decimal.proofs.ClosestWhole.{Within, whole_is, below_when}
@@ -277,7 +277,7 @@ module _ (d j k : ℕ) (some : 0 < d) (less : j < k) (places : k < 23) (below : 
 
 -- No decimal of fewer places, whatever its digits, is read as the number's magnitude by a reader
 -- that rounds once.
-pub fewest_places : (x : Float) (s : Bool) (d k : ℕ) → decimal_of x ≡ Found s d k → (digits places : ℕ) → places < k
+pub fewest_places : (x : Float) (s : Bool) (d k : ℕ) → decimal_of x ≡ found s d k → (digits places : ℕ) → places < k
     → round binary64 false digits (10 ^ places) ≡ abs_of x → ⊥
 unfolding passes_of
 fewest_places x s d k e zero j less reads =
@@ -291,6 +291,6 @@ fewest_places x s d k e (suc n) j less reads =
 -- A number that a decimal is read as is found, where the digits are below 2^50, as up to 15 digits
 -- are, and the places up to 22.
 pub short_decimals_are_found : (x : Float) (digits places : ℕ) → digits < 2 ^ 50 → places < 23 → round binary64 false digits (10 ^ places) ≡ abs_of x
-    → decimal_of x ≡ Nothing → ⊥
+    → decimal_of x ≡ None → ⊥
 short_decimals_are_found x d j few places reads none =
     true≢false (sym (passes_if_few d j few places) ∙ ap (λ (y : Float). passes_of y j) reads ∙ none_passes x none j places)

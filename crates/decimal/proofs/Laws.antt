@@ -15,8 +15,9 @@ use lib.Ieee.Scale.{round_same}
 use Rattle.floats.specs.Binary64.{◌⊗◌, ◌⊘◌}
 use Rattle.floats.specs.Number.{sign_of, abs_of}
 use Rattle.floats.proofs.Laws.{same_are_equal}
-use Rattle.decimal.specs.declared.Decimal.TheVariants.{Found, Nothing}
-use Rattle.decimal.specs.Places.{ten_to, two_to52, whole_of, digits_of, read_of, passes_of, first_from, decimal_of}
+use Rattle.std.specs.declared.option.Option.TheVariants.{None}
+use Rattle.decimal.specs.declared.Decimal.{Decimal}
+use Rattle.decimal.specs.Places.{ten_to, two_to52, whole_of, digits_of, read_of, passes_of, first_from, decimal_of, found}
 use Rattle.decimal.proofs.Tens.{ten_is_exact}
 
 -- ---- what was found, of n numbers of places from k on
@@ -36,13 +37,14 @@ here_or_after a k j p rest i h l = by (eqb k i) refl
     by true e = subst (λ (m : ℕ). passes_of a m ≡ false) (eqb-true k i e) p
     by false e = rest i (omega (arith, eqb-false k i e)) l
 
-found_from : (n : ℕ) (b sign : Bool) (a : Float) (k : ℕ) (s : Bool) (d j : ℕ) → b ≡ passes_of a k → first_from n b sign a k ≡ Found s d j → From n sign a k s d j
+found_from : (n : ℕ) (b sign : Bool) (a : Float) (k : ℕ) (s : Bool) (d j : ℕ) → b ≡ passes_of a k → first_from n b sign a k ≡ found s d j → From n sign a k s d j
 unfolding first_from
 found_from zero b sign a k s d j p e = let z : ◌≡◌ {A = ℕ} 0 1 = cc in absurd (omega arith)
 found_from (suc n) true sign a k s d j p e =
-    let es : s ≡ sign = cc in
-    let ej : k ≡ j = cc in
-    let ed : d ≡ digits_of a j = cc in
+    let same : ◌≡◌ {A = Decimal} (record { negative = sign; digits = digits_of a k; places = k }) (record { negative = s; digits = d; places = j }) = cc in
+    let es : s ≡ sign = sym (ap (λ (w : Decimal). w.negative) same) in
+    let ej : k ≡ j = ap (λ (w : Decimal). w.places) same in
+    let ed : d ≡ digits_of a j = sym (ap (λ (w : Decimal). w.digits) same) ∙ ap (digits_of a) ej in
     record { its-sign = es; its-digits = ed; above = omega arith; below = omega arith; passed = subst (λ (m : ℕ). passes_of a m ≡ true) ej (sym p); before = λ i h l. absurd (omega arith) }
 found_from (suc n) false sign a k s d j p e =
     let r = found_from n (passes_of a (k + 1)) sign a (k + 1) s d j refl e in
@@ -55,20 +57,20 @@ found_from (suc n) false sign a k s d j p e =
       before = here_or_after a k j (sym p) r.before;
     }
 
-of_x : (x : Float) (s : Bool) (d k : ℕ) → decimal_of x ≡ Found s d k → From 23 (sign_of x) (abs_of x) 0 s d k
+of_x : (x : Float) (s : Bool) (d k : ℕ) → decimal_of x ≡ found s d k → From 23 (sign_of x) (abs_of x) 0 s d k
 unfolding decimal_of
 of_x x s d k e = found_from 23 (passes_of (abs_of x) 0) (sign_of x) (abs_of x) 0 s d k refl e
 
 -- ---- where nothing was found no number of places passes
 
-none_from : (n : ℕ) (b sign : Bool) (a : Float) (k : ℕ) → b ≡ passes_of a k → first_from n b sign a k ≡ Nothing → (i : ℕ) → k ≤ i → i < k + n → passes_of a i ≡ false
+none_from : (n : ℕ) (b sign : Bool) (a : Float) (k : ℕ) → b ≡ passes_of a k → first_from n b sign a k ≡ None → (i : ℕ) → k ≤ i → i < k + n → passes_of a i ≡ false
 unfolding first_from
 none_from zero b sign a k p e i h l = absurd (omega arith)
 none_from (suc n) true sign a k p e i h l = let z : ◌≡◌ {A = ℕ} 0 1 = cc in absurd (omega arith)
 none_from (suc n) false sign a k p e i h l =
     here_or_after a k (k + suc n) (sym p) (λ m g f. none_from n (passes_of a (k + 1)) sign a (k + 1) refl e m g (omega arith)) i h l
 
-pub none_passes : (x : Float) → decimal_of x ≡ Nothing → (k : ℕ) → k < 23 → passes_of (abs_of x) k ≡ false
+pub none_passes : (x : Float) → decimal_of x ≡ None → (k : ℕ) → k < 23 → passes_of (abs_of x) k ≡ false
 unfolding decimal_of
 none_passes x e k h = none_from 23 (passes_of (abs_of x) 0) (sign_of x) (abs_of x) 0 refl e k (omega arith) (omega arith)
 
@@ -88,21 +90,21 @@ passed_reads a k h p =
 
 -- the decimal that is found has the number's sign, and its digits over the power of ten are the
 -- number's magnitude
-pub reads_back : (x : Float) (s : Bool) (d k : ℕ) → T (fits binary64 x) → decimal_of x ≡ Found s d k → (s ≡ sign_of x) × (read_of d k ≡ abs_of x)
+pub reads_back : (x : Float) (s : Bool) (d k : ℕ) → T (fits binary64 x) → decimal_of x ≡ found s d k → (s ≡ sign_of x) × (read_of d k ≡ abs_of x)
 reads_back x s d k h e =
     let r = of_x x s d k e in
     (r.its-sign, ap (λ (n : ℕ). read_of n k) r.its-digits ∙ passed_reads (abs_of x) k (abs_fits x h) r.passed)
 
 -- its places pass the test
-pub its_places_pass : (x : Float) (s : Bool) (d k : ℕ) → decimal_of x ≡ Found s d k → passes_of (abs_of x) k ≡ true
+pub its_places_pass : (x : Float) (s : Bool) (d k : ℕ) → decimal_of x ≡ found s d k → passes_of (abs_of x) k ≡ true
 its_places_pass x s d k e = (of_x x s d k e).passed
 
 -- no smaller number of places passes the test, and there are no more than 22
-pub fewest_that_pass : (x : Float) (s : Bool) (d k : ℕ) → decimal_of x ≡ Found s d k → (k < 23) × ((j : ℕ) → j < k → passes_of (abs_of x) j ≡ false)
+pub fewest_that_pass : (x : Float) (s : Bool) (d k : ℕ) → decimal_of x ≡ found s d k → (k < 23) × ((j : ℕ) → j < k → passes_of (abs_of x) j ≡ false)
 fewest_that_pass x s d k e = let r = of_x x s d k e in (omega arith, λ j l. r.before j (omega arith) l)
 
 -- its digits are those of a whole number below 2^52
-pub digits_are_few : (x : Float) (s : Bool) (d k : ℕ) → decimal_of x ≡ Found s d k → d < 2 ^ 52
+pub digits_are_few : (x : Float) (s : Bool) (d k : ℕ) → decimal_of x ≡ found s d k → d < 2 ^ 52
 unfolding digits_of whole_of
 digits_are_few x s d k e = let r = of_x x s d k e in omega (arith, r.its-digits)
 

@@ -5,7 +5,8 @@ use Rattle.std.specs.Float.Ieee.{to_bits, of_int, lt}
 use Rattle.floats.specs.Binary64.{◌⊕◌, ◌⊗◌, ◌⊘◌, bits}
 use Rattle.floats.specs.Number.{sign_of, abs_of, same_of}
 use Rattle.decimal.specs.declared.Decimal.{Decimal}
-use Rattle.decimal.specs.declared.Decimal.TheVariants.{Found, Nothing}
+use Rattle.std.specs.declared.option.Option.{Option}
+use Rattle.std.specs.declared.option.Option.TheVariants.{Some, None}
 
 -- 10^k as a binary64 number, exactly so up to k = 22
 unfoldable pub ten_to : ℕ → Float
@@ -32,13 +33,17 @@ read_of digits k = of_int binary64 (pos digits) ⊘ ten_to k
 unfoldable pub passes_of : Float → ℕ → Bool
 passes_of a k = cond (lt (a ⊗ ten_to k) two_to52) (same_of (read_of (digits_of a k) k) a) false
 
+-- digits / 10^k with its sign is the decimal
+abbrev pub found : Bool → ℕ → ℕ → Option Decimal
+found negative digits k = Some (record { negative = negative; digits = digits; places = k })
+
 -- The first of n numbers of places, from k on, at which a's digits pass. The test at k is an
 -- argument, so that nothing is worked out past the first.
-unfoldable pub first_from : ℕ → Bool → Bool → Float → ℕ → Decimal
-first_from zero b sign a k = Nothing
-first_from (suc n) true sign a k = Found sign (digits_of a k) k
+unfoldable pub first_from : ℕ → Bool → Bool → Float → ℕ → Option Decimal
+first_from zero b sign a k = None
+first_from (suc n) true sign a k = found sign (digits_of a k) k
 first_from (suc n) false sign a k = first_from n (passes_of a (k + 1)) sign a (k + 1)
 
 -- from no place to 22
-unfoldable pub decimal_of : Float → Decimal
+unfoldable pub decimal_of : Float → Option Decimal
 decimal_of x = first_from 23 (passes_of (abs_of x) 0) (sign_of x) (abs_of x) 0

@@ -5,26 +5,23 @@
 // 10^k, rounded once, is what a correct reader makes of the decimal (`read_is_rounded_once`). What
 // is found reads back (`reads_back`), and no decimal of fewer places does, whatever its digits
 // (`fewest_places`). Every decimal of up to 15 digits with no more than 22 places is found
-// (`short_decimals_are_found`); NaN, infinities and numbers that need more are answered `Nothing`.
+// (`short_decimals_are_found`); NaN, infinities and numbers that need more are answered `None`.
 // Used by whoever prints a number for people.
 #![tactic(auto)]
 
 ghost use Rattle.std.specs.Prelude.{◌≡◌, ◌^◌, ◌<◌};
 ghost use Rattle.decimal.specs.Places.{ten_to, whole_of, passes_of, decimal_of};
 
-// D / 10^places, with its sign, or no such decimal.
+// digits / 10^places, with its sign.
 #[derive(Clone, Copy)]
-pub enum Decimal {
-    Found {
-        negative: bool,
-        digits: u64,
-        places: usize,
-    },
-    Nothing,
+pub struct Decimal {
+    pub negative: bool,
+    pub digits: u64,
+    pub places: usize,
 }
 
 // The whole number nearest to p, for p from 0 to below 2^52: the sum with 2^52 rounds to one.
-fn whole(p: f64) -> u64
+pub fn whole(p: f64) -> u64
     ensures { (result ≡ whole_of p) × (result < 2 ^ 52) }
 {
     floats::to_bits(p + 4503599627370496.0) % 4503599627370496
@@ -42,22 +39,20 @@ fn passes(a: f64, ten: f64, k: usize) -> bool
     false
 }
 
-pub fn fewest_places(x: f64) -> Decimal
+pub fn fewest_places(x: f64) -> Option<Decimal>
     ensures { result ≡ decimal_of x }
 {
     let a = floats::abs(x);
     let mut ten = 1.0;
-    let mut k = 0;
-    while k < 23 {
+    for k in 0..23 {
         if passes(a, ten, k) {
-            return Decimal::Found {
+            return Some(Decimal {
                 negative: floats::negative(x),
                 digits: whole(a * ten),
                 places: k,
-            };
+            });
         }
         ten = ten * 10.0;
-        k += 1;
     }
-    Decimal::Nothing
+    None
 }

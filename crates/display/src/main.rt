@@ -24,10 +24,8 @@ fn column(tuples: &[u8], k: usize) -> [f64; 512]
     ensures { 512 ≡ length result }
 {
     let mut c = [0.0; 512];
-    let mut i = 0;
-    while i < 512 {
-        c[i] = words::number(tuples, 32 * i + 8 * k);
-        i += 1;
+    for (i, x) in c.iter_mut().enumerate() {
+        *x = words::number(tuples, 32 * i + 8 * k);
     }
     c
 }
@@ -41,40 +39,29 @@ struct Axis {
     end: f64,
 }
 
-// An axis that takes in every finite number of a column's first n rows; a NaN is no edge yet.
-fn widened(axis: Axis, n: usize, column: &[f64; 512]) -> Axis
-    requires { n ≤ 512 }
-{
-    let mut begin = axis.begin;
-    let mut end = axis.end;
-    let mut i = 0;
-    while i < n {
-        let v = column[i];
+// An axis that takes in every finite number of a column too; a NaN is no edge yet.
+fn widened(axis: Axis, column: &[f64]) -> Axis {
+    let mut wide = axis;
+    for &v in column {
         if floats::is_finite(v) {
-            if !(begin <= v) {
-                begin = v;
+            if !(wide.begin <= v) {
+                wide.begin = v;
             }
-            if !(v <= end) {
-                end = v;
+            if !(v <= wide.end) {
+                wide.end = v;
             }
         }
-        i += 1;
     }
-    Axis {
-        begin: begin,
-        end: end,
-    }
+    wide
 }
 
 // From the least number of two columns to the greatest.
-fn axis_of(n: usize, before: &[f64; 512], after: &[f64; 512]) -> Axis
-    requires { n ≤ 512 }
-{
+fn axis_of(before: &[f64], after: &[f64]) -> Axis {
     let none = Axis {
         begin: 0.0 / 0.0,
         end: 0.0 / 0.0,
     };
-    widened(widened(none, n, before), n, after)
+    widened(widened(none, before), after)
 }
 
 // The pixel of a number of the axis, from 20 to 620; an axis of one number has it in the middle.
@@ -118,41 +105,28 @@ fn put_fix(
     at
 }
 
-// The same for each of n fixes.
+// The same for each fix of two columns.
 fn put_fixes(
     room: &mut [u8],
     at: usize,
-    n: usize,
-    x: &[f64; 512],
-    y: &[f64; 512],
+    x: &[f64],
+    y: &[f64],
     across: Axis,
     down: Axis,
     style: &[u8],
-) -> usize
-    requires { n ≤ 512 }
-{
+) -> usize {
     let mut p = at;
-    let mut i = 0;
-    while i < n {
-        p = put_fix(room, p, x[i], y[i], across, down, style);
-        i += 1;
+    for (&x, &y) in x.iter().zip(y) {
+        p = put_fix(room, p, x, y, across, down, style);
     }
     p
 }
 
-fn put_picture(
-    room: &mut [u8],
-    n: usize,
-    x0: &[f64; 512],
-    y0: &[f64; 512],
-    x: &[f64; 512],
-    y: &[f64; 512],
-) -> usize
-    requires { n ≤ 512 }
+fn put_picture(room: &mut [u8], x0: &[f64], y0: &[f64], x: &[f64], y: &[f64]) -> usize
     ensures { result ≤ length room.new }
 {
-    let across = axis_of(n, x0, x);
-    let up = axis_of(n, y0, y);
+    let across = axis_of(x0, x);
+    let up = axis_of(y0, y);
     let down = Axis {
         begin: up.end, // the greatest latitude is drawn on top
         end: up.begin,
@@ -165,23 +139,13 @@ fn put_picture(
     let b = put_fixes(
         room,
         a,
-        n,
         x0,
         y0,
         across,
         down,
         b" r=\"4\" fill=\"none\" stroke=\"grey\"/>\n",
     );
-    let c = put_fixes(
-        room,
-        b,
-        n,
-        x,
-        y,
-        across,
-        down,
-        b" r=\"3\" fill=\"navy\"/>\n",
-    );
+    let c = put_fixes(room, b, x, y, across, down, b" r=\"3\" fill=\"navy\"/>\n");
     text::put_bytes(room, c, b"</svg>\n")
 }
 
@@ -240,7 +204,7 @@ fn draw(room: &mut [u8], job: &[u8], head: Head, n: usize) -> usize
     if refusal.number != 0 {
         return report::refused(room, 0, refusal.number, refusal.step);
     }
-    put_picture(room, n, &x0, &y0, &x, &y)
+    put_picture(room, &x0[..n], &y0[..n], &x[..n], &y[..n])
 }
 
 fn display(job: &[u8], room: &mut [u8]) -> usize

@@ -1,5 +1,7 @@
 -- Where a sheet breaks rule 4: the byte at which the first word stands that is outside its rule.
 use Rattle.std.specs.Prelude.{ℕ, zero, suc, ◌+◌, not, cond, List, eqb, ltb, length}
+use Rattle.std.specs.declared.option.Option.{Option}
+use Rattle.std.specs.declared.option.Option.TheVariants.{Some, None}
 use Rattle.bodies.specs.Kinds.{length_of}
 use Rattle.sheet.specs.Layout.{step_count_of, directory_offset_of, entry_offset, directory_end, kind_at, inverted_at, offset_at, length_at}
 use Rattle.sheet.specs.Rules.{end_before}
@@ -13,6 +15,10 @@ entry_fault s i =
     (cond (not (eqb (length_at s i) (length_of (kind_at s i)))) 12
     (cond (not (eqb (offset_at s i) (end_before s i))) 8
     16)))
+
+-- the same, or none
+abbrev pub some_fault : ℕ → Option ℕ
+some_fault k = cond (eqb k 16) None (Some k)
 
 -- the first in k entries, from entry i on; where there is none the bodies do not end at the total
 -- length, which stands at byte 4

@@ -8,32 +8,33 @@
 // sheet has that word (`fault_in_the_directory`). Used by `show`.
 #![tactic(auto)]
 
-ghost use Rattle.std.specs.Prelude.{◌≡◌, ◌+◌, ◌<◌, ◌≤◌};
+ghost use Rattle.std.specs.Prelude.{◌≡◌, ◌+◌, ◌<◌, ◌≤◌, IfSome};
 ghost use Rattle.sheet.specs.Layout.{step_count_of};
 ghost use Rattle.sheet.specs.Rules.{end_before};
-ghost use Rattle.faults.specs.Faults.{entry_fault, first_fault, fault_of};
+ghost use Rattle.faults.specs.Faults.{entry_fault, some_fault, first_fault, fault_of};
 
 use sheet::HEADER;
 
-// The body before entry i ends at `end`.
-fn entry_fault(s: &[u8], i: usize, end: usize) -> usize
+// How far into entry i its word outside its rule stands. The body before the entry ends at `end`.
+fn entry_fault(s: &[u8], i: usize, end: usize) -> Option<usize>
     requires { end ≡ end_before s.now i }
-    ensures { (result ≡ entry_fault s.now i) × (result ≤ 16) }
+    ensures fault { result ≡ some_fault (entry_fault s.now i) }
+    ensures within { IfSome result (λ k. k < 16) }
 {
     let length = bodies::length_of(sheet::kind_at(s, i));
     if length == 0 {
-        return 0;
+        return Some(0);
     }
     if 1 < sheet::inverted_at(s, i) {
-        return 4;
+        return Some(4);
     }
     if sheet::length_at(s, i) != length {
-        return 12;
+        return Some(12);
     }
     if words::wide(sheet::offset_at(s, i)) != end {
-        return 8;
+        return Some(8);
     }
-    16
+    None
 }
 
 fn first_fault(s: &[u8], n: usize) -> usize
@@ -41,14 +42,11 @@ fn first_fault(s: &[u8], n: usize) -> usize
     ensures { (result ≡ first_fault s.now n 0) × (result < 4294967296) }
 {
     let mut end = sheet::directory_end(words::read32(s, 8));
-    let mut i = 0;
-    while i < n {
-        let fault = entry_fault(s, i, end);
-        if fault != 16 {
+    for i in 0..n {
+        if let Some(fault) = entry_fault(s, i, end) {
             return sheet::entry_offset(i as u32) + fault;
         }
         end = sheet::end_at(s, i);
-        i += 1;
     }
     4
 }

@@ -1,5 +1,5 @@
 -- The sheet's words in words: flags, conventions, tide systems, kinds and inverted words.
-use Rattle.std.specs.Prelude.{ℕ, ◌/◌, ◌%◌, Bool, cond, List, ◌++◌, eqb}
+use Rattle.std.specs.Prelude.{ℕ, ◌/◌, ◌%◌, Bool, cond, List, [], ◌∷◌, ◌++◌, eqb}
 use Rattle.text.specs.Ascii.{ascii}
 use Rattle.text.specs.Digits.{decimal_of}
 use Rattle.lines.specs.Lines.{flag_text}
@@ -16,6 +16,16 @@ flag4 flags = eqb (flags / 4 % 2) 1
 
 abbrev pub flag8 : ℕ → Bool
 flag8 flags = eqb (flags / 8 % 2) 1
+
+-- of each flag that has a name whether it is set: the first is flag 1, each next is worth twice as
+-- much
+unfoldable pub named_flags : List (List ℕ) → ℕ → List ℕ
+named_flags [] flags = []
+named_flags (name ∷ names) flags = flag_text name (flag1 flags) ++ named_flags names (flags / 2)
+
+-- the number, and then the flags by their names
+unfoldable pub flags_line : List (List ℕ) → ℕ → List ℕ
+flags_line names flags = ascii "  flags: " ++ decimal_of flags ++ named_flags names flags ++ ascii "\n"
 
 -- kind 1: 1 exact, 2 uas, 4 mm, 8 own-epoch
 unfoldable pub helmert_flags : ℕ → List ℕ

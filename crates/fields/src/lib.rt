@@ -8,161 +8,116 @@
 // of any length. Used by `show`.
 #![tactic(auto)]
 
-ghost use Rattle.std.specs.Prelude.{◌≡◌};
+ghost use Rattle.std.specs.Prelude.{◌≡◌, ◌++◌, map};
 ghost use Rattle.text.specs.Text.{text, appended};
 ghost use Rattle.text.specs.Digits.{decimal_of};
-ghost use Rattle.fields.specs.Words.{helmert_flags, molodensky_flags, deformation_flags, badekas_flags, convention_text, convention_line, system_text, system_line, kind_text, kind_line, inverted_text, inverted_line};
+ghost use Rattle.fields.specs.Words.{flags_line, convention_text, convention_line, system_text, system_line, kind_text, kind_line, inverted_text, inverted_line};
 ghost use Rattle.fields.specs.Fields.{length_unit, angle_unit, lengths_text, angles_text, scales_text, helmert_text, cart_text, figures_text, shifts_text, molodensky_text, permtide_text, deformation_text, badekas_numbers, badekas_text, fields_text};
 
 use lines::Unit;
 
 // ----- words ------------------------------------------------------------------------------
 
-fn put_u32(room: &mut [u8], at: usize, n: u32) -> usize
-    ensures { text room.new result ≡ appended (text room.old at) (decimal_of n) }
-{
-    text::put_decimal(room, at, words::wide64(n))
-}
+// The names of the flags 1, 2, 4 .. of each kind that has some.
+const HELMERT_FLAGS: [&[u8]; 4] = [b"; exact ", b"; uas ", b"; mm ", b"; own-epoch "];
 
-fn put_helmert_flags(room: &mut [u8], at: usize, flags: u32) -> usize
-    ensures { text room.new result ≡ appended (text room.old at) (helmert_flags flags) }
+const MOLODENSKY_FLAGS: [&[u8]; 2] = [b"; abridged ", b"; two ellipsoids "];
+
+const DEFORMATION_FLAGS: [&[u8]; 2] = [b"; raw ", b"; comment's sign "];
+
+const BADEKAS_FLAGS: [&[u8]; 3] = [b"; exact ", b"; uas ", b"; mm "];
+
+// A word of flags: its number, and of each flag that has a name whether it is set.
+fn put_flags(room: &mut [u8], at: usize, names: &[&[u8]], flags: u32) -> usize
+    ensures { text room.new result ≡ appended (text room.old at) (flags_line (map (λ name. name.now) names.now) flags) }
 {
     let p = text::put_bytes(room, at, b"  flags: ");
-    let q = put_u32(room, p, flags);
-    let r = lines::put_flag(room, q, b"; exact ", flags % 2 == 1);
-    let t = lines::put_flag(room, r, b"; uas ", flags / 2 % 2 == 1);
-    let u = lines::put_flag(room, t, b"; mm ", flags / 4 % 2 == 1);
-    let v = lines::put_flag(room, u, b"; own-epoch ", flags / 8 % 2 == 1);
-    text::put_bytes(room, v, b"\n")
-}
-
-fn put_molodensky_flags(room: &mut [u8], at: usize, flags: u32) -> usize
-    ensures { text room.new result ≡ appended (text room.old at) (molodensky_flags flags) }
-{
-    let p = text::put_bytes(room, at, b"  flags: ");
-    let q = put_u32(room, p, flags);
-    let r = lines::put_flag(room, q, b"; abridged ", flags % 2 == 1);
-    let t = lines::put_flag(room, r, b"; two ellipsoids ", flags / 2 % 2 == 1);
-    text::put_bytes(room, t, b"\n")
-}
-
-fn put_deformation_flags(room: &mut [u8], at: usize, flags: u32) -> usize
-    ensures { text room.new result ≡ appended (text room.old at) (deformation_flags flags) }
-{
-    let p = text::put_bytes(room, at, b"  flags: ");
-    let q = put_u32(room, p, flags);
-    let r = lines::put_flag(room, q, b"; raw ", flags % 2 == 1);
-    let t = lines::put_flag(room, r, b"; comment's sign ", flags / 2 % 2 == 1);
-    text::put_bytes(room, t, b"\n")
-}
-
-fn put_badekas_flags(room: &mut [u8], at: usize, flags: u32) -> usize
-    ensures { text room.new result ≡ appended (text room.old at) (badekas_flags flags) }
-{
-    let p = text::put_bytes(room, at, b"  flags: ");
-    let q = put_u32(room, p, flags);
-    let r = lines::put_flag(room, q, b"; exact ", flags % 2 == 1);
-    let t = lines::put_flag(room, r, b"; uas ", flags / 2 % 2 == 1);
-    let u = lines::put_flag(room, t, b"; mm ", flags / 4 % 2 == 1);
-    text::put_bytes(room, u, b"\n")
-}
-
-fn put_convention_words(room: &mut [u8], at: usize, n: u32) -> usize
-    ensures { text room.new result ≡ appended (text room.old at) (convention_text n) }
-{
-    if n == 0 {
-        return text::put_bytes(room, at, b" none\n");
+    let mut q = text::put_u32(room, p, flags);
+    let mut left = flags;
+    for name in names {
+        q = lines::put_flag(room, q, name, left % 2 == 1);
+        left /= 2;
     }
-    if n == 1 {
-        return text::put_bytes(room, at, b" position vector\n");
+    text::put_bytes(room, q, b"\n")
+}
+
+// A word of a few values: its name, its number and what the number stands for.
+fn put_code(room: &mut [u8], at: usize, name: &[u8], n: u32, words: &[u8]) -> usize
+    ensures { text room.new result ≡ appended (text room.old at) (name.now ++ decimal_of n ++ words.now) }
+{
+    let p = text::put_bytes(room, at, name);
+    let q = text::put_u32(room, p, n);
+    text::put_bytes(room, q, words)
+}
+
+fn convention_words(n: u32) -> &'static [u8]
+    ensures { result.now ≡ convention_text n }
+{
+    match n {
+        0 => b" none\n",
+        1 => b" position vector\n",
+        2 => b" coordinate frame\n",
+        _ => b" outside its rule\n",
     }
-    if n == 2 {
-        return text::put_bytes(room, at, b" coordinate frame\n");
-    }
-    text::put_bytes(room, at, b" outside its rule\n")
 }
 
 fn put_convention(room: &mut [u8], at: usize, n: u32) -> usize
     ensures { text room.new result ≡ appended (text room.old at) (convention_line n) }
 {
-    let p = text::put_bytes(room, at, b"  convention: ");
-    let q = put_u32(room, p, n);
-    put_convention_words(room, q, n)
+    put_code(room, at, b"  convention: ", n, convention_words(n))
 }
 
-fn put_system_words(room: &mut [u8], at: usize, n: u32) -> usize
-    ensures { text room.new result ≡ appended (text room.old at) (system_text n) }
+fn system_words(n: u32) -> &'static [u8]
+    ensures { result.now ≡ system_text n }
 {
-    if n == 1 {
-        return text::put_bytes(room, at, b" mean\n");
+    match n {
+        1 => b" mean\n",
+        2 => b" zero\n",
+        3 => b" free\n",
+        _ => b" outside its rule\n",
     }
-    if n == 2 {
-        return text::put_bytes(room, at, b" zero\n");
-    }
-    if n == 3 {
-        return text::put_bytes(room, at, b" free\n");
-    }
-    text::put_bytes(room, at, b" outside its rule\n")
 }
 
 fn put_system(room: &mut [u8], at: usize, name: &[u8], n: u32) -> usize
     ensures { text room.new result ≡ appended (text room.old at) (system_line name.now n) }
 {
-    let p = text::put_bytes(room, at, name);
-    let q = put_u32(room, p, n);
-    put_system_words(room, q, n)
+    put_code(room, at, name, n, system_words(n))
 }
 
-fn put_kind_words(room: &mut [u8], at: usize, n: u32) -> usize
-    ensures { text room.new result ≡ appended (text room.old at) (kind_text n) }
+fn kind_words(n: u32) -> &'static [u8]
+    ensures { result.now ≡ kind_text n }
 {
-    if n == 1 {
-        return text::put_bytes(room, at, b" Helmert\n");
+    match n {
+        1 => b" Helmert\n",
+        2 => b" cart\n",
+        3 => b" Molodensky\n",
+        4 => b" permtide\n",
+        5 => b" deformation\n",
+        6 => b" Molodensky-Badekas\n",
+        _ => b" outside its rule\n",
     }
-    if n == 2 {
-        return text::put_bytes(room, at, b" cart\n");
-    }
-    if n == 3 {
-        return text::put_bytes(room, at, b" Molodensky\n");
-    }
-    if n == 4 {
-        return text::put_bytes(room, at, b" permtide\n");
-    }
-    if n == 5 {
-        return text::put_bytes(room, at, b" deformation\n");
-    }
-    if n == 6 {
-        return text::put_bytes(room, at, b" Molodensky-Badekas\n");
-    }
-    text::put_bytes(room, at, b" outside its rule\n")
 }
 
 pub fn put_kind(room: &mut [u8], at: usize, n: u32) -> usize
     ensures { text room.new result ≡ appended (text room.old at) (kind_line n) }
 {
-    let p = text::put_bytes(room, at, b"  kind: ");
-    let q = put_u32(room, p, n);
-    put_kind_words(room, q, n)
+    put_code(room, at, b"  kind: ", n, kind_words(n))
 }
 
-fn put_inverted_words(room: &mut [u8], at: usize, n: u32) -> usize
-    ensures { text room.new result ≡ appended (text room.old at) (inverted_text n) }
+fn inverted_words(n: u32) -> &'static [u8]
+    ensures { result.now ≡ inverted_text n }
 {
-    if n == 0 {
-        return text::put_bytes(room, at, b" no\n");
+    match n {
+        0 => b" no\n",
+        1 => b" yes\n",
+        _ => b" outside its rule\n",
     }
-    if n == 1 {
-        return text::put_bytes(room, at, b" yes\n");
-    }
-    text::put_bytes(room, at, b" outside its rule\n")
 }
 
 pub fn put_inverted(room: &mut [u8], at: usize, n: u32) -> usize
     ensures { text room.new result ≡ appended (text room.old at) (inverted_line n) }
 {
-    let p = text::put_bytes(room, at, b"  inverted: ");
-    let q = put_u32(room, p, n);
-    put_inverted_words(room, q, n)
+    put_code(room, at, b"  inverted: ", n, inverted_words(n))
 }
 
 // ----- kind 1, Helmert -------------------------------------------------------------------
@@ -277,7 +232,7 @@ fn put_helmert(room: &mut [u8], at: usize, s: &[u8], base: u32) -> usize
 {
     let flags = lines::word_in(s, base, 0);
     let convention = lines::word_in(s, base, 4);
-    let p = put_helmert_flags(room, at, flags);
+    let p = put_flags(room, at, &HELMERT_FLAGS, flags);
     let q = put_convention(room, p, convention);
     let r = put_lengths(room, q, s, base, flags / 4 % 2 == 1);
     let t = put_angles(room, r, s, base, flags / 2 % 2 == 1);
@@ -301,7 +256,7 @@ fn put_figures(room: &mut [u8], at: usize, s: &[u8], base: u32) -> usize
     ensures { text room.new result ≡ appended (text room.old at) (figures_text s.now base) }
 {
     let flags = lines::word_in(s, base, 0);
-    let p = put_molodensky_flags(room, at, flags);
+    let p = put_flags(room, at, &MOLODENSKY_FLAGS, flags);
     let q = lines::put_ellipsoid(room, p, b"  first: ", s, base, 4);
     let r = lines::put_ellipsoid(room, q, b"  second: ", s, base, 8);
     lines::put_word(room, r, b"  reserved: ", s, base, 12)
@@ -344,7 +299,7 @@ fn put_deformation(room: &mut [u8], at: usize, s: &[u8], base: u32) -> usize
     ensures { text room.new result ≡ appended (text room.old at) (deformation_text s.now base) }
 {
     let flags = lines::word_in(s, base, 0);
-    let p = put_deformation_flags(room, at, flags);
+    let p = put_flags(room, at, &DEFORMATION_FLAGS, flags);
     let q = lines::put_ellipsoid(room, p, b"  ellipsoid: ", s, base, 4);
     let r = lines::put_time(room, q, b"  dt: ", s, base, 8);
     lines::put_time(room, r, b"  t_epoch: ", s, base, 16)
@@ -375,7 +330,7 @@ fn put_badekas(room: &mut [u8], at: usize, s: &[u8], base: u32) -> usize
 {
     let flags = lines::word_in(s, base, 0);
     let convention = lines::word_in(s, base, 4);
-    let p = put_badekas_flags(room, at, flags);
+    let p = put_flags(room, at, &BADEKAS_FLAGS, flags);
     let q = put_convention(room, p, convention);
     put_badekas_numbers(room, q, s, base, flags / 4 % 2 == 1, flags / 2 % 2 == 1)
 }
@@ -385,23 +340,13 @@ fn put_badekas(room: &mut [u8], at: usize, s: &[u8], base: u32) -> usize
 pub fn put_fields(room: &mut [u8], at: usize, kind: u32, s: &[u8], base: u32) -> usize
     ensures { text room.new result ≡ appended (text room.old at) (fields_text kind s.now base) }
 {
-    if kind == 1 {
-        return put_helmert(room, at, s, base);
+    match kind {
+        1 => put_helmert(room, at, s, base),
+        2 => put_cart(room, at, s, base),
+        3 => put_molodensky(room, at, s, base),
+        4 => put_permtide(room, at, s, base),
+        5 => put_deformation(room, at, s, base),
+        6 => put_badekas(room, at, s, base),
+        _ => text::put_bytes(room, at, b""),
     }
-    if kind == 2 {
-        return put_cart(room, at, s, base);
-    }
-    if kind == 3 {
-        return put_molodensky(room, at, s, base);
-    }
-    if kind == 4 {
-        return put_permtide(room, at, s, base);
-    }
-    if kind == 5 {
-        return put_deformation(room, at, s, base);
-    }
-    if kind == 6 {
-        return put_badekas(room, at, s, base);
-    }
-    text::put_bytes(room, at, b"")
 }

@@ -7,7 +7,8 @@ use Rattle.text.specs.Ascii.{ascii}
 use Rattle.text.specs.Digits.{digits_of, hex_of}
 use Rattle.text.specs.Digits.{decimal_of as whole_text}
 use Rattle.decimal.specs.declared.Decimal.{Decimal}
-use Rattle.decimal.specs.declared.Decimal.TheVariants.{Found, Nothing}
+use Rattle.std.specs.declared.option.Option.{Option}
+use Rattle.std.specs.declared.option.Option.TheVariants.{Some, None}
 use Rattle.decimal.specs.Places.{decimal_of}
 
 unfoldable pub sign_text : Bool → List ℕ
@@ -21,9 +22,9 @@ fraction_text digits k = cond (eqb k 0) [] (ascii "." ++ digits_of 10 k digits)
 unfoldable pub fixed_text : Bool → ℕ → ℕ → List ℕ
 fixed_text negative digits k = sign_text negative ++ whole_text (digits / 10 ^ k) ++ fraction_text digits k
 
-unfoldable pub either_text : Decimal → ℕ → List ℕ
-either_text (Found negative digits k) pattern = fixed_text negative digits k
-either_text Nothing pattern = ascii "bits 0x" ++ hex_of pattern
+unfoldable pub either_text : Option Decimal → ℕ → List ℕ
+either_text (Some shown) pattern = fixed_text shown.negative shown.digits shown.places
+either_text None pattern = ascii "bits 0x" ++ hex_of pattern
 
 -- the number with these 64 bits
 unfoldable pub number_text : ℕ → List ℕ

@@ -20,10 +20,8 @@ fn over(n: u64, k: usize) -> u64
     ensures { result ≡ n / 10 ^ k }
 {
     let mut left = n;
-    let mut i = 0;
-    while i < k {
-        left = left / 10;
-        i += 1;
+    for _ in 0..k {
+        left /= 10;
     }
     left
 }
@@ -35,14 +33,13 @@ fn digit(d: u64) -> u8
     48 + d as u8
 }
 
-// The last k digits of n.
+// The last k digits of n. Not `text`'s own writer of digits: k may pass 20, where ten to the k does
+// not fit.
 fn put_places(room: &mut [u8], at: usize, n: u64, k: usize) -> usize
     ensures { text room.new result ≡ appended (text room.old at) (digits_of 10 k n) }
 {
     let mut p = text::put_bytes(room, at, b"");
-    let mut left = k;
-    while 0 < left {
-        left -= 1;
+    for left in (0..k).rev() {
         p = text::put_byte(room, p, digit(over(n, left) % 10));
     }
     p
@@ -67,25 +64,20 @@ fn put_sign(room: &mut [u8], at: usize, negative: bool) -> usize
     text::put_bytes(room, at, b"")
 }
 
-fn put_fixed(room: &mut [u8], at: usize, negative: bool, digits: u64, k: usize) -> usize
-    ensures { text room.new result ≡ appended (text room.old at) (fixed_text negative digits k) }
+fn put_fixed(room: &mut [u8], at: usize, shown: Decimal) -> usize
+    ensures { text room.new result ≡ appended (text room.old at) (fixed_text shown.negative shown.digits shown.places) }
 {
-    let p = put_sign(room, at, negative);
-    let q = text::put_decimal(room, p, over(digits, k));
-    put_fraction(room, q, digits, k)
+    let p = put_sign(room, at, shown.negative);
+    let q = text::put_decimal(room, p, over(shown.digits, shown.places));
+    put_fraction(room, q, shown.digits, shown.places)
 }
 
 pub fn put_number(room: &mut [u8], at: usize, pattern: u64) -> usize
     ensures { text room.new result ≡ appended (text room.old at) (number_text pattern) }
 {
-    let shown = decimal::fewest_places(floats::of_bits(pattern));
-    match shown {
-        Decimal::Found {
-            negative,
-            digits,
-            places,
-        } => put_fixed(room, at, negative, digits, places),
-        Decimal::Nothing => {
+    match decimal::fewest_places(floats::of_bits(pattern)) {
+        Some(shown) => put_fixed(room, at, shown),
+        None => {
             let p = text::put_bytes(room, at, b"bits 0x");
             text::put_hex(room, p, pattern)
         }

@@ -15,6 +15,7 @@ pub fn read_full<R: Read>(reader: &mut R, room: &mut [u8]) -> io::Result<usize>
     ensures all { IfOk result (λ n. n < length room.new → IsAtEnd (R.remaining reader.new)) }
 {
     let mut done = 0;
+    // A read gives as many bytes as it likes, so no range counts the turns.
     while done < room.len() {
         let n = reader.read(&mut room[done..])?;
         if n == 0 {

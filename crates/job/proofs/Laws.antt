@@ -1,16 +1,13 @@
 -- What is true of jobs, for callers to cite. Assumes nothing.
 use mathlib.Core.Path.{◌≡◌, refl, sym, ap, ◌∙◌}
-use Prim.Native.Nat.{ℕ, zero, suc, ◌+◌, ◌-◌, ◌<◌, ◌≤◌, min}
-use mathlib.Core.Bool.{Bool, true, false}
+use Prim.Native.Nat.{ℕ, zero, suc, ◌+◌, ◌-◌, ◌*◌, ◌<◌, ◌≤◌}
 use mathlib.Core.List.{List, ◌++◌, append-nil}
 use native.Mathlib.Omega.{arith}
 use native.Mathlib.Nat.{add_assoc, add-zero, zero-add, sub-zero}
 use native.Mathlib.Numerals.{add-one}
-use lib.Dec.{ltb}
-use lib.ListN.{length, take, drop, set, drop_of_length-le}
-use lib.Seq.{get_or-drop, drop-drop, drop-length, take-suc-set, append_snoc, take_all}
+use lib.ListN.{length, take, drop, set}
+use lib.Seq.{get_or-drop, drop-drop, take-suc-set, append_snoc, take_all}
 use lib.Ieee.{Float}
-use borrow.Author.Tests.{ltb-true, ltb-false}
 use Rattle.words.specs.Words.{word32, word64, number_at}
 use Rattle.job.specs.Job.{numbers_of}
 
@@ -26,32 +23,18 @@ pub number_in_rest : (bs : List ℕ) (at : ℕ) → number_at (drop at bs) 0 ≡
 unfolding number_at word64 word32
 number_in_rest bs at = simp (get_or-drop, add-zero, zero-add, add_assoc)
 
--- eight bytes on, or the end, is the rest without its first eight
-pub eight-on : (bs : List ℕ) (at : ℕ) → drop (min (at + 8) (length bs)) bs ≡ drop 8 (drop at bs)
-eight-on bs at = by (ltb (length bs) (at + 8)) refl
-  where
-    by : (b : Bool) → ltb (length bs) (at + 8) ≡ b → drop (min (at + 8) (length bs)) bs ≡ drop 8 (drop at bs)
-    by true e =
-        let h = ltb-true (length bs) (at + 8) e in
-        let m : min (at + 8) (length bs) ≡ length bs = omega arith in
-        let k : length bs ≤ at + 8 = omega arith in
-        rw (m, drop-drop 8 at bs, drop_of_length-le bs k, drop-length bs)
-    by false e =
-        let h = ltb-false (length bs) (at + 8) e in
-        let m : min (at + 8) (length bs) ≡ at + 8 = omega arith in
-        rw (m, drop-drop 8 at bs)
-
 -- one more number put into a list: what is done and what is to come
-pub one_more : (l : List Float) (i n at : ℕ) (bs : List ℕ) (whole : List Float) → i < length l → length l ≡ n
-    → take i l ++ numbers_of (n - i) (drop at bs) ≡ whole
-    → take (i + 1) (set l i (number_at bs at)) ++ numbers_of (n - (i + 1)) (drop (min (at + 8) (length bs)) bs) ≡ whole
+pub one_more : (l : List Float) (i n : ℕ) (bs : List ℕ) (whole : List Float) → i < length l → length l ≡ n
+    → take i l ++ numbers_of (n - i) (drop (8 * i) bs) ≡ whole
+    → take (i + 1) (set l i (number_at bs (8 * i))) ++ numbers_of (n - (i + 1)) (drop (8 * (i + 1)) bs) ≡ whole
 unfolding numbers_of
-one_more l i n at bs whole h e w =
+one_more l i n bs whole h e w =
     let p : n - i ≡ suc (n - suc i) = omega arith in
-    rw (eight-on bs at, ← number_in_rest bs at, add-one i, take-suc-set l i (number_at (drop at bs) 0) h, append_snoc) (rw p at w)
+    let q : 8 * (i + 1) ≡ 8 * i + 8 = omega arith in
+    rw (q, ← drop-drop 8 (8 * i) bs, ← number_in_rest bs (8 * i), add-one i, take-suc-set l i (number_at (drop (8 * i) bs) 0) h, append_snoc) (rw p at w)
 
 -- before the first, and past the last
-pub none_yet : (l : List Float) (bs : List ℕ) → take 0 l ++ numbers_of (length l - 0) (drop 0 bs) ≡ numbers_of (length l) bs
+pub none_yet : (l : List Float) (bs : List ℕ) → take 0 l ++ numbers_of (length l - 0) (drop (8 * 0) bs) ≡ numbers_of (length l) bs
 none_yet l bs = rw (sub-zero (length l))
 
 pub all_read : (l : List Float) (i n : ℕ) (bs : List ℕ) (whole : List Float) → length l ≡ n → n ≤ i → take i l ++ numbers_of (n - i) bs ≡ whole → l ≡ whole

@@ -7,10 +7,10 @@
 // number, every NaN the one NaN. Used by `answer`.
 #![tactic(auto)]
 
-ghost use Rattle.std.specs.Prelude.{◌≡◌, ◌+◌, ◌<◌, min, length};
+ghost use Rattle.std.specs.Prelude.{◌≡◌, ◌<◌, length};
 ghost use Rattle.job.specs.Job.{head_of, tuples_at, velocities_at, marks_at, end_at, refusal16, numbers_of};
 
-// The four words in front.
+// The four words in front, raw: rule 16 judges the direction as the number that it is.
 #[derive(Clone, Copy)]
 pub struct Head {
     pub direction: u32,
@@ -65,23 +65,7 @@ pub fn is_bad(head: Head, bytes: usize) -> bool
 pub fn numbers(bytes: &[u8], list: &mut [f64])
     ensures { list.new ≡ numbers_of (length list.old) bytes.now }
 {
-    let mut at = 0;
-    let mut i = 0;
-    while i < list.len() {
-        list[i] = words::number(bytes, at);
-        at = next(at, bytes.len());
-        i += 1;
+    for (i, x) in list.iter_mut().enumerate() {
+        *x = words::number(bytes, 8 * i);
     }
-}
-
-// Eight bytes on, or the end.
-fn next(at: usize, end: usize) -> usize
-    ensures { result ≡ min (at + 8) end }
-{
-    if at < end {
-        if 8 <= end - at {
-            return at + 8;
-        }
-    }
-    end
 }

@@ -41,23 +41,23 @@ pub fn word_in(s: &[u8], base: u32, k: u32) -> u32
 
 // ----- units ------------------------------------------------------------------------------
 
-fn put_unit(room: &mut [u8], at: usize, unit: Unit) -> usize
-    ensures { text room.new result ≡ appended (text room.old at) (unit_text unit) }
+fn unit_words(unit: Unit) -> &'static [u8]
+    ensures { result.now ≡ unit_text unit }
 {
     match unit {
-        Unit::Plain => text::put_bytes(room, at, b""),
-        Unit::Metre => text::put_bytes(room, at, b" m"),
-        Unit::Millimetre => text::put_bytes(room, at, b" mm"),
-        Unit::Arcsecond => text::put_bytes(room, at, b" arcsec"),
-        Unit::MicroArcsecond => text::put_bytes(room, at, b" micro-arcsec"),
-        Unit::Ppm => text::put_bytes(room, at, b" ppm"),
+        Unit::Plain => b"",
+        Unit::Metre => b" m",
+        Unit::Millimetre => b" mm",
+        Unit::Arcsecond => b" arcsec",
+        Unit::MicroArcsecond => b" micro-arcsec",
+        Unit::Ppm => b" ppm",
     }
 }
 
 fn put_end(room: &mut [u8], at: usize, unit: Unit, rate: bool) -> usize
     ensures { text room.new result ≡ appended (text room.old at) (end_text unit rate) }
 {
-    let p = put_unit(room, at, unit);
+    let p = text::put_bytes(room, at, unit_words(unit));
     if rate {
         return text::put_bytes(room, p, b"/year\n");
     }
@@ -256,32 +256,18 @@ pub fn put_single(
 
 // ----- ellipsoids -------------------------------------------------------------------------
 
-fn put_ellipsoid_name(room: &mut [u8], at: usize, number: u32) -> usize
-    ensures { text room.new result ≡ appended (text room.old at) (ellipsoid_text number) }
+fn ellipsoid_words(number: u32) -> &'static [u8]
+    ensures { result.now ≡ ellipsoid_text number }
 {
-    if number == 1 {
-        return text::put_bytes(room, at, b" GRS80, a 6378137 m, 1/f 298.257222101\n");
+    match number {
+        0 => b" none\n",
+        1 => b" GRS80, a 6378137 m, 1/f 298.257222101\n",
+        2 => b" WGS84, a 6378137 m, 1/f 298.257223563\n",
+        3 => b" International 1924, a 6378388 m, 1/f 297\n",
+        4 => b" Bessel 1841, a 6377397.155 m, 1/f 299.1528128\n",
+        5 => b" Krassowsky 1940, a 6378245 m, 1/f 298.3\n",
+        _ => b" not in the table\n",
     }
-    if number == 2 {
-        return text::put_bytes(room, at, b" WGS84, a 6378137 m, 1/f 298.257223563\n");
-    }
-    if number == 3 {
-        return text::put_bytes(room, at, b" International 1924, a 6378388 m, 1/f 297\n");
-    }
-    if number == 4 {
-        return text::put_bytes(
-            room,
-            at,
-            b" Bessel 1841, a 6377397.155 m, 1/f 299.1528128\n",
-        );
-    }
-    if number == 5 {
-        return text::put_bytes(room, at, b" Krassowsky 1940, a 6378245 m, 1/f 298.3\n");
-    }
-    if number == 0 {
-        return text::put_bytes(room, at, b" none\n");
-    }
-    text::put_bytes(room, at, b" not in the table\n")
 }
 
 pub fn put_ellipsoid(room: &mut [u8], at: usize, name: &[u8], s: &[u8], base: u32, k: u32) -> usize
@@ -291,5 +277,5 @@ pub fn put_ellipsoid(room: &mut [u8], at: usize, name: &[u8], s: &[u8], base: u3
     let number = words::read32(s, place);
     let p = text::put_bytes(room, at, name);
     let q = figures::put_word_at(room, p, s, place);
-    put_ellipsoid_name(room, q, number)
+    text::put_bytes(room, q, ellipsoid_words(number))
 }

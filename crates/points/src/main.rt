@@ -30,15 +30,9 @@ fn print_refusal(out: &impl Print, number: u32, step: u32) -> io::Result<()> {
     println!(out; "  refused {number} step {step}")
 }
 
-fn print_count(out: &impl Print, n: usize) -> io::Result<()> {
-    print!(out; " {n}")
-}
-
 fn print_each(out: &impl Print, counts: [usize; 16]) -> io::Result<()> {
-    let mut i = 0;
-    while i < 16 {
-        print_count(out, counts[i])?;
-        i += 1;
+    for &n in &counts {
+        print!(out; " {n}")?;
     }
     Ok(())
 }
@@ -90,10 +84,8 @@ fn put_sheet(s: &mut [u8], n: usize)
     requires { n ≤ 17 }
 {
     put_header(s, narrow(n), narrow(length_of(n)));
-    let mut i = 0;
-    while i < n {
+    for i in 0..n {
         put_step(s, n, i);
-        i += 1;
     }
 }
 
@@ -108,11 +100,9 @@ fn room() -> [f64; 8196]
 // Numbers a step apart, so that no two fixes are the same.
 fn spread(list: &mut [f64]) {
     let mut x = -1.5;
-    let mut i = 0;
-    while i < list.len() {
-        list[i] = x;
-        x = x + 0.0003;
-        i += 1;
+    for v in list.iter_mut() {
+        *v = x;
+        x += 0.0003;
     }
 }
 

@@ -1,13 +1,12 @@
 -- A line for each count and each tuple, one after another. Assumes nothing.
 use mathlib.Core.Path.{◌≡◌, refl}
-use Prim.Native.Nat.{ℕ, zero, suc, ◌+◌, ◌-◌, ◌*◌, ◌/◌, ◌<◌, ◌≤◌}
+use Prim.Native.Nat.{ℕ, zero, suc, ◌+◌, ◌*◌, ◌/◌, ◌<◌, ◌≤◌}
 use mathlib.Core.Bool.{Bool, true, false, cond}
 use mathlib.Core.List.{List, [], ◌∷◌, ◌++◌}
 use lib.Dec.{eqb}
 use native.Mathlib.Omega.{arith}
 use native.Mathlib.Numerals.{add-one}
-use lib.ListN.{length, take, drop, get_or, length-append, length-take, length-drop, drop_of_length-le}
-use lib.Seq.{drop-cons, get_or-take}
+use lib.ListN.{length, take, get_or, length-append, length-take}
 use lib.Ieee.{Float, nan}
 use Rattle.text.specs.Ascii.{ascii}
 use Rattle.text.proofs.Laws.{length_hex, decimal_is_short}
@@ -15,57 +14,36 @@ use Rattle.report.specs.Report.{line_of, refused_text, reach_text, count_text, c
 
 -- ---- counts
 
-pub past_the_end : (numbers : List ℕ) (i : ℕ) → length numbers ≤ i → get_or numbers i 0 ≡ 0
-past_the_end [] i h = refl
-past_the_end (n ∷ numbers) zero h = absurd (omega (arith, h))
-past_the_end (n ∷ numbers) (suc i) h = past_the_end numbers i (omega (arith, h))
-
-pub next_count : (met : ℕ → ℕ) (steps i : ℕ) (counts : List ℕ) → i < length counts → i < steps
-    → counts_text met i (drop i (take steps counts)) ≡ count_text (i + 1) (get_or counts i 0) (met i) ++ counts_text met (i + 1) (drop (i + 1) (take steps counts))
+pub next_count : (met : ℕ → ℕ) (i c n n' : ℕ) (counts rest : List ℕ) → counts ≡ c ∷ rest → n' + 1 ≡ n
+    → counts_text met i (take n counts) ≡ count_text (i + 1) c (met i) ++ counts_text met (i + 1) (take n' rest)
 unfolding counts_text
-next_count met steps i counts h k =
-    let there : i < length (take steps counts) = simp length-take (omega arith) in
-    rw (drop-cons (take steps counts) i 0 there, get_or-take steps counts i 0 k, add-one i)
+next_count met i c n n' counts rest e k = rw (e, ← k, add-one n')
 
-pub no_count : (met : ℕ → ℕ) (steps i : ℕ) (counts : List ℕ) → steps ≤ i → counts_text met i (drop i (take steps counts)) ≡ []
+pub no_count : (met : ℕ → ℕ) (i n : ℕ) (counts : List ℕ) → (0 < n → length counts ≡ 0) → counts_text met i (take n counts) ≡ []
 unfolding counts_text
-no_count met steps i counts h =
-    let past : length (take steps counts) ≤ i = simp length-take (omega arith) in
-    rw (drop_of_length-le (take steps counts) past)
-
-pub all_counted : (met : ℕ → ℕ) (steps i : ℕ) (counts : List ℕ) → length counts ≤ i → counts_text met i (drop i (take steps counts)) ≡ []
-unfolding counts_text
-all_counted met steps i counts h =
-    let past : length (take steps counts) ≤ i = simp length-take (omega arith) in
-    rw (drop_of_length-le (take steps counts) past)
+no_count met i zero counts h = refl
+no_count met i (suc n) [] h = refl
+no_count met i (suc n) (c ∷ counts) h = let z = h (omega arith) in absurd (omega arith)
 
 -- ---- tuples
 
-four-there : (l : List Float) (i : ℕ) → i + 4 ≤ length l
-    → drop i l ≡ get_or l i nan ∷ get_or l (i + 1) nan ∷ get_or l (i + 2) nan ∷ get_or l (i + 3) nan ∷ drop (i + 4) l
-four-there l i h =
-    let e1 : i + 1 ≡ suc i = omega arith in
-    let e2 : i + 2 ≡ suc (suc i) = omega arith in
-    let e3 : i + 3 ≡ suc (suc (suc i)) = omega arith in
-    let e4 : i + 4 ≡ suc (suc (suc (suc i))) = omega arith in
-    rw (e1, e2, e3, e4)
-    (rw (drop-cons l i nan (omega arith), drop-cons l (suc i) nan (omega arith), drop-cons l (suc (suc i)) nan (omega arith), drop-cons l (suc (suc (suc i))) nan (omega arith)))
-
-pub next_tuple : (l : List Float) (i : ℕ) → i + 4 ≤ length l
-    → tuples_text (drop i l) ≡ tuple_text (get_or l i nan) (get_or l (i + 1) nan) (get_or l (i + 2) nan) (get_or l (i + 3) nan) ++ tuples_text (drop (i + 4) l)
+pub next_tuple : (v rest : List Float) → length v ≡ 4
+    → tuples_text (v ++ rest) ≡ tuple_text (get_or v 0 nan) (get_or v 1 nan) (get_or v 2 nan) (get_or v 3 nan) ++ tuples_text rest
 unfolding tuples_text
-next_tuple l i h = rw (four-there l i h)
+next_tuple (x ∷ y ∷ z ∷ t ∷ []) rest h = refl
+next_tuple [] rest h = absurd (omega arith)
+next_tuple (x ∷ []) rest h = absurd (omega arith)
+next_tuple (x ∷ y ∷ []) rest h = absurd (omega arith)
+next_tuple (x ∷ y ∷ z ∷ []) rest h = absurd (omega arith)
+next_tuple (x ∷ y ∷ z ∷ t ∷ u ∷ l) rest h = absurd (omega arith)
 
-short : (l : List Float) → length l < 4 → tuples_text l ≡ []
+pub no_tuple : (l : List Float) → length l < 4 → tuples_text l ≡ []
 unfolding tuples_text
-short [] h = refl
-short (x ∷ []) h = refl
-short (x ∷ y ∷ []) h = refl
-short (x ∷ y ∷ z ∷ []) h = refl
-short (x ∷ y ∷ z ∷ t ∷ l) h = absurd (omega arith)
-
-pub no_tuple : (l : List Float) (i : ℕ) → length l - i < 4 → tuples_text (drop i l) ≡ []
-no_tuple l i h = short (drop i l) (simp length-drop (omega arith))
+no_tuple [] h = refl
+no_tuple (x ∷ []) h = refl
+no_tuple (x ∷ y ∷ []) h = refl
+no_tuple (x ∷ y ∷ z ∷ []) h = refl
+no_tuple (x ∷ y ∷ z ∷ t ∷ l) h = absurd (omega arith)
 
 -- ---- how long the text is
 

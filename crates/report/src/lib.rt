@@ -87,10 +87,7 @@ fn put_count(room: &mut [u8], at: usize, step: usize, count: usize, met: usize) 
 fn met_at(mets: &[usize], i: usize) -> usize
     ensures { result ≡ met_in mets.now i }
 {
-    if i < mets.len() {
-        return mets[i];
-    }
-    0
+    mets.get(i).copied().unwrap_or(0)
 }
 
 // A line for each step's count, no more than there are.
@@ -98,14 +95,8 @@ fn put_counts(room: &mut [u8], at: usize, steps: usize, counts: &[usize], mets: 
     ensures { text room.new result ≡ appended (text room.old at) (counts_text (met_in mets.now) 0 (take steps counts.now)) }
 {
     let mut p = text::put_bytes(room, at, b"");
-    let mut i = 0;
-    while i < counts.len() {
-        if steps <= i {
-            return p;
-        }
-        let met = met_at(mets, i);
-        p = put_count(room, p, i + 1, counts[i], met);
-        i += 1;
+    for (i, &count) in counts.iter().take(steps).enumerate() {
+        p = put_count(room, p, i + 1, count, met_at(mets, i));
     }
     p
 }
@@ -132,10 +123,8 @@ fn put_tuples(room: &mut [u8], at: usize, list: &[f64]) -> usize
     ensures { text room.new result ≡ appended (text room.old at) (tuples_text list.now) }
 {
     let mut p = text::put_bytes(room, at, b"");
-    let mut i = 0;
-    while 4 <= list.len() - i {
-        p = put_tuple(room, p, list[i], list[i + 1], list[i + 2], list[i + 3]);
-        i += 4;
+    for v in list.chunks_exact(4) {
+        p = put_tuple(room, p, v[0], v[1], v[2], v[3]);
     }
     p
 }

@@ -6,7 +6,7 @@ use Rattle.text.specs.Digits.{decimal_of}
 use Rattle.rescue.specs.Rebuilt.{rebuilt_of}
 use Rattle.rescue.specs.Changes.{Change, change_of, changes_of}
 use Rattle.rescue.specs.Rules.{rescue_refusal_of}
-use Rattle.show.specs.Show.{rule_text, show_text}
+use Rattle.show.specs.Show.{rule_text, told_text, show_text}
 
 -- ---- a word by its place
 
@@ -57,7 +57,7 @@ refusal_words n =
     (cond (eqb n 15) (ascii "room or list too short\n") (rule_text n))
 
 unfoldable pub refused_text : ℕ → ℕ → List ℕ
-refused_text number step = ascii "refused " ++ decimal_of number ++ ascii " step " ++ decimal_of step ++ ascii ": " ++ refusal_words number
+refused_text number step = told_text number step (refusal_words number)
 
 -- ---- a rescue, of a damaged sheet and the lengths of room and list
 

@@ -13,54 +13,40 @@ ghost use Rattle.rescue.specs.Changes.{change_of};
 ghost use Rattle.rescue.specs.Rules.{rescue_refusal_of, rescue_of};
 ghost use Rattle.rescue_text.specs.RescueText.{header_name, entry_name, word_name, change_line, lines_from, rescued_around, refusal_words, refused_text, rescue_text};
 
-fn put_number(room: &mut [u8], at: usize, n: u32) -> usize
-    ensures { text room.new result ≡ appended (text room.old at) (decimal_of n) }
-{
-    text::put_decimal(room, at, words::wide64(n))
-}
-
 // ----- a word by its place --------------------------------------------------------------------
 
-fn put_header_name(room: &mut [u8], at: usize, place: u32) -> usize
-    ensures { text room.new result ≡ appended (text room.old at) (header_name place) }
+fn header_name(place: u32) -> &'static [u8]
+    ensures { result.now ≡ header_name place }
 {
-    if place == 0 {
-        return text::put_bytes(room, at, b"form");
+    match place {
+        0 => b"form",
+        4 => b"total length",
+        8 => b"step count",
+        _ => b"directory offset",
     }
-    if place == 4 {
-        return text::put_bytes(room, at, b"total length");
-    }
-    if place == 8 {
-        return text::put_bytes(room, at, b"step count");
-    }
-    text::put_bytes(room, at, b"directory offset")
 }
 
-fn put_entry_name(room: &mut [u8], at: usize, k: u32) -> usize
-    ensures { text room.new result ≡ appended (text room.old at) (entry_name k) }
+fn entry_name(k: u32) -> &'static [u8]
+    ensures { result.now ≡ entry_name k }
 {
-    if k == 0 {
-        return text::put_bytes(room, at, b"kind");
+    match k {
+        0 => b"kind",
+        4 => b"inverted",
+        8 => b"body offset",
+        _ => b"body length",
     }
-    if k == 4 {
-        return text::put_bytes(room, at, b"inverted");
-    }
-    if k == 8 {
-        return text::put_bytes(room, at, b"body offset");
-    }
-    text::put_bytes(room, at, b"body length")
 }
 
 fn put_name(room: &mut [u8], at: usize, place: u32) -> usize
     ensures { text room.new result ≡ appended (text room.old at) (word_name place) }
 {
     if place < 16 {
-        return put_header_name(room, at, place);
+        return text::put_bytes(room, at, header_name(place));
     }
     let p = text::put_bytes(room, at, b"step ");
-    let q = put_number(room, p, place / 16);
+    let q = text::put_u32(room, p, place / 16);
     let r = text::put_bytes(room, q, b", ");
-    put_entry_name(room, r, place % 16)
+    text::put_bytes(room, r, entry_name(place % 16))
 }
 
 // ----- the changes ----------------------------------------------------------------------------
@@ -70,9 +56,9 @@ fn put_change(room: &mut [u8], at: usize, place: u32, old: u32, new: u32) -> usi
 {
     let p = put_name(room, at, place);
     let q = text::put_bytes(room, p, b": ");
-    let r = put_number(room, q, old);
+    let r = text::put_u32(room, q, old);
     let t = text::put_bytes(room, r, b" is ");
-    let u = put_number(room, t, new);
+    let u = text::put_u32(room, t, new);
     text::put_bytes(room, u, b"\n")
 }
 
@@ -81,12 +67,8 @@ fn put_changes(room: &mut [u8], at: usize, list: &[u32], n: usize) -> usize
     ensures { text room.new result ≡ appended (text room.old at) (lines_from list.now n 0) }
 {
     let mut p = text::put_bytes(room, at, b"");
-    let mut k = 0;
-    let mut i = 0;
-    while i < n {
-        p = put_change(room, p, list[k], list[k + 1], list[k + 2]);
-        k += 3;
-        i += 1;
+    for i in 0..n {
+        p = put_change(room, p, list[3 * i], list[3 * i + 1], list[3 * i + 2]);
     }
     p
 }
@@ -105,31 +87,21 @@ fn put_rescued(room: &mut [u8], at: usize, list: &[u32], n: usize, sheet: &[u8])
 
 // ----- a refusal ------------------------------------------------------------------------------
 
-fn put_words(room: &mut [u8], at: usize, number: u32) -> usize
-    ensures { text room.new result ≡ appended (text room.old at) (refusal_words number) }
+fn refusal_words(number: u32) -> &'static [u8]
+    ensures { result.now ≡ refusal_words number }
 {
-    if number == 19 {
-        return text::put_bytes(
-            room,
-            at,
+    match number {
+        15 => b"room or list too short\n",
+        19 =>
             b"cannot be rebuilt: fewer than 16 bytes, step count 0 or over 16, a directory past the end, a kind or inverted word outside its rule, or bodies that do not fill the remaining bytes exactly\n",
-        );
+        _ => show::rule_words(number),
     }
-    if number == 15 {
-        return text::put_bytes(room, at, b"room or list too short\n");
-    }
-    show::put_rule(room, at, number)
 }
 
 fn put_refused(room: &mut [u8], at: usize, number: u32, step: u32) -> usize
     ensures { text room.new result ≡ appended (text room.old at) (refused_text number step) }
 {
-    let p = text::put_bytes(room, at, b"refused ");
-    let q = put_number(room, p, number);
-    let r = text::put_bytes(room, q, b" step ");
-    let t = put_number(room, r, step);
-    let u = text::put_bytes(room, t, b": ");
-    put_words(room, u, number)
+    show::put_refusal(room, at, number, step, refusal_words(number))
 }
 
 // ----- a rescue -------------------------------------------------------------------------------

@@ -19,7 +19,7 @@ use Rattle.figures.specs.Figures.{sign_text, fraction_text, fixed_text, either_t
 use Rattle.lines.specs.Lines.{word_line, ellipsoid_text, ellipsoid_line}
 use Rattle.fields.specs.Words.{kind_text, kind_line, inverted_text, inverted_line}
 use Rattle.fields.specs.Fields.{cart_text, fields_text}
-use Rattle.show.specs.Show.{line_of, head_line, head_text, entry_text, step_text, steps_text, accepted_text, rule_text, answer_text, word_place, sheet_place, refused_text, show_text}
+use Rattle.show.specs.Show.{line_of, head_line, head_text, entry_text, step_text, steps_text, accepted_text, rule_text, told_text, word_place, sheet_place, refused_text, show_text}
 
 -- a sheet's bytes, given as words
 bytes : List ℕ → List ℕ
@@ -41,7 +41,7 @@ P7_is_shown :
     show_text (take 39 p1)
     ≡ ascii
     "refused 1 step 0: fewer than 16 or more than 4,240 bytes, or total length differs\nplace: byte 4\nbytes: 39\nform: 1\ntotal length: 40\nstep count: 1\ndirectory offset: 16\n"
-unfolding p1 bytes le32 word32 refusal1 reader_order first_broken refusal_of digits_of places_of decimal_of line_of head_line head_text rule_text answer_text word_place sheet_place refused_text show_text
+unfolding p1 bytes le32 word32 refusal1 reader_order first_broken refusal_of digits_of places_of decimal_of line_of head_line head_text rule_text told_text word_place sheet_place refused_text show_text
 P7_is_shown = refl
 
 -- two of the header's words are there, and two are not
@@ -49,5 +49,5 @@ cut_header_is_shown :
     show_text (take 11 p1)
     ≡ ascii
     "refused 1 step 0: fewer than 16 or more than 4,240 bytes, or total length differs\nplace: byte 4\nbytes: 11\nform: 1\ntotal length: 40\nstep count: missing\ndirectory offset: missing\n"
-unfolding p1 bytes le32 word32 refusal1 reader_order first_broken refusal_of digits_of places_of decimal_of line_of head_line head_text rule_text answer_text word_place sheet_place refused_text show_text
+unfolding p1 bytes le32 word32 refusal1 reader_order first_broken refusal_of digits_of places_of decimal_of line_of head_line head_text rule_text told_text word_place sheet_place refused_text show_text
 cut_header_is_shown = refl

@@ -62,8 +62,12 @@ rule_text n =
     (cond (eqb n 8) (ascii "neither dt nor t_epoch\n")
     (ascii "second deformation step\n"))))))))
 
-unfoldable pub answer_text : ℕ → ℕ → List ℕ
-answer_text number step = ascii "refused " ++ decimal_of number ++ ascii " step " ++ decimal_of step ++ ascii ": " ++ rule_text number
+-- a refusal's number and step, and its rule in some words
+unfoldable pub told_text : ℕ → ℕ → List ℕ → List ℕ
+told_text number step words = ascii "refused " ++ decimal_of number ++ ascii " step " ++ decimal_of step ++ ascii ": " ++ words
+
+abbrev pub answer_text : ℕ → ℕ → List ℕ
+answer_text number step = told_text number step (rule_text number)
 
 -- the byte of the word that a refusal of the sheet as a whole is about: 1 the total length, 2 the
 -- form, 3 the step count, 4 where the fault is

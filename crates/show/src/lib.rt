@@ -11,7 +11,7 @@
 ghost use Rattle.std.specs.Prelude.{◌≡◌, ◌+◌, ◌-◌, ◌<◌, ◌≤◌, length};
 ghost use Rattle.text.specs.Text.{text, appended};
 ghost use Rattle.text.specs.Digits.{decimal_of};
-ghost use Rattle.show.specs.Show.{line_of, head_line, head_text, entry_text, step_text, steps_text, accepted_text, rule_text, answer_text, word_place, sheet_place, step_place, refused_text, show_text};
+ghost use Rattle.show.specs.Show.{line_of, head_line, head_text, entry_text, step_text, steps_text, accepted_text, rule_text, told_text, word_place, sheet_place, step_place, refused_text, show_text};
 
 fn put_count(room: &mut [u8], at: usize, n: usize) -> usize
     ensures { text room.new result ≡ appended (text room.old at) (decimal_of n) }
@@ -92,10 +92,8 @@ fn put_steps(room: &mut [u8], at: usize, s: &[u8], n: usize) -> usize
     ensures { text room.new result ≡ appended (text room.old at) (steps_text s.now n 0) }
 {
     let mut p = text::put_bytes(room, at, b"");
-    let mut i = 0;
-    while i < n {
+    for i in 0..n {
         p = put_step(room, p, s, i);
-        i += 1;
     }
     p
 }
@@ -110,75 +108,52 @@ fn put_accepted(room: &mut [u8], at: usize, s: &[u8]) -> usize
 
 // ----- a refusal --------------------------------------------------------------------------
 
+// The rule in document 01's words.
+pub fn rule_words(number: u32) -> &'static [u8]
+    ensures { result.now ≡ rule_text number }
+{
+    match number {
+        1 => b"fewer than 16 or more than 4,240 bytes, or total length differs\n",
+        2 => b"form not 1\n",
+        3 => b"step count 0 or over 16\n",
+        4 =>
+            b"directory offset not 16, a directory outside the sheet, a kind, inverted word or body length outside its rule, an offset not where the body before it ends, or bodies not ending at the total length\n",
+        5 => b"a body field outside its rule\n",
+        6 => b"rotated, convention none\n",
+        7 => b"dynamic, t_epoch not given\n",
+        8 => b"neither dt nor t_epoch\n",
+        _ => b"second deformation step\n",
+    }
+}
+
 pub fn put_rule(room: &mut [u8], at: usize, number: u32) -> usize
     ensures { text room.new result ≡ appended (text room.old at) (rule_text number) }
 {
-    if number == 1 {
-        return text::put_bytes(
-            room,
-            at,
-            b"fewer than 16 or more than 4,240 bytes, or total length differs\n",
-        );
-    }
-    if number == 2 {
-        return text::put_bytes(room, at, b"form not 1\n");
-    }
-    if number == 3 {
-        return text::put_bytes(room, at, b"step count 0 or over 16\n");
-    }
-    if number == 4 {
-        return text::put_bytes(
-            room,
-            at,
-            b"directory offset not 16, a directory outside the sheet, a kind, inverted word or body length outside its rule, an offset not where the body before it ends, or bodies not ending at the total length\n",
-        );
-    }
-    if number == 5 {
-        return text::put_bytes(room, at, b"a body field outside its rule\n");
-    }
-    if number == 6 {
-        return text::put_bytes(room, at, b"rotated, convention none\n");
-    }
-    if number == 7 {
-        return text::put_bytes(room, at, b"dynamic, t_epoch not given\n");
-    }
-    if number == 8 {
-        return text::put_bytes(room, at, b"neither dt nor t_epoch\n");
-    }
-    text::put_bytes(room, at, b"second deformation step\n")
+    text::put_bytes(room, at, rule_words(number))
 }
 
-fn put_answer(room: &mut [u8], at: usize, number: u32, step: u32) -> usize
-    ensures { text room.new result ≡ appended (text room.old at) (answer_text number step) }
+// A refusal's number and step, and its rule in words.
+pub fn put_refusal(room: &mut [u8], at: usize, number: u32, step: u32, words: &[u8]) -> usize
+    ensures { text room.new result ≡ appended (text room.old at) (told_text number step words.now) }
 {
     let p = text::put_bytes(room, at, b"refused ");
-    let q = put_number(room, p, number);
+    let q = text::put_u32(room, p, number);
     let r = text::put_bytes(room, q, b" step ");
-    let t = put_number(room, r, step);
+    let t = text::put_u32(room, r, step);
     let u = text::put_bytes(room, t, b": ");
-    put_rule(room, u, number)
-}
-
-fn put_number(room: &mut [u8], at: usize, n: u32) -> usize
-    ensures { text room.new result ≡ appended (text room.old at) (decimal_of n) }
-{
-    put_count(room, at, words::wide(n))
+    text::put_bytes(room, u, words)
 }
 
 // The byte of the word that a refusal of the sheet as a whole is about.
 fn word_place(s: &[u8], number: u32) -> usize
     ensures { result ≡ word_place s.now number }
 {
-    if number == 1 {
-        return 4;
+    match number {
+        1 => 4,
+        2 => 0,
+        3 => 8,
+        _ => faults::fault(s),
     }
-    if number == 2 {
-        return 0;
-    }
-    if number == 3 {
-        return 8;
-    }
-    faults::fault(s)
 }
 
 fn put_sheet_place(room: &mut [u8], at: usize, s: &[u8], number: u32) -> usize
@@ -204,7 +179,7 @@ fn put_step_place(room: &mut [u8], at: usize, s: &[u8], i: u32) -> usize
 fn put_refused(room: &mut [u8], at: usize, s: &[u8], number: u32, step: u32) -> usize
     ensures { text room.new result ≡ appended (text room.old at) (refused_text s.now number step) }
 {
-    let p = put_answer(room, at, number, step);
+    let p = put_refusal(room, at, number, step, rule_words(number));
     if step == 0 {
         return put_sheet_place(room, p, s, number);
     }

@@ -1,4 +1,4 @@
 -- What the proofs of this crate share, and the laws that callers cite.
 pub mod Laws
 pub mod Examples
-mod Powers
+pub mod Powers

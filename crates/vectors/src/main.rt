@@ -16,28 +16,27 @@ use std::io::Read;
 use std::rt::Files;
 use std::{fs, io};
 
-// What a record was: its line of the report, its tuples, and in how many words it differed; or that
-// the file ended too soon.
+// What a record was: its line of the report, its tuples, and in how many words it differed.
 #[derive(Clone, Copy)]
 struct Found {
-    whole: bool,
     line: usize,
     tuples: u64,
     differences: u64,
 }
 
-fn cut_short() -> Found {
-    Found {
-        whole: false,
-        line: 0,
-        tuples: 0,
-        differences: 0,
-    }
+// A line of the report.
+#[derive(Clone, Copy)]
+struct Totals {
+    jobs: u64,
+    tuples: u64,
+    differences: u64,
 }
 
-fn widest(n: usize) -> u64 {
-    n as u64
-}
+const NOTHING: Totals = Totals {
+    jobs: 0,
+    tuples: 0,
+    differences: 0,
+};
 
 // ----- the report ---------------------------------------------------------------------------
 
@@ -57,44 +56,53 @@ fn print_name(out: &impl Print, line: usize) -> io::Result<()> {
     }
 }
 
-fn print_totals(out: &impl Print, jobs: u64, tuples: u64, differences: u64) -> io::Result<()> {
-    println!(out; "{jobs} jobs, {tuples} tuples, {differences} differences")
+fn print_totals(out: &impl Print, totals: Totals) -> io::Result<()> {
+    println!(out;
+        "{} jobs, {} tuples, {} differences",
+        totals.jobs, totals.tuples, totals.differences
+    )
 }
 
 fn print_record(out: &impl Print, number: u32, found: Found) -> io::Result<()> {
-    print!(out; "record {number}")?;
-    if found.whole {
-        println!(out; ": {} differences", found.differences)
-    } else {
-        println!(out; " is cut short")
-    }
+    println!(out; "record {number}: {} differences", found.differences)
+}
+
+fn print_cut_short(out: &impl Print, number: u32) -> io::Result<()> {
+    println!(out; "record {number} is cut short")
 }
 
 // ----- totals, a line each ----------------------------------------------------------------------
 
-fn add(totals: &mut [u64; 12], line: usize, n: u64) {
-    if line < 12 {
-        totals[line] = std::num::wrapping_add_u64(totals[line], n);
+fn added(totals: Totals, more: Totals) -> Totals {
+    Totals {
+        jobs: totals.jobs.wrapping_add(more.jobs),
+        tuples: totals.tuples.wrapping_add(more.tuples),
+        differences: totals.differences.wrapping_add(more.differences),
     }
 }
 
-fn sum(totals: &[u64; 12]) -> u64 {
-    let mut all = 0;
-    for line in 0..12 {
-        all = std::num::wrapping_add_u64(all, totals[line]);
+// One record more.
+fn counted(totals: Totals, found: Found) -> Totals {
+    let more = Totals {
+        jobs: 1,
+        tuples: found.tuples,
+        differences: found.differences,
+    };
+    added(totals, more)
+}
+
+fn sum(lines: &[Totals; 12]) -> Totals {
+    let mut all = NOTHING;
+    for &totals in lines {
+        all = added(all, totals);
     }
     all
 }
 
-fn print_lines(
-    out: &impl Print,
-    jobs: &[u64; 12],
-    tuples: &[u64; 12],
-    differences: &[u64; 12],
-) -> io::Result<()> {
-    for line in 0..12 {
+fn print_lines(out: &impl Print, lines: &[Totals; 12]) -> io::Result<()> {
+    for (line, &totals) in lines.iter().enumerate() {
         print_name(out, line)?;
-        print_totals(out, jobs[line], tuples[line], differences[line])?;
+        print_totals(out, totals)?;
     }
     Ok(())
 }
@@ -159,28 +167,29 @@ fn line_of(job: &[u8]) -> usize
 // A record without its lengths: the job, then its answer.
 fn judged(both: &[u8], size: usize) -> Found
     requires { size ≤ length both.now }
+    ensures { result.line < 12 }
 {
     let job = &both[0..size];
     Found {
-        whole: true,
         line: line_of(job),
         tuples: words::read32(job, 8) as u64,
-        differences: widest(record::replay(job, &both[size..])),
+        differences: record::replay(job, &both[size..]) as u64,
     }
 }
 
-// The next bytes of the file are a record: the room is as long as it.
-fn judged_in<R: Read>(file: &mut R, room: &mut [u8], size: usize) -> io::Result<Found>
+// The next bytes of the file are a record: the room is as long as it. None where the file ends
+// too soon.
+fn judged_in<R: Read>(file: &mut R, room: &mut [u8], size: usize) -> io::Result<Option<Found>>
     requires { size ≤ length room.old }
 {
     if read_whole(file, room)? {
-        return Ok(judged(room, size));
+        return Ok(Some(judged(room, size)));
     }
-    Ok(cut_short())
+    Ok(None)
 }
 
 // A record's two lengths, and then the record.
-fn job_into<R: Read>(file: &mut R, room: &mut [u8]) -> io::Result<Found> {
+fn job_into<R: Read>(file: &mut R, room: &mut [u8]) -> io::Result<Option<Found>> {
     let mut head = [0u8; 8];
     if read_whole(file, &mut head)? {
         let size = words::read32(&head, 0) as usize;
@@ -189,10 +198,10 @@ fn job_into<R: Read>(file: &mut R, room: &mut [u8]) -> io::Result<Found> {
             return judged_in(file, &mut room[0..end], size);
         }
     }
-    Ok(cut_short())
+    Ok(None)
 }
 
-fn next_job<R: Read>(file: &mut R) -> io::Result<Found> {
+fn next_job<R: Read>(file: &mut R) -> io::Result<Option<Found>> {
     let mut room = [0u8; 4096];
     job_into(file, &mut room)
 }
@@ -201,100 +210,79 @@ fn replay_jobs<R: Read>(
     out: &impl Print,
     file: &mut R,
     count: u32,
-    jobs: &mut [u64; 12],
-    tuples: &mut [u64; 12],
-    differences: &mut [u64; 12],
+    lines: &mut [Totals; 12],
 ) -> io::Result<()> {
-    let mut i = 0;
-    while i < count {
-        let found = next_job(file)?;
-        if found.differences != 0 {
-            print_record(out, i, found)?;
-        }
-        if found.whole {
-            add(jobs, found.line, 1);
-            add(tuples, found.line, found.tuples);
-            add(differences, found.line, found.differences);
-            i += 1;
-        } else {
-            print_record(out, i, found)?;
-            i = count;
+    for number in 0..count {
+        match next_job(file)? {
+            Some(found) => {
+                if found.differences != 0 {
+                    print_record(out, number, found)?;
+                }
+                if let Some(totals) = lines.get_mut(found.line) {
+                    *totals = counted(*totals, found);
+                }
+            }
+            None => return print_cut_short(out, number),
         }
     }
     Ok(())
 }
 
 fn replay_answers(rt: &(impl Files + Print)) -> io::Result<()> {
-    let mut jobs = [0u64; 12];
-    let mut tuples = [0u64; 12];
-    let mut differences = [0u64; 12];
+    let mut lines = [NOTHING; 12];
     let mut file = fs::open(rt, "answers.bin")?;
     let count = record_count(&mut file)?;
-    replay_jobs(
-        rt,
-        &mut file,
-        count,
-        &mut jobs,
-        &mut tuples,
-        &mut differences,
-    )?;
+    replay_jobs(rt, &mut file, count, &mut lines)?;
     close(rt, file)?;
     print!(rt; "answers.bin: ")?;
-    print_totals(rt, sum(&jobs), sum(&tuples), sum(&differences))?;
-    print_lines(rt, &jobs, &tuples, &differences)
+    print_totals(rt, sum(&lines))?;
+    print_lines(rt, &lines)
 }
 
 // ----- geographic.bin ---------------------------------------------------------------------------
 
 // A tuple of `geographic`, which belongs to no line.
-fn next_place<R: Read>(file: &mut R) -> io::Result<Found> {
+fn next_place<R: Read>(file: &mut R) -> io::Result<Option<Found>> {
     let mut place = [0u8; 72];
     if read_whole(file, &mut place)? {
-        return Ok(Found {
-            whole: true,
+        return Ok(Some(Found {
             line: 0,
             tuples: 1,
-            differences: widest(record::place(&place)),
-        });
+            differences: record::place(&place) as u64,
+        }));
     }
-    Ok(cut_short())
+    Ok(None)
 }
 
-fn replay_places<R: Read>(
-    out: &impl Print,
-    file: &mut R,
-    count: u32,
-    tuples: &mut [u64; 12],
-    differences: &mut [u64; 12],
-) -> io::Result<()> {
-    let mut i = 0;
-    while i < count {
-        let found = next_place(file)?;
-        if found.differences != 0 {
-            print_record(out, i, found)?;
-        }
-        if found.whole {
-            add(tuples, found.line, found.tuples);
-            add(differences, found.line, found.differences);
-            i += 1;
-        } else {
-            print_record(out, i, found)?;
-            i = count;
+// The totals of the places that the file has.
+fn replay_places<R: Read>(out: &impl Print, file: &mut R, count: u32) -> io::Result<Totals> {
+    let mut totals = NOTHING;
+    for number in 0..count {
+        match next_place(file)? {
+            Some(found) => {
+                if found.differences != 0 {
+                    print_record(out, number, found)?;
+                }
+                totals = counted(totals, found);
+            }
+            None => {
+                print_cut_short(out, number)?;
+                return Ok(totals);
+            }
         }
     }
-    Ok(())
+    Ok(totals)
 }
 
 fn replay_geographic(rt: &(impl Files + Print)) -> io::Result<()> {
-    let mut tuples = [0u64; 12];
-    let mut differences = [0u64; 12];
     let mut file = fs::open(rt, "geographic.bin")?;
     let count = record_count(&mut file)?;
-    replay_places(rt, &mut file, count, &mut tuples, &mut differences)?;
+    let totals = replay_places(rt, &mut file, count)?;
     close(rt, file)?;
-    let tuples = sum(&tuples);
-    let differences = sum(&differences);
-    println!(rt; "geographic.bin: {tuples} tuples, {differences} differences")
+    println!(rt;
+        "geographic.bin: {} tuples, {} differences",
+        totals.tuples, totals.differences
+    )
 }
 
 fn main(rt: HostRuntime) -> io::Result<()> {

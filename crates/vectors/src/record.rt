@@ -33,13 +33,11 @@ fn differing_counts(s: &[u8], at: usize, counts: &[usize; 16]) -> usize
     ensures { (result ≡ differing_counts s.now at counts.now) × (result ≤ 16) }
 {
     let mut n = 0;
-    let mut i = 0;
-    while i < 16 {
+    for (i, &count) in counts.iter().enumerate() {
         n += differing(
-            words::long(counts[i]),
+            words::long(count),
             words::wide64(words::read32(s, at + 4 * i)),
         );
-        i += 1;
     }
     n
 }
@@ -49,10 +47,8 @@ fn differing_numbers(s: &[u8], at: usize, list: &[f64]) -> usize
     ensures { (result ≡ differing_numbers s.now at list.now) × (result ≤ 96) }
 {
     let mut n = 0;
-    let mut i = 0;
-    while i < list.len() {
-        n += differing(floats::to_bits(list[i]), words::read64(s, at + 8 * i));
-        i += 1;
+    for (i, &x) in list.iter().enumerate() {
+        n += differing(floats::to_bits(x), words::read64(s, at + 8 * i));
     }
     n
 }
@@ -71,10 +67,8 @@ fn fill(s: &[u8], at: usize, list: &mut [f64])
     requires { (at < 8589934592) × (length list.old ≤ 96) }
     ensures { list.new ≡ numbers_of s.now at (length list.old) }
 {
-    let mut i = 0;
-    while i < list.len() {
-        list[i] = words::number(s, at + 8 * i);
-        i += 1;
+    for (i, x) in list.iter_mut().enumerate() {
+        *x = words::number(s, at + 8 * i);
     }
 }
 

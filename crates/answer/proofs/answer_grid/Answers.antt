@@ -4,6 +4,7 @@ use mathlib.Core.Path.{sym, ap, ◌∙◌}
 use Prim.Native.Nat.{◌+◌}
 use lib.Seq.{length-take-le}
 use Rattle.text.specs.Text.{text, appended}
+use Rattle.answer.specs.Answer.{is_lent, grid_in}
 use Rattle.answer.proofs.Laws.{cut_short, two_parts}
 use Rattle.answer.proofs.answer_grid.Goals as goal
 
@@ -18,6 +19,7 @@ pub slice_bounds-answered-end-2 : goal.slice_bounds-answered-end-2
 slice_bounds-answered-end-2 c = sym (length-take-le (c.marks_at.result + c.wide.result) c.args.bytes.now c.if-bytes-end.false)
 
 pub returns : goal.returns
+unfolding is_lent grid_in
 returns c =
     c.answered.ensures
     ∙ ap (appended (text c.args.room.now 0))

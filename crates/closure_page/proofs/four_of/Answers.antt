@@ -25,4 +25,5 @@ loop-k-preserved c = let w = c.whole-digits.ensures.0 in
 pub returns : goal.returns
 returns c = let left : 22 - c.loop-k.k ≡ 0 = omega arith in
     let found = c.loop-k.invariant.2 ∙ places-end _ _ _ left in
-    (sym found, c.whole.ensures.0 ∙ rw (found, ← c.loop-k.invariant.1), omega arith)
+    let last : c.loop-k.k ≡ 22 = omega arith in
+    (sym (found ∙ last), c.whole.ensures.0 ∙ rw (found, ← c.loop-k.invariant.1), omega arith)

@@ -1,16 +1,40 @@
--- One case each for no word, the word chart and another. Assumes nothing.
-use borrow.Author.Tests.{eq-eqb, ne_eqb}
-use Rattle.closure_page.specs.Page.{profile_asked}
+-- One case for each way the word is matched. Assumes nothing.
+use borrow.Author.Rules.{rules}
+use Rattle.closure_page.specs.Page.{is_chart, profile_asked}
 use Rattle.closure_page.proofs.profile_asked.Goals as goal
 
-pub returns-then-word-eq0 : goal.returns-then-word-eq0
-unfolding profile_asked
-returns-then-word-eq0 c = rw (eq-eqb _ _ c.if-word-eq0.true)
+pub returns-in-empty : goal.returns-in-empty
+unfolding is_chart profile_asked
+returns-in-empty c = search rules
 
-pub returns-then-is_chart : goal.returns-then-is_chart
-unfolding profile_asked
-returns-then-is_chart c = rw (ne_eqb _ 0 c.if-word-eq0.false, ← c.is_chart.ensures, c.if-is_chart.true)
+pub returns-in-chart : goal.returns-in-chart
+unfolding is_chart profile_asked
+returns-in-chart c = search rules
 
-pub returns : goal.returns
-unfolding profile_asked
-returns c = rw (ne_eqb _ 0 c.if-word-eq0.false, ← c.is_chart.ensures, c.if-is_chart.false)
+pub returns-in_default : goal.returns-in_default
+unfolding is_chart profile_asked
+returns-in_default c = search rules
+
+pub returns-in_default-2 : goal.returns-in_default-2
+unfolding is_chart profile_asked
+returns-in_default-2 c = search rules
+
+pub returns-in_default-3 : goal.returns-in_default-3
+unfolding is_chart profile_asked
+returns-in_default-3 c = search rules
+
+pub returns-in_default-4 : goal.returns-in_default-4
+unfolding is_chart profile_asked
+returns-in_default-4 c = search rules
+
+pub returns-in_default-5 : goal.returns-in_default-5
+unfolding is_chart profile_asked
+returns-in_default-5 c = search rules
+
+pub returns-in_default-6 : goal.returns-in_default-6
+unfolding is_chart profile_asked
+returns-in_default-6 c = search rules
+
+pub returns-in_default-7 : goal.returns-in_default-7
+unfolding is_chart profile_asked
+returns-in_default-7 c = search rules

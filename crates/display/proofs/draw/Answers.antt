@@ -20,6 +20,3 @@ slice_bounds-shift-end-4 c = sym (length-take-le _ _ (search rules))
 
 pub returns-then-refusal-ne0 : goal.returns-then-refusal-ne0
 returns-then-refusal-ne0 c = place_within _ _ c.refused.ensures
-
-pub put_picture-requires : goal.put_picture-requires
-put_picture-requires c = c.requires.2

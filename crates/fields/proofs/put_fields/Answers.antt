@@ -1,33 +1,32 @@
--- One case for each way through the tests. Calls are replaced by what they ensure; the definition
--- is left. Assumes nothing.
-use borrow.Author.Tests.{ne_eqb}
+-- One case for each kind, and one for a number that is no kind. Assumes nothing.
+use borrow.Author.Rules.{rules}
 use Rattle.fields.specs.Fields.{fields_text}
 use Rattle.fields.proofs.put_fields.Goals as goal
 
-pub returns-then-kind-eq1 : goal.returns-then-kind-eq1
+pub returns-in-1 : goal.returns-in-1
 unfolding fields_text
-returns-then-kind-eq1 c = rw c.if-kind-eq1.true c.put_helmert.ensures
+returns-in-1 c = rw c.in-1.is c.put_helmert.ensures
 
-pub returns-then-kind-eq2 : goal.returns-then-kind-eq2
+pub returns-in-2 : goal.returns-in-2
 unfolding fields_text
-returns-then-kind-eq2 c = rw (ne_eqb _ _ c.if-kind-eq1.false, c.if-kind-eq2.true) c.put_cart.ensures
+returns-in-2 c = rw c.in-2.is c.put_cart.ensures
 
-pub returns-then-kind-eq3 : goal.returns-then-kind-eq3
+pub returns-in-3 : goal.returns-in-3
 unfolding fields_text
-returns-then-kind-eq3 c = rw (ne_eqb _ _ c.if-kind-eq1.false, ne_eqb _ _ c.if-kind-eq2.false, c.if-kind-eq3.true) c.put_molodensky.ensures
+returns-in-3 c = rw c.in-3.is c.put_molodensky.ensures
 
-pub returns-then-kind-eq4 : goal.returns-then-kind-eq4
+pub returns-in-4 : goal.returns-in-4
 unfolding fields_text
-returns-then-kind-eq4 c = rw (ne_eqb _ _ c.if-kind-eq1.false, ne_eqb _ _ c.if-kind-eq2.false, ne_eqb _ _ c.if-kind-eq3.false, c.if-kind-eq4.true) c.put_permtide.ensures
+returns-in-4 c = rw c.in-4.is c.put_permtide.ensures
 
-pub returns-then-kind-eq5 : goal.returns-then-kind-eq5
+pub returns-in-5 : goal.returns-in-5
 unfolding fields_text
-returns-then-kind-eq5 c = rw (ne_eqb _ _ c.if-kind-eq1.false, ne_eqb _ _ c.if-kind-eq2.false, ne_eqb _ _ c.if-kind-eq3.false, ne_eqb _ _ c.if-kind-eq4.false, c.if-kind-eq5.true) c.put_deformation.ensures
+returns-in-5 c = rw c.in-5.is c.put_deformation.ensures
 
-pub returns-then-kind-eq6 : goal.returns-then-kind-eq6
+pub returns-in-6 : goal.returns-in-6
 unfolding fields_text
-returns-then-kind-eq6 c = rw (ne_eqb _ _ c.if-kind-eq1.false, ne_eqb _ _ c.if-kind-eq2.false, ne_eqb _ _ c.if-kind-eq3.false, ne_eqb _ _ c.if-kind-eq4.false, ne_eqb _ _ c.if-kind-eq5.false, c.if-kind-eq6.true) c.put_badekas.ensures
+returns-in-6 c = rw c.in-6.is c.put_badekas.ensures
 
-pub returns : goal.returns
+pub returns-in_default : goal.returns-in_default
 unfolding fields_text
-returns c = rw (ne_eqb _ _ c.if-kind-eq1.false, ne_eqb _ _ c.if-kind-eq2.false, ne_eqb _ _ c.if-kind-eq3.false, ne_eqb _ _ c.if-kind-eq4.false, ne_eqb _ _ c.if-kind-eq5.false, ne_eqb _ _ c.if-kind-eq6.false) c.put_bytes.ensures
+returns-in_default c = search rules

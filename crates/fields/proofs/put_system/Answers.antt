@@ -1,8 +1,7 @@
--- By `then`, from what the calls ensure. Assumes nothing.
-use Rattle.text.proofs.Laws.{then}
+-- The words are the table's; the definition is left. Assumes nothing.
 use Rattle.fields.specs.Words.{system_line}
 use Rattle.fields.proofs.put_system.Goals as goal
 
 pub returns : goal.returns
 unfolding system_line
-returns c = then _ _ _ (then _ _ _ c.put_bytes-p.ensures c.put_u32-q.ensures) c.put_system_words.ensures
+returns c = rw c.system_words.ensures at c.put_code.ensures

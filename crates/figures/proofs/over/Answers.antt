@@ -5,14 +5,14 @@ use native.Mathlib.Numerals.{add-one}
 use native.Mathlib.Nat.{pow-zero, pow-suc, div-div-eq-div-mul, div-one}
 use Rattle.figures.proofs.over.Goals as goal
 
-pub loop-i-init : goal.loop-i-init
-loop-i-init c = (omega arith, rw (pow-zero 10) (sym (div-one c.args.n)))
+pub loop-init : goal.loop-init
+loop-init c = (omega arith, rw (pow-zero 10) (sym (div-one c.args.n)))
 
-pub loop-i-preserved : goal.loop-i-preserved
-loop-i-preserved c =
-    (omega arith, rw (add-one c.loop-i.i, pow-suc 10 c.loop-i.i, ← div-div-eq-div-mul) (ap (λ (m : ℕ). m / 10) c.loop-i.invariant.1))
+pub loop-preserved : goal.loop-preserved
+loop-preserved c =
+    (omega arith, rw (add-one c.loop.counter, pow-suc 10 c.loop.counter, ← div-div-eq-div-mul) (ap (λ (m : ℕ). m / 10) c.loop.invariant.1))
 
 pub returns : goal.returns
 returns c =
-    let e : c.loop-i.i ≡ c.args.k = omega arith in
-    rw (← e) c.loop-i.invariant.1
+    let e : c.loop.counter ≡ c.args.k = omega arith in
+    rw (← e) c.loop.invariant.1

@@ -12,8 +12,7 @@ loop-i-preserved c =
     let inv = c.loop-i.invariant in (
       search rules,
       simp length-set (search rules),
-      rw (c.next-at.ensures, c.number.ensures)
-          (one_more c.loop-i.list c.loop-i.i (length c.args.list.now) c.loop-i.at c.args.bytes.now _ (search rules) inv.1 inv.2),
+      rw c.number.ensures (one_more c.loop-i.list c.loop-i.i (length c.args.list.now) c.args.bytes.now _ (search rules) inv.1 inv.2),
     )
 
 pub shape_of-list : goal.shape_of-list

@@ -1,6 +1,6 @@
 -- Invariant: i is at most n, and the room is as long as at the start. The contract says nothing of
 -- the bytes. The proof is that n, at most 17, and i, below n, are what `narrow` and `put_step` ask
--- for, that no arithmetic overflows, and that the loop ends. The measure is n - i. Assumes nothing.
+-- for, and that no arithmetic overflows. Assumes nothing.
 use mathlib.Core.Path.{◌≡◌}
 use Prim.Native.Nat.{◌≤◌, ◌-◌}
 use lib.ListN.{length}
@@ -8,6 +8,3 @@ use Rattle.points.proofs.put_sheet.Given as goal
 
 abbrev pub invariant-loop-i : goal.invariant-loop-i
 invariant-loop-i l = (l.i ≤ l.n) × (length l.s ≡ length l.initial.s)
-
-abbrev pub decreases-loop-i : goal.decreases-loop-i
-decreases-loop-i l = l.n - l.i

@@ -1,8 +1,7 @@
--- By `then`, from what the calls ensure. Assumes nothing.
-use Rattle.text.proofs.Laws.{then}
+-- The words are the table's; the definition is left. Assumes nothing.
 use Rattle.rescue_text.specs.RescueText.{refused_text}
 use Rattle.rescue_text.proofs.put_refused.Goals as goal
 
 pub returns : goal.returns
 unfolding refused_text
-returns c = then _ _ _ (then _ _ _ (then _ _ _ (then _ _ _ (then _ _ _ c.put_bytes-p.ensures c.put_number-q.ensures) c.put_bytes-r.ensures) c.put_number-t.ensures) c.put_bytes-u.ensures) c.put_words.ensures
+returns c = rw c.refusal_words.ensures at c.put_refusal.ensures

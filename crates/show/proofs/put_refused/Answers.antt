@@ -7,10 +7,10 @@ use Rattle.show.proofs.put_refused.Goals as goal
 
 pub returns-then-step-eq0 : goal.returns-then-step-eq0
 unfolding refused_text
-returns-then-step-eq0 c = rw (eq-eqb _ _ c.if-step-eq0.true) (then _ _ _ c.put_answer-p.ensures c.put_sheet_place.ensures)
+returns-then-step-eq0 c = rw (eq-eqb _ _ c.if-step-eq0.true) (then _ _ _ (rw c.rule_words.ensures at c.put_refusal-p.ensures) c.put_sheet_place.ensures)
 
 pub returns : goal.returns
 unfolding refused_text
 returns c =
     rw (ne_eqb _ _ c.if-step-eq0.false)
-    (then _ _ _ c.put_answer-p.ensures c.put_step_place.ensures)
+    (then _ _ _ (rw c.rule_words.ensures at c.put_refusal-p.ensures) c.put_step_place.ensures)

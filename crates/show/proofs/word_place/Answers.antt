@@ -1,21 +1,20 @@
--- One case for each way through the tests. Calls are replaced by what they ensure; the definition
--- is left. Assumes nothing.
-use borrow.Author.Tests.{ne_eqb}
+-- One case for each arm. Assumes nothing.
+use borrow.Author.Rules.{rules}
 use Rattle.show.specs.Show.{word_place}
 use Rattle.show.proofs.word_place.Goals as goal
 
-pub returns-then-number-eq1 : goal.returns-then-number-eq1
+pub returns-in-1 : goal.returns-in-1
 unfolding word_place
-returns-then-number-eq1 c = rw c.if-number-eq1.true
+returns-in-1 c = rw c.in-1.is
 
-pub returns-then-number-eq2 : goal.returns-then-number-eq2
+pub returns-in-2 : goal.returns-in-2
 unfolding word_place
-returns-then-number-eq2 c = rw c.if-number-eq2.true
+returns-in-2 c = rw c.in-2.is
 
-pub returns-then-number-eq3 : goal.returns-then-number-eq3
+pub returns-in-3 : goal.returns-in-3
 unfolding word_place
-returns-then-number-eq3 c = rw c.if-number-eq3.true
+returns-in-3 c = rw c.in-3.is
 
-pub returns : goal.returns
+pub returns-in_default : goal.returns-in_default
 unfolding word_place
-returns c = rw (ne_eqb _ _ c.if-number-eq1.false, ne_eqb _ _ c.if-number-eq2.false, ne_eqb _ _ c.if-number-eq3.false, c.fault.ensures.0)
+returns-in_default c = search rules

@@ -10,9 +10,6 @@ pub loop-i-init : goal.loop-i-init
 unfolding numbers_of
 loop-i-init c = (search rules, refl, refl)
 
-pub loop-i-smaller : goal.loop-i-smaller
-loop-i-smaller c = omega (arith, length-set c.loop-i.list c.loop-i.i c.number.result)
-
 pub loop-i-preserved : goal.loop-i-preserved
 loop-i-preserved c =
     let l = c.loop-i in
