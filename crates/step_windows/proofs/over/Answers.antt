@@ -71,9 +71,9 @@ loop-i-preserved c =
     let fits = fits-list l.i m l.invariant.0 l.invariant.5 r.0 more in
     let a = c.args in
     let k = part-taken l.list l.i m in
-    let next : l.i + 128 ≡ l.i + m = omega (arith, r.3 ∙ min-eq_right (omega (arith, c.if-rows-i-gt128.true))) in
+    let next : l.i + 128 ≡ l.i + m = omega (arith, r.3 ∙ min-eq_right (omega arith)) in
     let w = c.window-part.new in (
-      omega (arith, c.if-rows-i-gt128.true),
+      omega arith,
       room_back l.x w.x m l.invariant.1 (omega arith),
       room_back l.y w.y m l.invariant.2 (omega arith),
       room_back l.z w.z m l.invariant.3 (omega arith),
@@ -106,7 +106,7 @@ returns-2 c =
     let k = part-taken l.list l.i m in
     let now = passed_on l.invariant.6 (passed-window m fits (part-put l.list l.i m _) (rw k at e.0) (rw k at e.1) (rw k at e.2)) in
     let met-now = passed_on l.invariant.8 (passed-met (plan_pass_of (lent_in a.lent) a.plan) m fits (part-put l.list l.i m _) (rw k at e.0) (rw k at e.1) (rw k at e.3)) in
-    let rest = r.3 ∙ min-eq_left (omega (arith, c.if-rows-i-gt128.false)) in
+    let rest = r.3 ∙ min-eq_left (omega arith) in
     let st = c.start-state.ensures in
     let list = put_mid (4 * l.i) (4 * (l.i + m) - 4 * l.i) l.list c.window-part.new.list in
     let end = last_left {n = length list} {n₀ = length a.list.now} (l.i + m) (search (rules, l.invariant.5)) (omega (arith, rest, more)) in
