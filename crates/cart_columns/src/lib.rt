@@ -1,5 +1,5 @@
-// cart over columns, written where the columns stand: sixteen rows a turn by the step's block form,
-// and a loop for the fewer than sixteen that are left. It stands in place of the loops of cart.rs
+// cart over columns, written where the columns stand: the two directions as steps of
+// `point_columns`, which has the one loop over them. They stand in place of the loops of cart.rs
 // over a `dyn CoordinateSet`, one a direction.
 //
 // The times are lent to be read: cart leaves them. What depends on the ellipsoid alone is worked
@@ -8,62 +8,48 @@
 // but the step's own. Used by whatever runs a step over columns.
 #![tactic(auto)]
 
-ghost use Rattle.std.specs.Prelude.{◌≡◌, ◌+◌, ◌≤◌, ◌<◌, length};
+ghost use Rattle.std.specs.Prelude.{◌≡◌};
 ghost use Rattle.cart.specs.Step.{cart_fwd_of, cart_inv_of};
 ghost use Rattle.lists.specs.Run.{ran_of, count_of};
 ghost use Rattle.helmert.specs.Turns.{no_state};
 ghost use Rattle.turns.specs.Turns.{plain_turns};
-ghost use Rattle.columns.specs.Columns.{Level, flat_of};
-ghost use Rattle.columns.specs.Passed.{Passed};
+ghost use Rattle.turns.proofs.Columns.{forward_time, inverse_time};
+ghost use Rattle.columns.specs.Columns.{flat_of};
 
-use blocks::{WIDTH, one_if};
+use blocks::WIDTH;
 use cart::Inverse;
 use ellipsoid::Ellipsoid;
+use point_columns::PointStep;
+use tuple::{Shifted, Tuple};
 
 // ----- F O R W A R D --------------------------------------------------------------------------
 
-// Sixteen rows from an index on; how many of them count.
-fn forward_sixteen(
-    x: &mut [f64],
-    y: &mut [f64],
-    z: &mut [f64],
-    t: &[f64],
-    i: usize,
+#[derive(Clone, Copy)]
+struct Forward {
     ellps: Ellipsoid,
-) -> usize
-    requires { Level x.old y.old z.old t.now × (i + 16 ≤ length x.old) }
-    ensures { Passed (plain_turns (cart_fwd_of ellps)) i no_state (flat_of x.old y.old z.old t.now)
-        (i + 16) no_state (flat_of x.new y.new z.new t.now) result }
-{
-    let mut bx = [0.0; WIDTH];
-    let mut by = [0.0; WIDTH];
-    let mut bz = [0.0; WIDTH];
-    let mut bt = [0.0; WIDTH];
-    let mut ox = [0.0; WIDTH];
-    let mut oy = [0.0; WIDTH];
-    let mut oz = [0.0; WIDTH];
-    column_blocks::load_block(x, y, z, t, i, &mut bx, &mut by, &mut bz, &mut bt);
-    let n = cart_block::cart_fwd_block(ellps, &bx, &by, &bz, &bt, &mut ox, &mut oy, &mut oz);
-    column_blocks::store_points(x, y, z, t, i, &ox, &oy, &oz, &bt);
-    n
 }
 
-// The row at an index; 1 where it counts.
-fn forward_row(
-    x: &mut [f64],
-    y: &mut [f64],
-    z: &mut [f64],
-    t: &[f64],
-    i: usize,
-    ellps: Ellipsoid,
-) -> usize
-    requires { Level x.old y.old z.old t.now × (i < length x.old) }
-    ensures { Passed (plain_turns (cart_fwd_of ellps)) i no_state (flat_of x.old y.old z.old t.now)
-        (i + 1) no_state (flat_of x.new y.new z.new t.now) result }
-{
-    let r = cart::cart_fwd(ellps, columns::read_row(x, y, z, t, i));
-    columns::write_point(x, y, z, t, i, r.tuple);
-    one_if(r.counted)
+impl PointStep for Forward {
+    ghost shifted = { λ step. cart_fwd_of step.ellps };
+
+    fn one(self, v: Tuple) -> Shifted {
+        cart::cart_fwd(self.ellps, v)
+    }
+
+    fn sixteen(
+        self,
+        x: &[f64; WIDTH],
+        y: &[f64; WIDTH],
+        z: &[f64; WIDTH],
+        t: &[f64; WIDTH],
+        ox: &mut [f64; WIDTH],
+        oy: &mut [f64; WIDTH],
+        oz: &mut [f64; WIDTH],
+    ) -> usize {
+        cart_block::cart_fwd_block(self.ellps, x, y, z, t, ox, oy, oz)
+    }
+
+    ghost time_stays = { λ step v. forward_time step.ellps v };
 }
 
 // Every row; how many of them count. Columns of unequal length are left, and none counts.
@@ -78,76 +64,38 @@ pub fn cart_forward(
         ≡ ran_of (plain_turns (cart_fwd_of ellps)) 0 no_state (flat_of x.old y.old z.old t.now))
         × (result ≡ count_of (plain_turns (cart_fwd_of ellps)) 0 no_state (flat_of x.old y.old z.old t.now)) }
 {
-    if columns::level(x, y, z, t) {
-        return forward_level(x, y, z, t, ellps);
-    }
-    0
-}
-
-// Every row of columns of one length; how many of them count.
-fn forward_level(x: &mut [f64], y: &mut [f64], z: &mut [f64], t: &[f64], ellps: Ellipsoid) -> usize
-    requires { Level x.old y.old z.old t.now }
-    ensures { (flat_of x.new y.new z.new t.now
-        ≡ ran_of (plain_turns (cart_fwd_of ellps)) 0 no_state (flat_of x.old y.old z.old t.now))
-        × (result ≡ count_of (plain_turns (cart_fwd_of ellps)) 0 no_state (flat_of x.old y.old z.old t.now)) }
-{
-    let mut n = 0;
-    let mut i = 0;
-    while 16 <= x.len() - i {
-        n += forward_sixteen(x, y, z, t, i, ellps);
-        i += 16;
-    }
-    while i < x.len() {
-        n += forward_row(x, y, z, t, i, ellps);
-        i += 1;
-    }
-    n
+    point_columns::run(Forward { ellps: ellps }, x, y, z, t)
 }
 
 // ----- I N V E R S E --------------------------------------------------------------------------
 
-// Sixteen rows from an index on; how many of them count.
-fn inverse_sixteen(
-    x: &mut [f64],
-    y: &mut [f64],
-    z: &mut [f64],
-    t: &[f64],
-    i: usize,
+#[derive(Clone, Copy)]
+struct Backward {
     k: Inverse,
-) -> usize
-    requires { Level x.old y.old z.old t.now × (i + 16 ≤ length x.old) }
-    ensures { Passed (plain_turns (cart_inv_of k)) i no_state (flat_of x.old y.old z.old t.now)
-        (i + 16) no_state (flat_of x.new y.new z.new t.now) result }
-{
-    let mut bx = [0.0; WIDTH];
-    let mut by = [0.0; WIDTH];
-    let mut bz = [0.0; WIDTH];
-    let mut bt = [0.0; WIDTH];
-    let mut ox = [0.0; WIDTH];
-    let mut oy = [0.0; WIDTH];
-    let mut oz = [0.0; WIDTH];
-    column_blocks::load_block(x, y, z, t, i, &mut bx, &mut by, &mut bz, &mut bt);
-    let n = cart_block::cart_inv_block(k, &bx, &by, &bz, &bt, &mut ox, &mut oy, &mut oz);
-    column_blocks::store_points(x, y, z, t, i, &ox, &oy, &oz, &bt);
-    n
 }
 
-// The row at an index; 1 where it counts.
-fn inverse_row(
-    x: &mut [f64],
-    y: &mut [f64],
-    z: &mut [f64],
-    t: &[f64],
-    i: usize,
-    k: Inverse,
-) -> usize
-    requires { Level x.old y.old z.old t.now × (i < length x.old) }
-    ensures { Passed (plain_turns (cart_inv_of k)) i no_state (flat_of x.old y.old z.old t.now)
-        (i + 1) no_state (flat_of x.new y.new z.new t.now) result }
-{
-    let r = cart::cart_inv(k, columns::read_row(x, y, z, t, i));
-    columns::write_point(x, y, z, t, i, r.tuple);
-    one_if(r.counted) // a point on the axis does not count
+impl PointStep for Backward {
+    ghost shifted = { λ step. cart_inv_of step.k };
+
+    // A point on the axis does not count.
+    fn one(self, v: Tuple) -> Shifted {
+        cart::cart_inv(self.k, v)
+    }
+
+    fn sixteen(
+        self,
+        x: &[f64; WIDTH],
+        y: &[f64; WIDTH],
+        z: &[f64; WIDTH],
+        t: &[f64; WIDTH],
+        ox: &mut [f64; WIDTH],
+        oy: &mut [f64; WIDTH],
+        oz: &mut [f64; WIDTH],
+    ) -> usize {
+        cart_block::cart_inv_block(self.k, x, y, z, t, ox, oy, oz)
+    }
+
+    ghost time_stays = { λ step v. inverse_time step.k v };
 }
 
 // Every row; how many of them count. Columns of unequal length are left, and none counts.
@@ -156,28 +104,5 @@ pub fn cart_inverse(x: &mut [f64], y: &mut [f64], z: &mut [f64], t: &[f64], k: I
         ≡ ran_of (plain_turns (cart_inv_of k)) 0 no_state (flat_of x.old y.old z.old t.now))
         × (result ≡ count_of (plain_turns (cart_inv_of k)) 0 no_state (flat_of x.old y.old z.old t.now)) }
 {
-    if columns::level(x, y, z, t) {
-        return inverse_level(x, y, z, t, k);
-    }
-    0
-}
-
-// Every row of columns of one length; how many of them count.
-fn inverse_level(x: &mut [f64], y: &mut [f64], z: &mut [f64], t: &[f64], k: Inverse) -> usize
-    requires { Level x.old y.old z.old t.now }
-    ensures { (flat_of x.new y.new z.new t.now
-        ≡ ran_of (plain_turns (cart_inv_of k)) 0 no_state (flat_of x.old y.old z.old t.now))
-        × (result ≡ count_of (plain_turns (cart_inv_of k)) 0 no_state (flat_of x.old y.old z.old t.now)) }
-{
-    let mut n = 0;
-    let mut i = 0;
-    while 16 <= x.len() - i {
-        n += inverse_sixteen(x, y, z, t, i, k);
-        i += 16;
-    }
-    while i < x.len() { // the rest
-        n += inverse_row(x, y, z, t, i, k);
-        i += 1;
-    }
-    n
+    point_columns::run(Backward { k: k }, x, y, z, t)
 }

@@ -24,13 +24,6 @@ use Rattle.columns.proofs.Passed.{later-ran, later-counted}
 abbrev cap_of : ℕ → ℕ
 cap_of first = cond (ltb first (2 ^ 63)) first (2 ^ 63)
 
-pub cap_room : (first n : ℕ) → n < 2 ^ 63 → cap_of first + n < 2 ^ 64
-cap_room first n h = by (ltb first (2 ^ 63)) refl
-  where
-    by : (b : Bool) → ltb first (2 ^ 63) ≡ b → cond b first (2 ^ 63) + n < 2 ^ 64
-    by true e = omega (arith, h, ltb-true first (2 ^ 63) e)
-    by false e = omega (arith, h)
-
 module _ (op : Motion) (inverse : Bool) (velocities : List Float) (marks : List ℕ) (hv : length velocities < 2 ^ 63) (hm : length marks < 2 ^ 63) where
   no-velocity : (k : ℕ) → 2 ^ 63 ≤ k → velocity_at velocities k ≡ record { east = nan; north = nan; up = nan }
   unfolding velocity_at

@@ -1,26 +1,20 @@
--- Sixteen rows moved by the velocities found at their places are what the turns make of them: the
--- block form's blocks hold what the step gives for each row (`moved-there`), so the flat list is
--- turned and the count taken (`moved-passed`). Assumes nothing.
-use Prim.Native.Nat.{ℕ, ◌+◌, ◌*◌, ◌≤◌, ◌<◌}
+-- Sixteen rows moved by the velocities found at their places are what the step makes of them: the
+-- block form's blocks hold what the step gives for each row (`moved-there`), so the blocks and the
+-- count are the step's (`moved-made`). Assumes nothing.
+use Prim.Native.Nat.{ℕ, ◌<◌}
 use mathlib.Core.Path.{◌≡◌, refl, ap, ◌∙◌}
-use mathlib.Core.Bool.{Bool}
+use mathlib.Core.Bool.{Bool, false}
 use mathlib.Core.List.{List}
-use lib.ListN.{length}
 use lib.Ieee.{Float}
 use Rattle.blocks.specs.Each.{at, whole_at, Each, EachWhole, count_to}
 use Rattle.blocks.proofs.Counts.{count_told}
+use Rattle.blocks.proofs.Laws.{told}
 use Rattle.tuple.specs.declared.Shifted.{Shifted}
 use Rattle.tuple.specs.Columns.{row_of}
 use Rattle.geocart.specs.Geocart.{place_of}
 use Rattle.deformation.specs.declared.Motion.{Motion}
 use Rattle.deformation_block.specs.Places.{velocity_of, geo_at, moved_at}
 use Rattle.deformation_block.proofs.Laws.{moved-common}
-use Rattle.lists.specs.Sixteen.{row_at, put_block}
-use Rattle.lists.proofs.Sixteen.{columns, retold, turned, taken}
-use Rattle.helmert.specs.Turns.{no_state}
-use Rattle.turns.specs.Turns.{plain_turns}
-use Rattle.columns.specs.Passed.{Passed}
-use Rattle.columns.proofs.Passed.{passed-sixteen}
 use Rattle.grid.specs.declared.Axis.{Axis}
 use Rattle.grid.specs.Lookup.{found_in}
 use Rattle.deformation_grid.specs.Gridded.{gridded_in}
@@ -37,19 +31,13 @@ module _ (s : List ℕ) (down across : Axis) (op : Motion) (inverse : Bool) (x y
       moved-common op inverse (velocity_of east north up j) (whole_at m j) (row_of x y z t j) (geo_at lam phi t j) (hl.held j h) (hp.held j h) refl
       ∙ rw (found.0.held j h, found.1.held j h, found.2.held j h, found.3.held j h, hl.held j h, hp.held j h)
 
-  pub moved-passed : (i : ℕ) (l : List Float) → 4 * i + 64 ≤ length l
-      → Each x (λ (j : ℕ). (row_at l (4 * i) j).x) → Each y (λ (j : ℕ). (row_at l (4 * i) j).y) → Each z (λ (j : ℕ). (row_at l (4 * i) j).z) → Each t (λ (j : ℕ). (row_at l (4 * i) j).t)
-      → {ox oy oz ot l' : List Float} {n : ℕ}
+  pub moved-made : {ox oy oz ot : List Float} {n : ℕ}
       → Each ox (λ (j : ℕ). (moved_at op inverse east north up m lam phi x y z t j).tuple.x) × Each oy (λ (j : ℕ). (moved_at op inverse east north up m lam phi x y z t j).tuple.y)
       × Each oz (λ (j : ℕ). (moved_at op inverse east north up m lam phi x y z t j).tuple.z) × Each ot (λ (j : ℕ). (moved_at op inverse east north up m lam phi x y z t j).tuple.t)
       × (n ≡ count_to 16 (λ (j : ℕ). (moved_at op inverse east north up m lam phi x y z t j).counted))
-      → l' ≡ put_block l (4 * i) ox oy oz ot
-      → Passed (plain_turns (gridded_in op inverse s down across)) i no_state l (i + 16) no_state l' n
-  moved-passed i l fits ex ey ez et made el =
-      let f = plain_turns (gridded_in op inverse s down across) in
-      let read = columns (row_at l (4 * i)) ex ey ez et in
-      let rows =
-      retold (λ j h. ap (λ (shifted : Shifted). shifted.tuple) (moved-there j h))
-      (columns (λ (j : ℕ). (moved_at op inverse east north up m lam phi x y z t j).tuple) made.0 made.1 made.2 made.3) in
-      let counts = made.4 ∙ count_told 16 _ _ (λ j h. ap (λ (shifted : Shifted). shifted.counted) (moved-there j h)) in
-      passed-sixteen (λ k v. refl) i fits (turned f no_state l (4 * i) read rows el) (taken f no_state l (4 * i) read counts)
+      → Each ox (λ (j : ℕ). (gridded_in op inverse s down across (row_of x y z t j)).tuple.x) × Each oy (λ (j : ℕ). (gridded_in op inverse s down across (row_of x y z t j)).tuple.y)
+      × Each oz (λ (j : ℕ). (gridded_in op inverse s down across (row_of x y z t j)).tuple.z) × Each ot (λ (j : ℕ). (gridded_in op inverse s down across (row_of x y z t j)).tuple.t)
+      × (n ≡ count_to 16 (λ (j : ℕ). (gridded_in op inverse s down across (row_of x y z t j)).counted))
+      × (0 ≡ count_to 16 (λ (j : ℕ). false))
+  moved-made made =
+      (told (λ j h. ap (λ (shifted : Shifted). shifted.tuple.x) (moved-there j h)) made.0, told (λ j h. ap (λ (shifted : Shifted). shifted.tuple.y) (moved-there j h)) made.1, told (λ j h. ap (λ (shifted : Shifted). shifted.tuple.z) (moved-there j h)) made.2, told (λ j h. ap (λ (shifted : Shifted). shifted.tuple.t) (moved-there j h)) made.3, made.4 ∙ count_told 16 _ _ (λ j h. ap (λ (shifted : Shifted). shifted.counted) (moved-there j h)), refl)

@@ -1,5 +1,4 @@
 -- What the proofs of this crate share, and the laws that callers cite.
-pub mod WholePart
 pub mod Laws
 pub mod Zeros
 pub mod Corners

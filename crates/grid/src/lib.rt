@@ -10,7 +10,6 @@
 #![tactic(auto)]
 
 ghost use Rattle.std.specs.Prelude.{◌≡◌, ℕ, ◌-◌, ◌<◌, ◌≤◌};
-ghost use Rattle.std.specs.Float.Ieee.{to_unsigned};
 ghost use Rattle.blocks.specs.Each.{at, Each, EachWhole};
 ghost use Rattle.grid_rules.specs.Layout.{node_offset_of};
 ghost use Rattle.grid.specs.Lookup.{rows_of, columns_of, far_of, last_of, within_of, inside_of, quotient_of, spacings_of, lesser_of, at_most, cell_of, share_of, node_at, weights_of, mix_of, mixed_of, pair_at, four_at, cell_velocity_of, looked_up, found_in, found_of};
@@ -56,7 +55,8 @@ pub struct Weights {
     pub ne: f64,
 }
 
-// What is found: the mark is 1 where the place lies inside the grid, else 0.
+// What is found: the mark is 1 where the place lies inside the grid, else 0. It is no Option: the
+// definition of the step and C's lookup have a mark and numbers of an absent fix too.
 #[derive(Clone, Copy)]
 pub struct Marked {
     pub mark: u8,
@@ -87,39 +87,17 @@ pub fn columns(g: &[u8]) -> Axis
     }
 }
 
-fn before(n: u32) -> u32
-    ensures { result ≡ n - 1 }
-{
-    if n == 0 {
-        return 0;
-    }
-    n - 1
-}
-
 // How many spacings the last line stands from the first, as a number.
 fn far(count: u32) -> f64
     ensures { result ≡ far_of count }
 {
-    before(count) as f64
+    count.saturating_sub(1) as f64
 }
 
 fn lesser(a: f64, b: f64) -> f64
     ensures { result ≡ lesser_of a b }
 {
     if a < b { a } else { b }
-}
-
-// The whole part of a number; 0 of a NaN and below 0.
-fn whole(u: f64) -> u64
-    ensures { result ≡ to_unsigned 64 u }
-{
-    if u > -1.0 {
-        if u < 18446744073709551616.0 {
-            return std::num::truncating_f64_to_u64(u);
-        }
-        return 18446744073709551615;
-    }
-    0
 }
 
 impl Axis {
@@ -132,12 +110,7 @@ impl Axis {
     fn within(self, x: f64) -> bool
         ensures { result ≡ within_of self x }
     {
-        if grid_rules::count_in_rule(self.count) {
-            if self.start <= x {
-                return x <= self.last();
-            }
-        }
-        false
+        grid_rules::count_in_rule(self.count) && self.start <= x && x <= self.last()
     }
 
     fn quotient(self, x: f64) -> f64
@@ -164,12 +137,9 @@ impl Axis {
 fn cell(count: u32, u: f64) -> usize
     ensures { (result ≡ cell_of count u) × (result ≤ count - 2) }
 {
-    let most = before(before(count)) as u64;
-    let k = whole(u);
-    if most < k {
-        return most as usize;
-    }
-    k as usize
+    let most = count.saturating_sub(2) as u64;
+    let k = std::num::saturating_f64_to_u64(u); // 0 of a NaN and below 0
+    if most < k { most as usize } else { k as usize }
 }
 
 // How far past that line, in spacings.
@@ -224,11 +194,8 @@ fn pair_at(g: &[u8], at: usize) -> Pair
     requires { at < 4294967296 }
     ensures { result ≡ pair_at g.now at }
 {
-    if at < g.len() {
-        if 48 <= g.len() - at {
-            let end = at + 48;
-            return whole_pair(&g[at..end]);
-        }
+    if at < g.len() && 48 <= g.len() - at {
+        return whole_pair(&g[at..at + 48]);
     }
     cut_pair(g, at)
 }
@@ -292,10 +259,7 @@ fn mixed(w: Weights, south: Pair, north: Pair) -> Node
 fn inside(rows: Axis, columns: Axis, lam: f64, phi: f64) -> bool
     ensures { result ≡ inside_of rows columns lam phi }
 {
-    if rows.within(phi) {
-        return columns.within(lam);
-    }
-    false
+    rows.within(phi) && columns.within(lam)
 }
 
 fn looked_up(g: &[u8], rows: Axis, columns: Axis, lam: f64, phi: f64) -> Node
@@ -352,10 +316,8 @@ fn spacings_block(a: Axis, x: &[f64; WIDTH], u: &mut [f64; WIDTH])
     ensures { Each u.new (λ (j : ℕ). spacings_of a (at x.now j)) }
 {
     *u = [0.0; WIDTH];
-    let mut j = 0;
-    while j < WIDTH {
+    for j in 0..WIDTH {
         u[j] = a.spacings(x[j]);
-        j += 1;
     }
 }
 
@@ -396,12 +358,8 @@ fn four_at(g: &[u8], south: usize, north: usize) -> Four
     requires { (south ≤ north) × (north < 4294967296) }
     ensures { result ≡ four_at g.now south g.now north }
 {
-    if north < g.len() {
-        if 48 <= g.len() - north {
-            let south_end = south + 48;
-            let north_end = north + 48;
-            return whole_four(&g[south..south_end], &g[north..north_end]);
-        }
+    if north < g.len() && 48 <= g.len() - north {
+        return whole_four(&g[south..south + 48], &g[north..north + 48]);
     }
     Four {
         south: cut_pair(g, south),
@@ -473,13 +431,11 @@ pub fn found_block(
     *east = [0.0; WIDTH];
     *north = [0.0; WIDTH];
     *up = [0.0; WIDTH];
-    let mut j = 0;
-    while j < WIDTH {
+    for j in 0..WIDTH {
         let found = found_at(g, rows, columns, lam[j], phi[j], u[j], v[j]);
         m[j] = found.mark;
         east[j] = found.east;
         north[j] = found.north;
         up[j] = found.up;
-        j += 1;
     }
 }

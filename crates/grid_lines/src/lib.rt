@@ -106,11 +106,7 @@ fn put_velocity(room: &mut [u8], at: usize, g: &[u8], place: usize) -> usize
 fn across(g: &[u8]) -> u32
     ensures { (result ≡ across_of g.now) × (1 ≤ result) }
 {
-    let columns = grid_rules::column_count(g);
-    if columns == 0 {
-        return 1;
-    }
-    columns
+    grid_rules::column_count(g).max(1)
 }
 
 pub fn put_node(room: &mut [u8], at: usize, g: &[u8], k: u32) -> usize
@@ -129,10 +125,7 @@ pub fn put_node(room: &mut [u8], at: usize, g: &[u8], k: u32) -> usize
 fn numbers(g: &[u8]) -> usize
     ensures { result ≡ numbers_of g.now }
 {
-    if g.len() < 8 {
-        return 0;
-    }
-    (g.len() - 8) / 8
+    g.len().saturating_sub(8) / 8
 }
 
 // The first number not finite; where all are finite, how many numbers there are.
@@ -140,15 +133,12 @@ fn first_not_finite(g: &[u8]) -> usize
     ensures { (result ≡ not_finite_from g.now (numbers_of g.now) 0) × (result ≤ numbers_of g.now) }
 {
     let n = numbers(g);
-    let mut k = 0;
-    while k < n {
-        if floats::is_finite(words::number(g, 8 + 8 * k)) {
-            k += 1;
-        } else {
+    for k in 0..n {
+        if !floats::is_finite(words::number(g, 8 + 8 * k)) {
             return k;
         }
     }
-    k
+    n
 }
 
 fn number_place(g: &[u8]) -> usize
@@ -159,9 +149,10 @@ fn number_place(g: &[u8]) -> usize
         return 8 + 8 * k;
     }
     if grid_rules::above_zero(grid_rules::latitude_spacing(g)) {
-        return 32;
+        32
+    } else {
+        24
     }
-    24
 }
 
 pub fn put_refusal(room: &mut [u8], at: usize, g: &[u8], number: u32) -> usize

@@ -1,18 +1,19 @@
 -- When 17 and 18 are given, exactly, and what an accepted grid is known to be, for callers to cite.
 -- Assumes nothing.
-use mathlib.Core.Path.{◌≡◌, refl, sym, ◌∙◌}
+use mathlib.Core.Path.{◌≡◌, refl, sym, ap, ◌∙◌}
 use mathlib.Core.Logic.{⊎_elim}
 use Prim.Native.Nat.{ℕ, zero, suc, ◌≤◌, ◌<◌}
 use native.Mathlib.Nat.{eq-or-lt_of_le}
 use native.Mathlib.Omega.{arith}
 use mathlib.Core.Bool.{Bool, true, false, not, cond, ◌&&◌, ◌||◌, true≢false}
 use mathlib.Core.List.{List}
+use Rattle.std.specs.Prelude.{Result, Ok, Err}
 use lib.Dec.{eqb, leb, ltb}
 use lib.ListN.{length}
 use lib.Ieee.Scale.{finite}
 use borrow.Author.Tests.{leb-true, eqb-true, not-false}
 use Rattle.grid_rules.specs.Layout.{row_count_of, column_count_of, latitude_spacing_of, longitude_spacing_of, grid_length_of, number_of, numbers_of}
-use Rattle.grid_rules.specs.Rules.{count_in_rule, refusal17, refusal18, finite_to, above_zero, first_broken, check_grid_of}
+use Rattle.grid_rules.specs.Rules.{count_in_rule, refusal17, refusal18, finite_to, above_zero, first_broken, check_grid_of, unless_broken}
 
 -- ---- the answers
 
@@ -50,6 +51,34 @@ eighteen_exactly s = (λ h. is_18 (refusal17 s) (refusal18 s) (sym (by_both s) �
 -- 0 is given exactly where neither is broken
 pub accepted_exactly : (s : List ℕ) → (check_grid_of s ≡ 0 → (refusal17 s ≡ false) × (refusal18 s ≡ false)) × (refusal17 s ≡ false → refusal18 s ≡ false → check_grid_of s ≡ 0)
 accepted_exactly s = (λ h. is_0 (refusal17 s) (refusal18 s) (sym (by_both s) ∙ h), λ h k. by_both s ∙ rw (h, k))
+
+-- ---- the answer as a function gives it: nothing, or the number of the broken rule
+
+-- that number, and 0 of an answer without one
+abbrev number_told : Result Unit ℕ → ℕ
+number_told (Ok u) = 0
+number_told (Err n) = n
+
+abbrev is_told : Result Unit ℕ → Bool
+is_told (Ok u) = false
+is_told (Err n) = true
+
+number_stays : (n : ℕ) → number_told (unless_broken n) ≡ n
+number_stays n = by (eqb n 0) refl
+  where
+    by : (b : Bool) → eqb n 0 ≡ b → number_told (cond b (Ok tt) (Err n)) ≡ n
+    by true e = sym (eqb-true n 0 e)
+    by false e = refl
+
+module _ (n : ℕ) {r : Result Unit ℕ} (h : r ≡ unless_broken n) where
+  pub unless_ok : {u : Unit} → r ≡ Ok u → n ≡ 0
+  unless_ok e = sym (number_stays n) ∙ ap number_told (sym h ∙ e)
+
+  pub unless_err : {e : ℕ} → r ≡ Err e → e ≡ n
+  unless_err e = sym (ap number_told (sym h ∙ e)) ∙ number_stays n
+
+  pub unless_not_0 : {e : ℕ} → r ≡ Err e → n ≡ 0 → ⊥
+  unless_not_0 e zeroed = true≢false (sym (ap is_told (sym h ∙ e)) ∙ ap (λ (m : ℕ). is_told (unless_broken m)) zeroed)
 
 -- ---- what is known of an accepted grid
 

@@ -226,3 +226,11 @@ eight_more_finite s k w z v here value before =
       at 7,
     )
     (gathered (finite_to s k) _ _ _ _ _ _ _ _ ∙ sym (eight-on s k))
+
+-- the same in eights: part p from number 8 * p on
+pub next_eight_finite : (s : List ℕ) (p w z v : ℕ) → below_infinity z ≡ eight_finite (take (8 + 64 * p + 64 - (8 + 64 * p)) (drop (8 + 64 * p) s)) → v ≡ larger_of w z
+    → below_infinity w ≡ finite_to s (8 * p) → below_infinity v ≡ finite_to s (8 * (p + 1))
+next_eight_finite s p w z v here value before =
+    let from : 8 + 64 * p ≡ 8 + 8 * (8 * p) = omega arith in
+    let next : 8 * (p + 1) ≡ 8 * p + 8 = omega arith in
+    rw next (eight_more_finite s (8 * p) w z v (rw from at here) value before)

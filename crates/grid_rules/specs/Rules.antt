@@ -1,7 +1,7 @@
 -- Document 02's rules of a grid by their numbers: `refusal17` and `refusal18` say when the rule of
 -- that number is broken. The answer is the first that is broken, 17 before 18, and 0 where neither
 -- is.
-use Rattle.std.specs.Prelude.{ℕ, zero, suc, min, Bool, true, not, cond, ◌&&◌, ◌||◌, List, [], ◌∷◌, eqb, leb, ltb, length, Float}
+use Rattle.std.specs.Prelude.{ℕ, zero, suc, min, Bool, true, not, cond, ◌&&◌, ◌||◌, List, [], ◌∷◌, Result, Ok, Err, eqb, leb, ltb, length, Float}
 use Rattle.std.specs.Float.Ieee.{lt}
 use Rattle.std.specs.Float.Ieee.Scale.{finite}
 use Rattle.floats.specs.Binary64.{bits}
@@ -56,6 +56,10 @@ first_broken (r ∷ rules) = cond r.broken r.number (first_broken rules)
 -- the answer for a grid's bytes: 0, 17 or 18
 unfoldable pub check_grid_of : List ℕ → ℕ
 check_grid_of s = first_broken (grid_order s)
+
+-- what a function answers by such a number: nothing where it is 0, else the number as an error
+abbrev pub unless_broken : ℕ → Result Unit ℕ
+unless_broken number = cond (eqb number 0) (Ok tt) (Err number)
 
 -- ---- places
 

@@ -11,7 +11,7 @@ ghost use Rattle.std.specs.Prelude.{◌≡◌, ◌≤◌, not};
 ghost use Rattle.std.specs.Float.Ieee.Scale.{finite};
 ghost use Rattle.words.specs.Words.{number_at};
 ghost use Rattle.grid_rules.specs.Layout.{row_count_of, column_count_of, south_of, west_of, latitude_spacing_of, longitude_spacing_of, grid_length_of, numbers_of};
-ghost use Rattle.grid_rules.specs.Rules.{count_in_rule, refusal17, finite_to, above_zero, refusal18, check_grid_of, layout_place};
+ghost use Rattle.grid_rules.specs.Rules.{count_in_rule, refusal17, finite_to, above_zero, refusal18, check_grid_of, unless_broken, layout_place};
 ghost use Rattle.grid_rules.specs.Patterns.{larger_of, sign_turned, largest_of, worst_of, below_infinity, eight_finite};
 
 // ----- where things stand ----------------------------------------------------------------
@@ -57,10 +57,7 @@ pub fn longitude_spacing(g: &[u8]) -> f64
 pub fn count_in_rule(n: u32) -> bool
     ensures { result ≡ count_in_rule n }
 {
-    if 2 <= n {
-        return n <= 64;
-    }
-    false
+    2 <= n && n <= 64
 }
 
 // The length that counts in rule say, in bytes.
@@ -79,12 +76,7 @@ pub fn laid_out(g: &[u8]) -> bool
     }
     let rows = row_count(g);
     let columns = column_count(g);
-    if count_in_rule(rows) {
-        if count_in_rule(columns) {
-            return g.len() == grid_length(rows, columns);
-        }
-    }
-    false
+    count_in_rule(rows) && count_in_rule(columns) && g.len() == grid_length(rows, columns)
 }
 
 // The byte that rule 17 is about.
@@ -96,17 +88,13 @@ pub fn layout_place(g: &[u8]) -> usize
     }
     let rows = row_count(g);
     let columns = column_count(g);
-    if count_in_rule(rows) {
-        if count_in_rule(columns) {
-            let right = grid_length(rows, columns);
-            if g.len() < right {
-                return g.len();
-            }
-            return right;
-        }
+    if !count_in_rule(rows) {
+        return 0;
+    }
+    if !count_in_rule(columns) {
         return 4;
     }
-    0
+    g.len().min(grid_length(rows, columns))
 }
 
 // ----- rule 18 ---------------------------------------------------------------------------
@@ -189,18 +177,13 @@ fn all_finite(g: &[u8]) -> bool
     }
     let n = (g.len() - 8) / 8;
     let mut w: u64 = 0;
-    let mut k = 0;
-    while 8 <= n - k {
-        let from = 8 + 8 * k;
-        let end = from + 64;
-        w = larger(w, worst_of_eight(&g[from..end]));
-        k += 8;
+    for part in 0..n / 8 {
+        let from = 8 + 64 * part;
+        w = larger(w, worst_of_eight(&g[from..from + 64]));
     }
-    while k < n {
+    for k in n / 8 * 8..n {
         let from = 8 + 8 * k;
-        let end = from + 8;
-        w = larger(w, worst_of_one(&g[from..end]));
-        k += 1;
+        w = larger(w, worst_of_one(&g[from..from + 8]));
     }
     w < 0xfff0_0000_0000_0000
 }
@@ -214,25 +197,21 @@ pub fn above_zero(x: f64) -> bool
 pub fn numbers_in_rule(g: &[u8]) -> bool
     ensures { result ≡ not (refusal18 g.now) }
 {
-    if all_finite(g) {
-        if above_zero(latitude_spacing(g)) {
-            return above_zero(longitude_spacing(g));
-        }
-    }
-    false
+    all_finite(g) && above_zero(latitude_spacing(g)) && above_zero(longitude_spacing(g))
 }
 
 // ----- the answer ------------------------------------------------------------------------
 
-// 0 for a grid in rule, else the number of the first rule that is broken.
-pub fn check_grid(g: &[u8]) -> u32
-    ensures { result ≡ check_grid_of g.now }
+// The error is the number of the first rule that is broken. It stays a number: documents 01 and 02,
+// the C interface and every theorem speak of a rule by its number.
+pub fn check_grid(g: &[u8]) -> Result<(), u32>
+    ensures { result ≡ unless_broken (check_grid_of g.now) }
 {
-    if laid_out(g) {
-        if numbers_in_rule(g) {
-            return 0;
-        }
-        return 18;
+    if !laid_out(g) {
+        return Err(17);
     }
-    17
+    if !numbers_in_rule(g) {
+        return Err(18);
+    }
+    Ok(())
 }

@@ -15,12 +15,13 @@ fn main(rt: HostRuntime) -> io::Result<()> {
 }
 
 fn tell(out: &impl Print, g: &[u8]) -> io::Result<()> {
-    let refusal = grid_rules::check_grid(g);
-    if refusal == 0 {
-        tell_head(out, g)?;
-        return tell_nodes(out, g);
+    match grid_rules::check_grid(g) {
+        Ok(()) => {
+            tell_head(out, g)?;
+            tell_nodes(out, g)
+        }
+        Err(refusal) => tell_refusal(out, g, refusal),
     }
-    tell_refusal(out, g, refusal)
 }
 
 fn tell_head(out: &impl Print, g: &[u8]) -> io::Result<()> {
@@ -37,13 +38,11 @@ fn tell_node(out: &impl Print, g: &[u8], k: u32) -> io::Result<()> {
 
 // A grid in rule has 24 bytes a node after the first 40, and at most 4,096 nodes.
 fn tell_nodes(out: &impl Print, g: &[u8]) -> io::Result<()> {
-    let mut k: u32 = 0;
-    while k < 4096 {
+    for k in 0..4096u32 {
         if g.len() < 64 + 24 * (k as usize) {
-            return Ok(());
+            break;
         }
         tell_node(out, g, k)?;
-        k += 1;
     }
     Ok(())
 }

@@ -3,7 +3,8 @@
 // loops of permtide.rs over a `dyn CoordinateSet`, and one loop serves both directions.
 //
 // A turn of sixteen loads latitudes and heights, and stores heights; first coordinates and times
-// are lent for the contract and are not read there. The coefficient is worked out by the caller,
+// are lent for the contract and are not read there. So the loop is its own, and not the one of
+// `point_columns`, which takes three columns to write. The coefficient is worked out by the caller,
 // once a list. Proved equal to the step's own definition from tuple to tuple, over the flat list
 // that the columns stand for. Exact: no rounding but the step's own. Used by whatever runs a step
 // over columns.
@@ -28,9 +29,10 @@ fn shifted(op: Tide, inverse: bool, v: Tuple) -> Tuple
     ensures { result ≡ shifted_of op inverse v }
 {
     if inverse {
-        return permtide::inv(op, v);
+        permtide::inv(op, v)
+    } else {
+        permtide::fwd(op, v)
     }
-    permtide::fwd(op, v)
 }
 
 fn heights(op: Tide, inverse: bool, y: &[f64; WIDTH], z: &[f64; WIDTH], oz: &mut [f64; WIDTH])
@@ -38,9 +40,9 @@ fn heights(op: Tide, inverse: bool, y: &[f64; WIDTH], z: &[f64; WIDTH], oz: &mut
 {
     if inverse {
         permtide::inv_block(op, y, z, oz);
-        return;
+    } else {
+        permtide::fwd_block(op, y, z, oz);
     }
-    permtide::fwd_block(op, y, z, oz);
 }
 
 // ----- sixteen numbers of one column --------------------------------------------------------
@@ -50,10 +52,8 @@ fn load_part(column: &[f64], i: usize, b: &mut [f64; WIDTH])
     ensures { Each b.new (λ (j : ℕ). at column.now (i + j)) }
 {
     *b = [0.0; WIDTH];
-    let mut j = 0;
-    while j < WIDTH {
+    for j in 0..WIDTH {
         b[j] = column[i + j];
-        j += 1;
     }
 }
 
@@ -61,10 +61,8 @@ fn store_part(column: &mut [f64], i: usize, b: &[f64; WIDTH])
     requires { i + 16 ≤ length column.old }
     ensures { column.new ≡ part_put column.old i b.now 16 }
 {
-    let mut j = 0;
-    while j < WIDTH {
+    for j in 0..WIDTH {
         column[i + j] = b[j];
-        j += 1;
     }
 }
 
@@ -110,7 +108,6 @@ pub fn permtide(x: &[f64], y: &[f64], z: &mut [f64], t: &[f64], op: Tide, invers
 {
     if columns::level(x, y, z, t) {
         permtide_level(x, y, z, t, op, inverse);
-        return;
     }
 }
 
@@ -120,13 +117,10 @@ fn permtide_level(x: &[f64], y: &[f64], z: &mut [f64], t: &[f64], op: Tide, inve
     ensures { flat_of x.now y.now z.new t.now
         ≡ ran_of (cond inverse (all_turns (inv_of op)) (all_turns (fwd_of op))) 0 no_state (flat_of x.now y.now z.old t.now) }
 {
-    let mut i = 0;
-    while 16 <= x.len() - i {
-        permtide_sixteen(x, y, z, t, i, op, inverse);
-        i += 16;
+    for block in 0..x.len() / WIDTH {
+        permtide_sixteen(x, y, z, t, WIDTH * block, op, inverse);
     }
-    while i < x.len() {
+    for i in x.len() / WIDTH * WIDTH..x.len() {
         permtide_row(x, y, z, t, i, op, inverse);
-        i += 1;
     }
 }

@@ -1,28 +1,26 @@
--- Columns of one length go through `deformation_level`, from an index that finds as much lent
--- (`lent_alike`) and is small enough (`cap_room`); others stand for no tuple (`flat-uneven`), so
--- nothing passes and nothing counts. Assumes nothing.
-use borrow.Author.Rules.{rules}
+-- The loop's turns are those of a list whose first fix has the index that `lent_from` gives
+-- (`later-ran`, `later-counted`), which finds as much lent as `first` (`lent_alike`). Assumes
+-- nothing.
 use native.Mathlib.Omega.{arith}
-use mathlib.Core.Path.{sym, ◌∙◌}
-use lib.ListN.{length}
+use Prim.Native.Nat.{ℕ}
+use mathlib.Core.Path.{ap, ◌∙◌}
+use Rattle.lists.specs.Run.{ran_of, count_of}
+use Rattle.helmert.specs.Turns.{no_state}
+use Rattle.turns.specs.Turns.{moved_turns}
+use Rattle.reach.specs.Met.{moved_met_turns}
 use Rattle.columns.specs.Columns.{flat_of}
-use Rattle.columns.proofs.Laws.{level_told, flat-uneven}
-use Rattle.deformation_columns.proofs.Beyond.{cap_room, lent_alike}
+use Rattle.columns.proofs.Passed.{later-ran, later-counted}
+use Rattle.deformation_columns.proofs.Beyond.{lent_alike}
 use Rattle.deformation_columns.proofs.deformation.Goals as goal
 
-pub deformation_level-requires : goal.deformation_level-requires
-deformation_level-requires c =
-    let a = c.args in
-    (level_told _ _ _ _ (sym c.level.ensures ∙ c.if-level.true), rw c.lent_from-from.ensures (cap_room a.first (length a.x.now) (search rules)))
-
-pub returns-then-level : goal.returns-then-level
-returns-then-level c =
+pub returns : goal.returns
+returns c =
     let a = c.args in
     let lent = c.well_formed.1.1.1.1.1.1.1 in
-    let from = c.lent_from-from.ensures in
-    let e = rw from at c.deformation_level.ensures in
-    let same = lent_alike a.op a.inverse a.velocities.now a.marks.now (omega (arith, lent.0.1)) (omega (arith, lent.1.0.1)) a.first (flat_of a.x.now a.y.now a.z.now a.t.now) in
-    (e.0 ∙ same.0, e.1 ∙ same.1, e.2 ∙ same.2)
-
-pub returns : goal.returns
-returns c = let e = flat-uneven _ _ _ _ (sym c.level.ensures ∙ c.if-level.false) in (rw e, rw e, rw e)
+    let f = moved_turns a.op a.inverse a.velocities.now a.marks.now in
+    let g = moved_met_turns a.op a.inverse a.velocities.now a.marks.now in
+    let l = flat_of a.x.now a.y.now a.z.now a.t.now in
+    let e = c.run-r.ensures in
+    let from = c.lent_from.ensures.0 in
+    let same = lent_alike a.op a.inverse a.velocities.now a.marks.now (omega (arith, lent.0.1)) (omega (arith, lent.1.0.1)) a.first l in
+    (e.0 ∙ later-ran f _ no_state l ∙ ap (λ (k : ℕ). ran_of f k no_state l) from ∙ same.0, e.1 ∙ later-counted f _ no_state l ∙ ap (λ (k : ℕ). count_of f k no_state l) from ∙ same.1, e.2 ∙ later-counted g _ no_state l ∙ ap (λ (k : ℕ). count_of g k no_state l) from ∙ same.2)

@@ -1,7 +1,7 @@
 -- Invariant: n of the first i places have mark 1 and longitude or latitude out of reach
 -- (`CountedBefore`). A turn counts place i (`one_counted`), and at i = 16 the block is counted
--- (`all_counted`). The measure is 16 - i. Assumes nothing.
-use Prim.Native.Nat.{ℕ, ◌-◌}
+-- (`all_counted`). Assumes nothing.
+use Prim.Native.Nat.{ℕ}
 use mathlib.Core.Bool.{◌&&◌}
 use lib.Dec.{eqb}
 use Rattle.blocks.specs.Each.{at, whole_at}
@@ -11,6 +11,3 @@ use Rattle.deformation_columns.proofs.met_block.Given as goal
 
 abbrev pub invariant-loop-i : goal.invariant-loop-i
 invariant-loop-i l = CountedBefore l.i (λ (j : ℕ). eqb (whole_at l.m j) 1 && place_out (at l.lam j) (at l.phi j)) l.n
-
-abbrev pub decreases-loop-i : goal.decreases-loop-i
-decreases-loop-i l = 16 - l.i

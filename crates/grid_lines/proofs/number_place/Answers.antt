@@ -11,6 +11,6 @@ pub returns-then-above_zero : goal.returns-then-above_zero
 unfolding number_place
 returns-then-above_zero c = rw (← c.first_not_finite-k.ensures.0, ← c.numbers.ensures, le-ltb _ _ c.if-k-numbers.false, ← c.latitude_spacing.ensures, ← c.above_zero.ensures, c.if-above_zero.true)
 
-pub returns : goal.returns
+pub returns-else-above_zero : goal.returns-else-above_zero
 unfolding number_place
-returns c = rw (← c.first_not_finite-k.ensures.0, ← c.numbers.ensures, le-ltb _ _ c.if-k-numbers.false, ← c.latitude_spacing.ensures, ← c.above_zero.ensures, c.if-above_zero.false)
+returns-else-above_zero c = rw (← c.first_not_finite-k.ensures.0, ← c.numbers.ensures, le-ltb _ _ c.if-k-numbers.false, ← c.latitude_spacing.ensures, ← c.above_zero.ensures, c.if-above_zero.false)

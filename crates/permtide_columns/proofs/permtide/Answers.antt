@@ -7,8 +7,5 @@ use Rattle.permtide_columns.proofs.permtide.Goals as goal
 pub permtide_level-requires : goal.permtide_level-requires
 permtide_level-requires c = level_told _ _ _ _ (sym c.level.ensures ∙ c.if-level.true)
 
-pub returns-then-level : goal.returns-then-level
-returns-then-level c = c.permtide_level.ensures
-
-pub returns : goal.returns
-returns c = rw (flat-uneven _ _ _ _ (sym c.level.ensures ∙ c.if-level.false))
+pub returns-else-level : goal.returns-else-level
+returns-else-level c = rw (flat-uneven _ _ _ _ (sym c.level.ensures ∙ c.if-level.false))

@@ -1,0 +1,2 @@
+-- What the contracts of `fix_columns` cite.
+pub mod Fixes
