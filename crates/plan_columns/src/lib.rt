@@ -9,6 +9,8 @@
 // reach of sine and cosine (document 02, A5), and the state that the next part goes on from. That
 // second number is taken from the columns before the step writes them. Exact: no rounding but the
 // steps' own. Used by the chain and by what runs a record.
+// The columns stay four parameters: a struct of four `&mut` needs a clause for each column and can't
+// lend parts of its fields, so it is no plainer (tried).
 #![tactic(auto)]
 
 ghost use Rattle.std.specs.Prelude.{◌≡◌};

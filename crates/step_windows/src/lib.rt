@@ -5,6 +5,12 @@
 // Proved for every plan and list: the list and the tally are those of the step over the whole list
 // (plans, specs/Plans.antt); a rest shorter than a tuple stays as it is. No rounding but the step's
 // own. Used by the chain's flat entry for sheets of one step, and its room by `windows`.
+// The columns stay four parameters: a struct of four `&mut` needs a clause for each column and can't
+// lend parts of its fields, so it is no plainer (tried).
+// Windows are parts of the list by their index, not `chunks_mut`: of a slice behind an iterator a proof
+// knows the length alone. `windows` has a loop of its own, since there each of sixteen steps has a
+// standing where here one has a state: one loop for both would keep an array for one step (tested
+// stack, and the time of a sheet of one step).
 #![tactic(auto)]
 
 ghost use Rattle.std.specs.Prelude.{◌≡◌, ◌+◌, ◌*◌, ◌≤◌, ◌<◌, min, length};

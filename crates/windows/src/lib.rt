@@ -7,6 +7,10 @@
 // tallies are those of all steps over the whole list (plans, specs/Windows.antt); a rest shorter
 // than a tuple stays as it is. No rounding but the steps' own. Plans are lent and standings changed
 // where they lie: an array by value stands twice on the stack. Used by the chain's flat entry.
+// The columns stay four parameters: a struct of four `&mut` needs a clause for each column and can't
+// lend parts of its fields, so it is no plainer (tried).
+// Plans are an array with the number of steps, not a slice: `over` promises its answer for every
+// number, also over sixteen, and its tallies have sixteen places.
 #![tactic(auto)]
 
 ghost use Rattle.std.specs.Prelude.{◌≡◌, true, false, ◌+◌, ◌*◌, ◌≤◌, ◌<◌, length};
