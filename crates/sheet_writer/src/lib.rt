@@ -90,7 +90,9 @@ fn kind_in(sheet: Sheet, i: usize) -> u32
     bodies::kind_of(entry_in(sheet, i).step)
 }
 
-// Rule 11 of a record: a second deformation step.
+// Rule 11 of a record: a second deformation step. The same walk over bytes is `check_kinds` of
+// sheet: one function for both would take the kind as a closure, and its clauses are longer than
+// the loop.
 fn check_steps(sheet: Sheet, n: usize) -> Result<(), Refusal>
     requires { n ≤ 16 }
     ensures { result ≡ unless (first_broken (elevens (kind_in sheet) n 0)) tt }
@@ -147,7 +149,8 @@ pub fn check_record(sheet: Sheet, room: usize) -> Result<(), Refusal>
 
 // ----- the writer ------------------------------------------------------------------------------
 
-// Four words: the header, or a place of the directory.
+// Four words: the header, or a place of the directory. rescue has these lines too: a public function
+// asks nothing of its caller, so one for both would test again what both have proved.
 fn put_words(room: &mut [u8], at: usize, a: u32, b: u32, c: u32, d: u32)
     requires { at + 16 ≤ length room.old }
     ensures { room.new ≡ put room.old at (le32 a ++ le32 b ++ le32 c ++ le32 d) }
