@@ -74,7 +74,7 @@ fn close(
     ensures { (room.new ≡ there_and_back_of s.now velocities.now marks.now list.now)
         × (result ≡ added_of report list.now (there_and_back_of s.now velocities.now marks.now list.now)) }
 {
-    room.copy_from_slice(list);
+    room.copy_from_slice(list); // the list as it was
     there_and_back(s, room, velocities, marks);
     closure_report::add(report, list, room)
 }

@@ -5,10 +5,10 @@ use Rattle.closure_run.proofs.close.Goals as goal
 pub there_and_back-requires : goal.there_and_back-requires
 there_and_back-requires c =
     let p = c.requires in
-    let same = c.copy_from_slice.ensures in
+    let same = c.copy_from_slice.ensures.after in
     (p.0, rw same p.1, rw same p.2)
 
 pub returns : goal.returns
 returns c =
-    let back = rw c.copy_from_slice.ensures at c.there_and_back.ensures in
+    let back = rw c.copy_from_slice.ensures.after at c.there_and_back.ensures in
     (back, c.add.ensures ∙ rw back)
