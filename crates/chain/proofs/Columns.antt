@@ -3,7 +3,7 @@
 -- what that call leaves. Assumes nothing.
 use Prim.Native.Nat.{ℕ, ◌*◌, ◌%◌, ◌≤◌}
 use native.Mathlib.Omega.{arith}
-use mathlib.Core.Path.{◌≡◌, refl}
+use mathlib.Core.Path.{◌≡◌, refl, sym, ap, ◌∙◌}
 use mathlib.Core.Bool.{Bool, true, false, not, cond, ◌||◌}
 use mathlib.Core.List.{List, []}
 use borrow.Author.Tests.{eq-eqb, ne_eqb, eqb-true, not-false, ltb-true, ltb-false, lt-ltb, le-ltb}
@@ -17,10 +17,13 @@ use Rattle.sheet.specs.declared.Refusal.{Refusal}
 use Rattle.sheet.specs.Layout.{step_count_of, kind_at, entry_at}
 use Rattle.sheet.specs.Rules.{of_call, first_broken, has_deformation, refusal_of}
 use Rattle.sheet.proofs.Order.{neither}
+use Rattle.std.specs.Prelude.{Result, Ok, Err}
+use Rattle.tally.specs.declared.Tally.{Tally}
 use Rattle.plans.specs.Lent.{lent_of}
-use Rattle.chain.specs.Chain.{Run, chain_of, entries_of}
-use Rattle.chain.specs.Rules.{refusal9, refusal10, shift_refusal_of, outcome, refused_answer, ran_outcome, outcome_of, shift_of}
-use Rattle.chain.specs.Columns.{refusal9_columns, columns_refusal_of, columns_outcome, ran_columns, columns_outcome_of, shift_columns_of}
+use Rattle.chain.specs.Chain.{Run, chain_of, places_of, entries_of}
+use Rattle.chain.specs.Rules.{refusal9, refusal10, shift_refusal_of, call_refusal_of, outcome, handed_out, refused_answer, ran_outcome, outcome_of, shift_of}
+use Rattle.chain.specs.Columns.{refusal9_columns, columns_refusal_of, ColumnsOutcome, columns_outcome, ran_columns, columns_outcome_of, shift_columns_of}
+use Rattle.chain.proofs.Outcome.{hands_out_a_refusal, hands_out_tallies}
 use Rattle.chain.proofs.Counts.{chain_length}
 
 -- ---- rule 9 kept: columns of one length, of at most 2,048 rows
@@ -58,6 +61,36 @@ module _ (own : Refusal) (deforms inverse : Bool) (es : List Entry) (c : Columns
       → columns_outcome_of own deforms inverse es c velocities marks ≡ ran_columns (chain_of inverse (lent_of velocities marks []) es (flat_of c.x c.y c.z c.t))
   unfolding columns_outcome_of columns_refusal_of first_broken
   columns-run-through h e f = rw (eq-eqb own.number 0 h, e, f)
+
+-- ---- which outcome the refusal of a call leads to, and what a function hands out of it
+
+abbrev pub ToldColumns : Result (List Tally) Refusal → Columns → ColumnsOutcome → Type 0
+ToldColumns result c o = (result ≡ handed_out o.answer) × (c ≡ o.columns)
+
+pub columns_told_refused : {result : Result (List Tally) Refusal} {c : Columns} {o : ColumnsOutcome} (r : Refusal) → o ≡ columns_outcome (refused_answer r) c
+    → (r.number ≡ 0 → ⊥) → result ≡ Err r → ToldColumns result c o
+columns_told_refused r e h p = rw e (p ∙ sym (hands_out_a_refusal r h), refl)
+
+pub columns_told-ran : {tallies : List Tally} {c : Columns} {o : ColumnsOutcome} (run : Run) → o ≡ ran_columns run → tallies ≡ places_of run.tallies → c ≡ columns_of run.list
+    → ToldColumns (Ok tallies) c o
+columns_told-ran run e p q = rw e (ap Ok p ∙ sym (hands_out_tallies (places_of run.tallies)), q)
+
+pub columns-refusal : (own : Refusal) (deforms : Bool) (c : Columns) (velocities : List Float) (marks : List ℕ) {nine : Bool}
+    → nine ≡ refusal9_columns (length c.x) (length c.y) (length c.z) (length c.t)
+    → columns_refusal_of own deforms c velocities marks ≡ call_refusal_of own nine deforms (4 * length c.x) velocities marks
+unfolding columns_refusal_of
+columns-refusal own deforms c velocities marks e = rw e
+
+module _ (own : Refusal) (deforms inverse : Bool) (es : List Entry) (c : Columns) (velocities : List Float) (marks : List ℕ) where
+  pub columns-refused-by : (r : Refusal) → columns_refusal_of own deforms c velocities marks ≡ r → (r.number ≡ 0 → ⊥)
+      → columns_outcome_of own deforms inverse es c velocities marks ≡ columns_outcome (refused_answer r) c
+  unfolding columns_outcome_of
+  columns-refused-by r e h = rw (e, ne_eqb r.number 0 h)
+
+  pub columns-run-by : (r : Refusal) → columns_refusal_of own deforms c velocities marks ≡ r → r.number ≡ 0
+      → columns_outcome_of own deforms inverse es c velocities marks ≡ ran_columns (chain_of inverse (lent_of velocities marks []) es (flat_of c.x c.y c.z c.t))
+  unfolding columns_outcome_of
+  columns-run-by r e h = rw (e, eq-eqb r.number 0 h)
 
 -- columns of one length are those of the flat list that they stand for
 pub columns_of_lem : (x y z t : List Float) {l : List Float} → Level x y z t → flat_of x y z t ≡ l → columns x y z t ≡ columns_of l

@@ -7,9 +7,8 @@ use Rattle.sheet.specs.declared.Refusal.{Refusal}
 use Rattle.sheet.specs.Layout.{step_count_of, kind_at, entry_at}
 use Rattle.sheet.specs.Rules.{of_call, rule, first_broken, has_deformation, refusal_of}
 use Rattle.plans.specs.Lent.{lent_of}
-use Rattle.chain.specs.declared.Answer.{Answer}
 use Rattle.chain.specs.Chain.{Run, chain_of, places_of, entries_of}
-use Rattle.chain.specs.Rules.{refusal10, refused_answer, ran_answer}
+use Rattle.chain.specs.Rules.{Answer, refusal10, refused_answer, ran_answer}
 
 -- columns of unequal length, or of over 2,048 rows
 unfoldable pub refusal9_columns : ℕ → ℕ → ℕ → ℕ → Bool

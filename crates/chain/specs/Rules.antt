@@ -1,14 +1,13 @@
 -- When a call is refused, by document 01's numbers, and what it answers. `refusal9` and
 -- `refusal10` say when the rule of that number is broken.
-use Rattle.std.specs.Prelude.{ℕ, ◌*◌, ◌/◌, ◌%◌, Bool, false, not, cond, ◌||◌, List, [], ◌∷◌, eqb, ltb, length, replicate, Float}
+use Rattle.std.specs.Prelude.{ℕ, Result, ◌*◌, ◌/◌, ◌%◌, Bool, false, not, cond, ◌||◌, List, [], ◌∷◌, eqb, ltb, length, replicate, Float}
 use Rattle.sheet.specs.declared.Entry.{Entry}
 use Rattle.sheet.specs.declared.Refusal.{Refusal}
 use Rattle.sheet.specs.Layout.{step_count_of, kind_at, entry_at}
-use Rattle.sheet.specs.Rules.{accepted, of_call, rule, first_broken, has_deformation, refusal_of}
+use Rattle.sheet.specs.Rules.{accepted, of_call, rule, first_broken, has_deformation, refusal_of, unless}
 use Rattle.tally.specs.declared.Tally.{Tally}
 use Rattle.tally.specs.Tallies.{no_tally}
 use Rattle.plans.specs.Lent.{lent_of}
-use Rattle.chain.specs.declared.Answer.{Answer}
 use Rattle.chain.specs.Chain.{Run, chain_of, places_of, entries_of}
 
 -- ---- the rules of the lent lists
@@ -40,7 +39,26 @@ shift_refusal_of own deforms l velocities marks =
     ∷ rule (of_call 10) (refusal10 deforms (length l) velocities marks)
     ∷ [])
 
+-- the same order, from whether 9 is broken and how many numbers the list has
+abbrev pub call_refusal_of : Refusal → Bool → Bool → ℕ → List Float → List ℕ → Refusal
+call_refusal_of own nine deforms numbers velocities marks =
+    first_broken
+    (rule own (not (eqb own.number 0))
+    ∷ rule (of_call 9) nine
+    ∷ rule (of_call 10) (refusal10 deforms numbers velocities marks)
+    ∷ [])
+
 -- ---- the answer
+
+-- no refusal and each step's tally in the sheet's order, how many tuples it counted and how many met
+-- an angle out of reach, zeros in the other places; or a refusal and zeros
+pub record Answer : Type 0 where
+  pub refusal : Refusal
+  pub tallies : List Tally
+
+-- what a function hands out of it: the tallies, or the refusal
+abbrev pub handed_out : Answer → Result (List Tally) Refusal
+handed_out answer = unless answer.refusal answer.tallies
 
 -- what a call answers, and the list afterwards
 pub record Outcome : Type 0 where

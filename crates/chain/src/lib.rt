@@ -8,29 +8,26 @@
 // and the two agree (proved there). The answer, the tallies and the list are fixed for every input by
 // specs/Rules.antt and specs/Columns.antt over specs/Chain.antt, which is made of the steps' own
 // definitions; nothing is written before the last test has passed. No rounding but the steps' own.
-// Used by the program and by callers that keep lists.
+// Used by the program and by callers that keep lists. Inner functions take what is lent as one value,
+// the entries slice by slice, as C hands them over.
+// The columns stay four parameters: a struct of four `&mut` needs a clause for each column and can't
+// lend parts of its fields, so it is no plainer (tried).
 #![tactic(auto)]
 
-ghost use Rattle.std.specs.Prelude.{◌≡◌, true, false, [], ◌*◌, ◌%◌, ◌≤◌, ◌<◌, length};
+ghost use Rattle.std.specs.Prelude.{◌≡◌, false, [], ◌*◌, ◌%◌, ◌≤◌, ◌<◌, ltb, length};
+ghost use Rattle.std.specs.List.{list_any};
 ghost use Rattle.columns.specs.Columns.{columns, Level, flat_of};
 ghost use Rattle.sheet.specs.Layout.{step_count_of, kind_at, entry_at};
-ghost use Rattle.sheet.specs.Rules.{has_deformation};
-ghost use Rattle.plans.specs.Lent.{lent_of};
-ghost use Rattle.chain.specs.Chain.{reversed_of, step_list_of, step_tally_of, chain_forward_of, chain_inverse_of, chain_of, places_of, entries_of};
-ghost use Rattle.chain.specs.Rules.{refusal9, over_one, lent_for, refusal10, refused_answer, ran_answer, outcome, shift_of};
-ghost use Rattle.chain.specs.Columns.{refusal9_columns, columns_outcome, shift_columns_of};
-ghost use Rattle.chain.specs.Grid.{shift_grid_of, shift_columns_grid_of};
+ghost use Rattle.sheet.specs.Rules.{has_deformation, refusal_of, unless};
+ghost use Rattle.plans.specs.Lent.{lent_in};
+ghost use Rattle.chain.specs.Chain.{reversed_of, step_list_of, step_tally_of, chain_of, places_of, entries_of};
+ghost use Rattle.chain.specs.Rules.{refusal9, lent_for, refusal10, call_refusal_of, handed_out, shift_of};
+ghost use Rattle.chain.specs.Columns.{refusal9_columns, shift_columns_of};
+ghost use Rattle.chain.specs.Grid.{grid_refusal_of, shift_grid_of, shift_columns_grid_of};
 
+use plans::Loan;
 use sheet::{Entry, Refusal};
 use tally::Tally;
-
-// What a call answers: no refusal and each step's tally in the sheet's order, how many tuples it
-// counted and how many met an angle out of reach, zeros in the other places; or a refusal and zeros.
-#[derive(Clone, Copy)]
-pub struct Answer {
-    pub refusal: Refusal,
-    pub tallies: [Tally; 16],
-}
 
 // ----- one step over the columns ---------------------------------------------------------------
 
@@ -50,18 +47,15 @@ fn step_at(
     y: &mut [f64],
     z: &mut [f64],
     t: &mut [f64],
-    velocities: &[f64],
-    marks: &[u8],
-    grid: &[u8],
+    lent: Loan<'_>,
 ) -> Tally
     requires { (i < step_count_of s.now) × Level x.old y.old z.old t.old × (length x.old ≤ 2048) }
     ensures { (flat_of x.new y.new z.new t.new
-        ≡ step_list_of inverse (lent_of velocities.now marks.now grid.now) (entry_at s.now i) (flat_of x.old y.old z.old t.old))
-        × (result ≡ step_tally_of inverse (lent_of velocities.now marks.now grid.now) (entry_at s.now i) (flat_of x.old y.old z.old t.old)) }
+        ≡ step_list_of inverse (lent_in lent.entry) (entry_at s.now i) (flat_of x.old y.old z.old t.old))
+        × (result ≡ step_tally_of inverse (lent_in lent.entry) (entry_at s.now i) (flat_of x.old y.old z.old t.old)) }
 {
     let plan = sheet_plans::plan_at(inverse, s, i);
-    let from = plans::start(plan);
-    let part = plan_columns::run(plan, 0, from, x, y, z, t, velocities, marks, grid);
+    let part = plan_columns::run(plan, 0, plans::start(plan), x, y, z, t, lent);
     Tally {
         count: part.count,
         met: part.met,
@@ -69,58 +63,6 @@ fn step_at(
 }
 
 // ----- a sheet's steps, one after another ------------------------------------------------------
-
-fn forward(
-    s: &[u8],
-    n: usize,
-    x: &mut [f64],
-    y: &mut [f64],
-    z: &mut [f64],
-    t: &mut [f64],
-    velocities: &[f64],
-    marks: &[u8],
-    grid: &[u8],
-) -> [Tally; 16]
-    requires { (n ≤ 16) × (n ≡ step_count_of s.now) × Level x.old y.old z.old t.old × (length x.old ≤ 2048) }
-    ensures { (flat_of x.new y.new z.new t.new
-        ≡ (chain_forward_of (lent_of velocities.now marks.now grid.now) (entries_of (entry_at s.now) n 0) (flat_of x.old y.old z.old t.old)).list)
-        × (result ≡ places_of (chain_forward_of (lent_of velocities.now marks.now grid.now) (entries_of (entry_at s.now) n 0) (flat_of x.old y.old z.old t.old)).tallies) }
-{
-    let mut tallies = [tally::none(); 16];
-    let mut i = 0;
-    while i < n {
-        let tally = step_at(false, s, i, x, y, z, t, velocities, marks, grid); // the first step first
-        tallies[i] = tally; // in the sheet's order
-        i += 1;
-    }
-    tallies
-}
-
-fn backward(
-    s: &[u8],
-    n: usize,
-    x: &mut [f64],
-    y: &mut [f64],
-    z: &mut [f64],
-    t: &mut [f64],
-    velocities: &[f64],
-    marks: &[u8],
-    grid: &[u8],
-) -> [Tally; 16]
-    requires { (n ≤ 16) × (n ≡ step_count_of s.now) × Level x.old y.old z.old t.old × (length x.old ≤ 2048) }
-    ensures { (flat_of x.new y.new z.new t.new
-        ≡ (chain_inverse_of (lent_of velocities.now marks.now grid.now) (entries_of (entry_at s.now) n 0) (flat_of x.old y.old z.old t.old)).list)
-        × (result ≡ places_of (chain_inverse_of (lent_of velocities.now marks.now grid.now) (entries_of (entry_at s.now) n 0) (flat_of x.old y.old z.old t.old)).tallies) }
-{
-    let mut tallies = [tally::none(); 16];
-    let mut i = n;
-    while 0 < i {
-        i -= 1;
-        let tally = step_at(true, s, i, x, y, z, t, velocities, marks, grid); // the last step first
-        tallies[i] = tally;
-    }
-    tallies
-}
 
 // The whole columns in either direction.
 fn over_columns(
@@ -131,19 +73,26 @@ fn over_columns(
     y: &mut [f64],
     z: &mut [f64],
     t: &mut [f64],
-    velocities: &[f64],
-    marks: &[u8],
-    grid: &[u8],
+    lent: Loan<'_>,
 ) -> [Tally; 16]
     requires { (n ≤ 16) × (n ≡ step_count_of s.now) × Level x.old y.old z.old t.old × (length x.old ≤ 2048) }
     ensures { (flat_of x.new y.new z.new t.new
-        ≡ (chain_of inverse (lent_of velocities.now marks.now grid.now) (entries_of (entry_at s.now) n 0) (flat_of x.old y.old z.old t.old)).list)
-        × (result ≡ places_of (chain_of inverse (lent_of velocities.now marks.now grid.now) (entries_of (entry_at s.now) n 0) (flat_of x.old y.old z.old t.old)).tallies) }
+        ≡ (chain_of inverse (lent_in lent.entry) (entries_of (entry_at s.now) n 0) (flat_of x.old y.old z.old t.old)).list)
+        × (result ≡ places_of (chain_of inverse (lent_in lent.entry) (entries_of (entry_at s.now) n 0) (flat_of x.old y.old z.old t.old)).tallies) }
 {
+    let mut tallies = [tally::none(); 16];
     if inverse {
-        return backward(s, n, x, y, z, t, velocities, marks, grid);
+        for i in (0..n).rev() {
+            let tally = step_at(true, s, i, x, y, z, t, lent); // the last step first
+            tallies[i] = tally;
+        }
+    } else {
+        for i in 0..n {
+            let tally = step_at(false, s, i, x, y, z, t, lent); // the first step first
+            tallies[i] = tally; // in the sheet's order
+        }
     }
-    forward(s, n, x, y, z, t, velocities, marks, grid)
+    tallies
 }
 
 // ----- a flat list -----------------------------------------------------------------------------
@@ -158,16 +107,14 @@ fn through(
     y: &mut [f64],
     z: &mut [f64],
     t: &mut [f64],
-    velocities: &[f64],
-    marks: &[u8],
-    grid: &[u8],
+    lent: Loan<'_>,
 ) -> [Tally; 16]
     requires { (n ≤ 16) × (n ≡ step_count_of s.now) × Level x.old y.old z.old t.old × (length list.old ≡ 4 * length x.old) × (length x.old ≤ 16) }
-    ensures { (list.new ≡ (chain_of inverse (lent_of velocities.now marks.now grid.now) (entries_of (entry_at s.now) n 0) list.old).list)
-        × (result ≡ places_of (chain_of inverse (lent_of velocities.now marks.now grid.now) (entries_of (entry_at s.now) n 0) list.old).tallies) }
+    ensures { (list.new ≡ (chain_of inverse (lent_in lent.entry) (entries_of (entry_at s.now) n 0) list.old).list)
+        × (result ≡ places_of (chain_of inverse (lent_in lent.entry) (entries_of (entry_at s.now) n 0) list.old).tallies) }
 {
     columns::to_columns(list, x, y, z, t);
-    let tallies = over_columns(inverse, s, n, x, y, z, t, velocities, marks, grid);
+    let tallies = over_columns(inverse, s, n, x, y, z, t, lent);
     columns::to_flat(x, y, z, t, list);
     tallies
 }
@@ -180,18 +127,10 @@ fn zeros() -> [f64; 16]
 }
 
 // A list of at most sixteen tuples, in one go.
-fn short(
-    inverse: bool,
-    s: &[u8],
-    n: usize,
-    list: &mut [f64],
-    velocities: &[f64],
-    marks: &[u8],
-    grid: &[u8],
-) -> [Tally; 16]
+fn short(inverse: bool, s: &[u8], n: usize, list: &mut [f64], lent: Loan<'_>) -> [Tally; 16]
     requires { (n ≤ 16) × (n ≡ step_count_of s.now) × (length list.old % 4 ≡ 0) × (length list.old ≤ 64) }
-    ensures { (list.new ≡ (chain_of inverse (lent_of velocities.now marks.now grid.now) (entries_of (entry_at s.now) n 0) list.old).list)
-        × (result ≡ places_of (chain_of inverse (lent_of velocities.now marks.now grid.now) (entries_of (entry_at s.now) n 0) list.old).tallies) }
+    ensures { (list.new ≡ (chain_of inverse (lent_in lent.entry) (entries_of (entry_at s.now) n 0) list.old).list)
+        × (result ≡ places_of (chain_of inverse (lent_in lent.entry) (entries_of (entry_at s.now) n 0) list.old).tallies) }
 {
     let mut x = zeros();
     let mut y = zeros();
@@ -207,55 +146,38 @@ fn short(
         &mut y[..m],
         &mut z[..m],
         &mut t[..m],
-        velocities,
-        marks,
-        grid,
+        lent,
     )
 }
 
 // A sheet of one step over a long list: its plan alone is made.
-fn alone(
-    inverse: bool,
-    s: &[u8],
-    list: &mut [f64],
-    velocities: &[f64],
-    marks: &[u8],
-    grid: &[u8],
-) -> [Tally; 16]
+fn alone(inverse: bool, s: &[u8], list: &mut [f64], lent: Loan<'_>) -> [Tally; 16]
     requires { 0 < step_count_of s.now }
-    ensures { (list.new ≡ (chain_of inverse (lent_of velocities.now marks.now grid.now) (entries_of (entry_at s.now) 1 0) list.old).list)
-        × (result ≡ places_of (chain_of inverse (lent_of velocities.now marks.now grid.now) (entries_of (entry_at s.now) 1 0) list.old).tallies) }
+    ensures { (list.new ≡ (chain_of inverse (lent_in lent.entry) (entries_of (entry_at s.now) 1 0) list.old).list)
+        × (result ≡ places_of (chain_of inverse (lent_in lent.entry) (entries_of (entry_at s.now) 1 0) list.old).tallies) }
 {
     let plan = sheet_plans::plan_at(inverse, s, 0);
-    let tally = step_windows::over(plan, list, velocities, marks, grid);
+    let tally = step_windows::over(plan, list, lent);
     let mut tallies = [tally::none(); 16];
     tallies[0] = tally;
     tallies
 }
 
 // A list of whole tuples of any length in rule.
-fn over_list(
-    inverse: bool,
-    s: &[u8],
-    n: usize,
-    list: &mut [f64],
-    velocities: &[f64],
-    marks: &[u8],
-    grid: &[u8],
-) -> [Tally; 16]
+fn over_list(inverse: bool, s: &[u8], n: usize, list: &mut [f64], lent: Loan<'_>) -> [Tally; 16]
     requires { (n ≤ 16) × (n ≡ step_count_of s.now) × (length list.old % 4 ≡ 0) × (length list.old ≤ 8192) }
-    ensures { (list.new ≡ (chain_of inverse (lent_of velocities.now marks.now grid.now) (entries_of (entry_at s.now) n 0) list.old).list)
-        × (result ≡ places_of (chain_of inverse (lent_of velocities.now marks.now grid.now) (entries_of (entry_at s.now) n 0) list.old).tallies) }
+    ensures { (list.new ≡ (chain_of inverse (lent_in lent.entry) (entries_of (entry_at s.now) n 0) list.old).list)
+        × (result ≡ places_of (chain_of inverse (lent_in lent.entry) (entries_of (entry_at s.now) n 0) list.old).tallies) }
 {
     if list.len() <= 64 {
-        return short(inverse, s, n, list, velocities, marks, grid);
+        return short(inverse, s, n, list, lent);
     }
     if n == 1 {
-        return alone(inverse, s, list, velocities, marks, grid);
+        return alone(inverse, s, list, lent);
     }
     let mut plans = [sheet_plans::NO_PLAN; 16];
     sheet_plans::plans_of(inverse, s, n, &mut plans);
-    windows::over(inverse, &plans, n, list, velocities, marks, grid)
+    windows::over(inverse, &plans, n, list, lent)
 }
 
 // ----- without a grid --------------------------------------------------------------------------
@@ -265,42 +187,6 @@ pub fn no_grid(s: &[u8]) -> &[u8]
     ensures { result.now ≡ [] }
 {
     &s[0..0]
-}
-
-fn list_without_grid(
-    inverse: bool,
-    s: &[u8],
-    n: usize,
-    list: &mut [f64],
-    velocities: &[f64],
-    marks: &[u8],
-) -> [Tally; 16]
-    requires { (n ≤ 16) × (n ≡ step_count_of s.now) × (length list.old % 4 ≡ 0) × (length list.old ≤ 8192) }
-    ensures { (list.new ≡ (chain_of inverse (lent_of velocities.now marks.now []) (entries_of (entry_at s.now) n 0) list.old).list)
-        × (result ≡ places_of (chain_of inverse (lent_of velocities.now marks.now []) (entries_of (entry_at s.now) n 0) list.old).tallies) }
-{
-    let none = no_grid(s);
-    over_list(inverse, s, n, list, velocities, marks, none)
-}
-
-fn columns_without_grid(
-    inverse: bool,
-    s: &[u8],
-    n: usize,
-    x: &mut [f64],
-    y: &mut [f64],
-    z: &mut [f64],
-    t: &mut [f64],
-    velocities: &[f64],
-    marks: &[u8],
-) -> [Tally; 16]
-    requires { (n ≤ 16) × (n ≡ step_count_of s.now) × Level x.old y.old z.old t.old × (length x.old ≤ 2048) }
-    ensures { (flat_of x.new y.new z.new t.new
-        ≡ (chain_of inverse (lent_of velocities.now marks.now []) (entries_of (entry_at s.now) n 0) (flat_of x.old y.old z.old t.old)).list)
-        × (result ≡ places_of (chain_of inverse (lent_of velocities.now marks.now []) (entries_of (entry_at s.now) n 0) (flat_of x.old y.old z.old t.old)).tallies) }
-{
-    let none = no_grid(s);
-    over_columns(inverse, s, n, x, y, z, t, velocities, marks, none)
 }
 
 // ----- the rules of the lent lists --------------------------------------------------------------
@@ -321,26 +207,16 @@ pub fn columns_broken(x: usize, y: usize, z: usize, t: usize) -> bool
 
 // A mark over 1.
 fn over_one(marks: &[u8]) -> bool
-    ensures { result ≡ over_one marks.now }
+    ensures { result ≡ list_any (λ mark. ltb 1 mark) marks.now }
 {
-    let mut i = 0;
-    while i < marks.len() {
-        if 1 < marks[i] {
-            return true;
-        }
-        i += 1;
-    }
-    false
+    marks.iter().any(|mark| 1 < *mark)
 }
 
 // How many velocities and marks a list wants.
 fn lent_for(deforms: bool, numbers: usize) -> usize
     ensures { (result ≡ lent_for deforms numbers) × (result < 4611686018427387904) }
 {
-    if deforms {
-        return numbers / 4;
-    }
-    0
+    if deforms { numbers / 4 } else { 0 }
 }
 
 // Rule 10.
@@ -348,13 +224,7 @@ pub fn lent_broken(deforms: bool, numbers: usize, velocities: &[f64], marks: &[u
     ensures { result ≡ refusal10 deforms numbers velocities.now marks.now }
 {
     let tuples = lent_for(deforms, numbers);
-    if velocities.len() != 3 * tuples {
-        return true;
-    }
-    if marks.len() != tuples {
-        return true;
-    }
-    over_one(marks)
+    (velocities.len() != 3 * tuples) | (marks.len() != tuples) | over_one(marks)
 }
 
 // Whether one of the first n steps is a deformation step.
@@ -362,10 +232,8 @@ fn deforms(s: &[u8], n: usize) -> bool
     ensures { result ≡ has_deformation (kind_at s.now) n }
 {
     let mut found = false;
-    let mut i = 0;
-    while i < n {
-        found = found | (sheet::kind_at(s, i) == 5);
-        i += 1;
+    for i in 0..n {
+        found |= sheet::kind_at(s, i) == 5;
     }
     found
 }
@@ -377,28 +245,57 @@ pub fn has_deformation(s: &[u8]) -> bool
     deforms(s, sheet::step_count(s))
 }
 
+// ----- the rules of a call ----------------------------------------------------------------------
+
+// The rules in the document's order, from whether 9 is broken: the sheet's own, 9, and 10 for a list
+// of so many tuples.
+fn judge(
+    s: &[u8],
+    nine: bool,
+    tuples: usize,
+    velocities: &[f64],
+    marks: &[u8],
+) -> Result<(), Refusal>
+    requires { nine ≡ false → tuples ≤ 2048 }
+    ensures { result ≡ unless (call_refusal_of (refusal_of s.now) nine (has_deformation (kind_at s.now) (step_count_of s.now)) (4 * tuples) velocities.now marks.now) tt }
+{
+    sheet::check(s)?;
+    if nine {
+        return Err(Refusal::of_call(9));
+    }
+    if lent_broken(has_deformation(s), 4 * tuples, velocities, marks) {
+        return Err(Refusal::of_call(10));
+    }
+    Ok(())
+}
+
+// The same with a velocity grid: the sheet's own, 9, 10, and the grid's 17 and 18.
+fn judge_grid(
+    s: &[u8],
+    nine: bool,
+    velocities: &[f64],
+    marks: &[u8],
+    grid: &[u8],
+) -> Result<(), Refusal>
+    ensures { result ≡ unless (grid_refusal_of (refusal_of s.now) nine velocities.now marks.now grid.now) tt }
+{
+    sheet::check(s)?;
+    if nine {
+        return Err(Refusal::of_call(9));
+    }
+    if lent_broken(false, 0, velocities, marks) {
+        return Err(Refusal::of_call(10));
+    }
+    if let Err(number) = grid_rules::check_grid(grid) {
+        return Err(Refusal::of_call(number));
+    }
+    Ok(())
+}
+
 // ----- the entries ------------------------------------------------------------------------------
 
-pub fn refused(refusal: Refusal) -> Answer
-    ensures { result ≡ refused_answer refusal }
-{
-    let tallies = [tally::none(); 16];
-    Answer {
-        refusal: refusal,
-        tallies: tallies,
-    }
-}
-
-pub fn ran(tallies: [Tally; 16]) -> Answer
-    ensures { result ≡ ran_answer tallies }
-{
-    Answer {
-        refusal: Refusal::none(),
-        tallies: tallies,
-    }
-}
-
-// A sheet's bytes over columns.
+// A sheet's bytes over columns: each step's tally in the sheet's order, how many tuples it counted
+// and how many met an angle out of reach, and zeros in the other places; or the refusal.
 pub fn shift_columns(
     inverse: bool,
     s: &[u8],
@@ -408,45 +305,42 @@ pub fn shift_columns(
     t: &mut [f64],
     velocities: &[f64],
     marks: &[u8],
-) -> Answer
-    ensures { columns_outcome result (columns x.new y.new z.new t.new)
-        ≡ shift_columns_of inverse s.now (columns x.old y.old z.old t.old) velocities.now marks.now }
+) -> Result<[Tally; 16], Refusal>
+    ensures { (result ≡ handed_out (shift_columns_of inverse s.now (columns x.old y.old z.old t.old) velocities.now marks.now).answer)
+        × (columns x.new y.new z.new t.new ≡ (shift_columns_of inverse s.now (columns x.old y.old z.old t.old) velocities.now marks.now).columns) }
 {
-    let own = sheet::check(s);
-    if own.number != 0 {
-        return refused(own);
-    }
-    if columns_broken(x.len(), y.len(), z.len(), t.len()) {
-        return refused(Refusal::of_call(9));
-    }
+    let nine = columns_broken(x.len(), y.len(), z.len(), t.len());
+    judge(s, nine, x.len(), velocities, marks)?;
+    let lent = Loan {
+        velocities,
+        marks,
+        grid: no_grid(s),
+    };
     let n = sheet::step_count(s);
-    if lent_broken(deforms(s, n), 4 * x.len(), velocities, marks) {
-        return refused(Refusal::of_call(10));
-    }
-    let tallies = columns_without_grid(inverse, s, n, x, y, z, t, velocities, marks);
-    ran(tallies)
+    Ok(over_columns(inverse, s, n, x, y, z, t, lent))
 }
 
 // A sheet's bytes over a flat list.
-pub fn shift(inverse: bool, s: &[u8], list: &mut [f64], velocities: &[f64], marks: &[u8]) -> Answer
-    ensures { outcome result list.new ≡ shift_of inverse s.now list.old velocities.now marks.now }
+pub fn shift(
+    inverse: bool,
+    s: &[u8],
+    list: &mut [f64],
+    velocities: &[f64],
+    marks: &[u8],
+) -> Result<[Tally; 16], Refusal>
+    ensures { (result ≡ handed_out (shift_of inverse s.now list.old velocities.now marks.now).answer)
+        × (list.new ≡ (shift_of inverse s.now list.old velocities.now marks.now).list) }
 {
-    let own = sheet::check(s);
-    if own.number != 0 {
-        return refused(own);
-    }
-    if list_broken(list.len()) {
-        return refused(Refusal::of_call(9));
-    }
+    let nine = list_broken(list.len());
+    judge(s, nine, list.len() / 4, velocities, marks)?;
+    let lent = Loan {
+        velocities,
+        marks,
+        grid: no_grid(s),
+    };
     let n = sheet::step_count(s);
-    if lent_broken(deforms(s, n), list.len(), velocities, marks) {
-        return refused(Refusal::of_call(10));
-    }
-    let tallies = list_without_grid(inverse, s, n, list, velocities, marks);
-    ran(tallies)
+    Ok(over_list(inverse, s, n, list, lent))
 }
-
-// ----- the entries with a grid ------------------------------------------------------------------
 
 // A sheet's bytes over columns, with a velocity grid.
 pub fn shift_columns_grid(
@@ -459,27 +353,19 @@ pub fn shift_columns_grid(
     velocities: &[f64],
     marks: &[u8],
     grid: &[u8],
-) -> Answer
-    ensures { columns_outcome result (columns x.new y.new z.new t.new)
-        ≡ shift_columns_grid_of inverse s.now (columns x.old y.old z.old t.old) velocities.now marks.now grid.now }
+) -> Result<[Tally; 16], Refusal>
+    ensures { (result ≡ handed_out (shift_columns_grid_of inverse s.now (columns x.old y.old z.old t.old) velocities.now marks.now grid.now).answer)
+        × (columns x.new y.new z.new t.new ≡ (shift_columns_grid_of inverse s.now (columns x.old y.old z.old t.old) velocities.now marks.now grid.now).columns) }
 {
-    let own = sheet::check(s);
-    if own.number != 0 {
-        return refused(own);
-    }
-    if columns_broken(x.len(), y.len(), z.len(), t.len()) {
-        return refused(Refusal::of_call(9));
-    }
-    if lent_broken(false, 0, velocities, marks) {
-        return refused(Refusal::of_call(10));
-    }
-    let broken = grid_rules::check_grid(grid);
-    if broken != 0 {
-        return refused(Refusal::of_call(broken));
-    }
+    let nine = columns_broken(x.len(), y.len(), z.len(), t.len());
+    judge_grid(s, nine, velocities, marks, grid)?;
+    let lent = Loan {
+        velocities,
+        marks,
+        grid,
+    };
     let n = sheet::step_count(s);
-    let tallies = over_columns(inverse, s, n, x, y, z, t, velocities, marks, grid);
-    ran(tallies)
+    Ok(over_columns(inverse, s, n, x, y, z, t, lent))
 }
 
 // A sheet's bytes over a flat list, with a velocity grid.
@@ -490,24 +376,16 @@ pub fn shift_grid(
     velocities: &[f64],
     marks: &[u8],
     grid: &[u8],
-) -> Answer
-    ensures { outcome result list.new ≡ shift_grid_of inverse s.now list.old velocities.now marks.now grid.now }
+) -> Result<[Tally; 16], Refusal>
+    ensures { (result ≡ handed_out (shift_grid_of inverse s.now list.old velocities.now marks.now grid.now).answer)
+        × (list.new ≡ (shift_grid_of inverse s.now list.old velocities.now marks.now grid.now).list) }
 {
-    let own = sheet::check(s);
-    if own.number != 0 {
-        return refused(own);
-    }
-    if list_broken(list.len()) {
-        return refused(Refusal::of_call(9));
-    }
-    if lent_broken(false, 0, velocities, marks) {
-        return refused(Refusal::of_call(10));
-    }
-    let broken = grid_rules::check_grid(grid);
-    if broken != 0 {
-        return refused(Refusal::of_call(broken));
-    }
+    judge_grid(s, list_broken(list.len()), velocities, marks, grid)?;
+    let lent = Loan {
+        velocities,
+        marks,
+        grid,
+    };
     let n = sheet::step_count(s);
-    let tallies = over_list(inverse, s, n, list, velocities, marks, grid);
-    ran(tallies)
+    Ok(over_list(inverse, s, n, list, lent))
 }

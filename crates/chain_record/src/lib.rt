@@ -7,80 +7,26 @@
 // definitions. No rounding but the steps' own. For callers that hold a sheet as a record.
 #![tactic(auto)]
 
-ghost use Rattle.std.specs.Prelude.{◌≡◌, [], ◌≤◌};
+ghost use Rattle.std.specs.Prelude.{◌≡◌, ◌≤◌};
 ghost use Rattle.sheet.specs.Layout.{entry_of, kind_in};
 ghost use Rattle.sheet.specs.Rules.{has_deformation};
-ghost use Rattle.plans.specs.Lent.{lent_of};
-ghost use Rattle.chain.specs.Chain.{step_list_of, step_tally_of, chain_forward_of, chain_inverse_of, chain_of, places_of, entries_of};
-ghost use Rattle.chain.specs.Rules.{outcome};
+ghost use Rattle.plans.specs.Lent.{lent_in};
+ghost use Rattle.chain.specs.Chain.{step_list_of, step_tally_of, chain_of, places_of, entries_of};
+ghost use Rattle.chain.specs.Rules.{handed_out};
 ghost use Rattle.chain_record.specs.Record.{shift_record_of, shift_record_grid_of};
 
-use chain::Answer;
+use plans::Loan;
 use sheet::{Entry, Refusal, Sheet};
 use tally::Tally;
 
 // One step over the list, a window of it at a time.
-fn run_step(
-    inverse: bool,
-    entry: Entry,
-    list: &mut [f64],
-    velocities: &[f64],
-    marks: &[u8],
-    grid: &[u8],
-) -> Tally
-    ensures { (list.new ≡ step_list_of inverse (lent_of velocities.now marks.now grid.now) entry list.old)
-        × (result ≡ step_tally_of inverse (lent_of velocities.now marks.now grid.now) entry list.old) }
+fn run_step(inverse: bool, entry: Entry, list: &mut [f64], lent: Loan<'_>) -> Tally
+    ensures { (list.new ≡ step_list_of inverse (lent_in lent.entry) entry list.old)
+        × (result ≡ step_tally_of inverse (lent_in lent.entry) entry list.old) }
 {
     let inv = chain::reversed(inverse, entry);
-    let step = entry.step;
-    let plan = plans::plan_of_step(inv, step);
-    step_windows::over(plan, list, velocities, marks, grid)
-}
-
-fn forward_record(
-    kept: Sheet,
-    n: usize,
-    list: &mut [f64],
-    velocities: &[f64],
-    marks: &[u8],
-    grid: &[u8],
-) -> [Tally; 16]
-    requires { n ≤ 16 }
-    ensures { (list.new ≡ (chain_forward_of (lent_of velocities.now marks.now grid.now) (entries_of (entry_of kept) n 0) list.old).list)
-        × (result ≡ places_of (chain_forward_of (lent_of velocities.now marks.now grid.now) (entries_of (entry_of kept) n 0) list.old).tallies) }
-{
-    let mut tallies = [tally::none(); 16];
-    let mut i = 0;
-    while i < n {
-        let entry = kept.entries[i];
-        let tally = run_step(false, entry, list, velocities, marks, grid);
-        tallies[i] = tally;
-        i += 1;
-    }
-    tallies
-}
-
-fn backward_record(
-    kept: Sheet,
-    n: usize,
-    list: &mut [f64],
-    velocities: &[f64],
-    marks: &[u8],
-    grid: &[u8],
-) -> [Tally; 16]
-    requires { n ≤ 16 }
-    ensures { (list.new ≡ (chain_inverse_of (lent_of velocities.now marks.now grid.now) (entries_of (entry_of kept) n 0) list.old).list)
-        × (result ≡ places_of (chain_inverse_of (lent_of velocities.now marks.now grid.now) (entries_of (entry_of kept) n 0) list.old).tallies) }
-{
-    let mut tallies = [tally::none(); 16];
-    let mut i = n;
-    while 0 < i {
-        i -= 1;
-        let entry = kept.entries[i];
-        let tally = run_step(true, entry, list, velocities, marks, grid);
-        tallies[i] = tally;
-    }
-    tallies
+    let plan = plans::plan_of_step(inv, entry.step);
+    step_windows::over(plan, list, lent)
 }
 
 // All n steps, in the order of the direction.
@@ -89,35 +35,25 @@ fn over_record(
     kept: Sheet,
     n: usize,
     list: &mut [f64],
-    velocities: &[f64],
-    marks: &[u8],
-    grid: &[u8],
+    lent: Loan<'_>,
 ) -> [Tally; 16]
     requires { n ≤ 16 }
-    ensures { (list.new ≡ (chain_of inverse (lent_of velocities.now marks.now grid.now) (entries_of (entry_of kept) n 0) list.old).list)
-        × (result ≡ places_of (chain_of inverse (lent_of velocities.now marks.now grid.now) (entries_of (entry_of kept) n 0) list.old).tallies) }
+    ensures { (list.new ≡ (chain_of inverse (lent_in lent.entry) (entries_of (entry_of kept) n 0) list.old).list)
+        × (result ≡ places_of (chain_of inverse (lent_in lent.entry) (entries_of (entry_of kept) n 0) list.old).tallies) }
 {
+    let mut tallies = [tally::none(); 16];
     if inverse {
-        return backward_record(kept, n, list, velocities, marks, grid);
+        for i in (0..n).rev() {
+            let tally = run_step(true, kept.entries[i], list, lent);
+            tallies[i] = tally;
+        }
+    } else {
+        for i in 0..n {
+            let tally = run_step(false, kept.entries[i], list, lent);
+            tallies[i] = tally;
+        }
     }
-    forward_record(kept, n, list, velocities, marks, grid)
-}
-
-// The same without a grid.
-fn record_without_grid(
-    inverse: bool,
-    kept: Sheet,
-    n: usize,
-    list: &mut [f64],
-    velocities: &[f64],
-    marks: &[u8],
-) -> [Tally; 16]
-    requires { n ≤ 16 }
-    ensures { (list.new ≡ (chain_of inverse (lent_of velocities.now marks.now []) (entries_of (entry_of kept) n 0) list.old).list)
-        × (result ≡ places_of (chain_of inverse (lent_of velocities.now marks.now []) (entries_of (entry_of kept) n 0) list.old).tallies) }
-{
-    let none = chain::no_grid(marks);
-    over_record(inverse, kept, n, list, velocities, marks, none)
+    tallies
 }
 
 // Whether one of the first n steps is a deformation step.
@@ -126,12 +62,8 @@ fn deforms_record(kept: Sheet, n: usize) -> bool
     ensures { result ≡ has_deformation (kind_in kept) n }
 {
     let mut found = false;
-    let mut i = 0;
-    while i < n {
-        let entry = kept.entries[i];
-        let step = entry.step;
-        found = found | (bodies::kind_of(step) == 5);
-        i += 1;
+    for i in 0..n {
+        found |= bodies::kind_of(kept.entries[i].step) == 5;
     }
     found
 }
@@ -143,22 +75,24 @@ pub fn shift_record(
     list: &mut [f64],
     velocities: &[f64],
     marks: &[u8],
-) -> Answer
-    ensures { outcome result list.new ≡ shift_record_of inverse kept list.old velocities.now marks.now }
+) -> Result<[Tally; 16], Refusal>
+    ensures { (result ≡ handed_out (shift_record_of inverse kept list.old velocities.now marks.now).answer)
+        × (list.new ≡ (shift_record_of inverse kept list.old velocities.now marks.now).list) }
 {
-    let own = sheet_writer::check_record(kept, 4240); // any sheet fits
-    if own.number != 0 {
-        return chain::refused(own);
-    }
+    sheet_writer::check_record(kept, 4240)?; // any sheet fits
     if chain::list_broken(list.len()) {
-        return chain::refused(Refusal::of_call(9));
+        return Err(Refusal::of_call(9));
     }
     let n = words::wide(kept.count);
     if chain::lent_broken(deforms_record(kept, n), list.len(), velocities, marks) {
-        return chain::refused(Refusal::of_call(10));
+        return Err(Refusal::of_call(10));
     }
-    let tallies = record_without_grid(inverse, kept, n, list, velocities, marks);
-    chain::ran(tallies)
+    let lent = Loan {
+        velocities,
+        marks,
+        grid: chain::no_grid(marks),
+    };
+    Ok(over_record(inverse, kept, n, list, lent))
 }
 
 // The same with a velocity grid, which is always lent here, whether or not the record deforms.
@@ -169,24 +103,25 @@ pub fn shift_record_grid(
     velocities: &[f64],
     marks: &[u8],
     grid: &[u8],
-) -> Answer
-    ensures { outcome result list.new ≡ shift_record_grid_of inverse kept list.old velocities.now marks.now grid.now }
+) -> Result<[Tally; 16], Refusal>
+    ensures { (result ≡ handed_out (shift_record_grid_of inverse kept list.old velocities.now marks.now grid.now).answer)
+        × (list.new ≡ (shift_record_grid_of inverse kept list.old velocities.now marks.now grid.now).list) }
 {
-    let own = sheet_writer::check_record(kept, 4240); // with a grid too
-    if own.number != 0 {
-        return chain::refused(own);
-    }
+    sheet_writer::check_record(kept, 4240)?; // with a grid too
     if chain::list_broken(list.len()) {
-        return chain::refused(Refusal::of_call(9));
+        return Err(Refusal::of_call(9));
     }
     if chain::lent_broken(false, 0, velocities, marks) {
-        return chain::refused(Refusal::of_call(10));
+        return Err(Refusal::of_call(10));
     }
-    let broken = grid_rules::check_grid(grid);
-    if broken != 0 {
-        return chain::refused(Refusal::of_call(broken));
+    if let Err(number) = grid_rules::check_grid(grid) {
+        return Err(Refusal::of_call(number));
     }
+    let lent = Loan {
+        velocities,
+        marks,
+        grid,
+    };
     let n = words::wide(kept.count);
-    let tallies = over_record(inverse, kept, n, list, velocities, marks, grid);
-    chain::ran(tallies)
+    Ok(over_record(inverse, kept, n, list, lent))
 }

@@ -1,6 +1,6 @@
 -- Which refusal each of a call's tests leads to; that the chain runs both ways where the rules are
 -- kept, since it leaves a list's length; and what a call then answers. Assumes nothing.
-use mathlib.Core.Path.{◌≡◌, sym, ap, ◌∙◌}
+use mathlib.Core.Path.{◌≡◌, refl, sym, ap, ◌∙◌}
 use Prim.Native.Nat.{ℕ, ◌≤◌}
 use mathlib.Core.Bool.{Bool, true, false}
 use mathlib.Core.List.{List, [], ◌∷◌, ◌++◌}
@@ -11,19 +11,20 @@ use lib.Ieee.{Float}
 use Rattle.sheet.specs.declared.Refusal.{Refusal}
 use Rattle.sheet.specs.Layout.{step_count_of, kind_at}
 use Rattle.sheet.specs.Rules.{Rule, rule, accepted, of_call, first_broken, has_deformation, refusal_of}
+use Rattle.std.specs.Prelude.{Result, Ok, Err}
 use Rattle.sheet.specs.Given.{Unbroken}
+use Rattle.sheet.proofs.Unless.{accepts, refuses}
 use Rattle.sheet.proofs.Order.{kept_then, broken_first, all_kept, none_broken, without_rule, without_append, Without, Numbered, kept_left, kept_right, kept_first, kept-rest}
 use Rattle.profile.specs.Profile.{profile_order, profile_refusal_of}
 use Rattle.profile.proofs.Laws.{numbered-order, passed-is-read}
 use Rattle.plans.specs.Lent.{lent_of}
-use Rattle.chain.specs.declared.Answer.{Answer}
 use Rattle.chain.specs.Chain.{chain_of}
-use Rattle.chain.specs.Rules.{refusal9, refusal10, shift_of, outcome as shifted, Outcome as Shifted}
+use Rattle.chain.specs.Rules.{refusal9, refusal10, shift_of, Outcome as Shifted}
 use Rattle.chain.proofs.Counts.{chain_length}
 use Rattle.chain.proofs.Outcome.{run-through}
 use Rattle.closure_report.specs.declared.Report.{Report}
 use Rattle.closure_report.specs.Report.{added_of}
-use Rattle.closure_run.specs.Closure.{steps_of, there_and_back_of, refusal15, closure_order, closure_refusal_of, closed_as, outcome, closure_of}
+use Rattle.closure_run.specs.Closure.{steps_of, there_and_back_of, refusal15, closure_order, closure_refusal_of, Outcome, handed_out, closed_as, outcome, closure_of}
 
 -- ---- the order
 
@@ -100,26 +101,38 @@ back-length s velocities marks l =
 module _ (s : List ℕ) (velocities : List Float) (marks : List ℕ) (l : List Float) (is_read : (refusal_of s).number ≡ 0) (kept9 : refusal9 (length l) ≡ false)
     (kept10 : refusal10 (has_deformation (kind_at s) (step_count_of s)) (length l) velocities marks ≡ false) where
   -- where the rules are kept a shift runs
-  runs : (inverse : Bool) (a : Answer) (l' : List Float) → shifted a l' ≡ shift_of inverse s l velocities marks → l' ≡ (chain_of inverse (lent_of velocities marks []) (steps_of s) l).list
+  runs : (inverse : Bool) (l' : List Float) → l' ≡ (shift_of inverse s l velocities marks).list → l' ≡ (chain_of inverse (lent_of velocities marks []) (steps_of s) l).list
   unfolding shift_of
-  runs inverse a l' e =
-      ap (λ (o : Shifted). o.list)
-      (e ∙ run-through (refusal_of s) (has_deformation (kind_at s) (step_count_of s)) inverse (steps_of s) l velocities marks is_read kept9 kept10)
+  runs inverse l' e =
+      e
+      ∙ ap (λ (o : Shifted). o.list)
+      (run-through (refusal_of s) (has_deformation (kind_at s) (step_count_of s)) inverse (steps_of s) l velocities marks is_read kept9 kept10)
 
 module _ (s : List ℕ) (velocities : List Float) (marks : List ℕ) (l : List Float) (is_read : (refusal_of s).number ≡ 0) (kept9 : refusal9 (length l) ≡ false)
     (kept10 : refusal10 (has_deformation (kind_at s) (step_count_of s)) (length l) velocities marks ≡ false) where
   -- one shift and then the other
-  pub both_run : (a b : Answer) (l' l'' : List Float) → shifted a l' ≡ shift_of false s l velocities marks → shifted b l'' ≡ shift_of true s l' velocities marks
+  pub both_run : (l' l'' : List Float) → l' ≡ (shift_of false s l velocities marks).list → l'' ≡ (shift_of true s l' velocities marks).list
       → l'' ≡ there_and_back_of s velocities marks l
   unfolding there_and_back_of
-  both_run a b l' l'' e f =
+  both_run l' l'' e f =
       let lent = lent_of velocities marks [] in
-      let there : l' ≡ (chain_of false lent (steps_of s) l).list = runs s velocities marks l is_read kept9 kept10 false a l' e in
+      let there : l' ≡ (chain_of false lent (steps_of s) l).list = runs s velocities marks l is_read kept9 kept10 false l' e in
       let same : length l' ≡ length l = ap length there ∙ chain_length lent false (steps_of s) l in
-      runs s velocities marks l' is_read (rw same kept9) (rw same kept10) true b l'' f
+      runs s velocities marks l' is_read (rw same kept9) (rw same kept10) true l'' f
       ∙ ap (λ (k : List Float). (chain_of true lent (steps_of s) k).list) there
 
 -- ---- the answer
+
+-- what a function hands out of an outcome, and the room that it leaves
+abbrev pub Told : Result Report Refusal → List Float → Outcome → Type 0
+Told result room o = (result ≡ handed_out o.answer) × (room ≡ o.room)
+
+pub told_refused : {result : Result Report Refusal} {room : List Float} {o : Outcome} (r : Refusal) (report : Report) → outcome (closed_as r report) room ≡ o
+    → (r.number ≡ 0 → ⊥) → result ≡ Err r → Told result room o
+told_refused r report e h p = rw (← e) (p ∙ sym (refuses r report h), refl)
+
+pub told_done : {room : List Float} {o : Outcome} (r : Refusal) (report : Report) → outcome (closed_as r report) room ≡ o → r.number ≡ 0 → Told (Ok report) room o
+told_done r report e h = rw (← e) (sym (accepts r report h), refl)
 
 module _ (report : Report) (profile : ℕ) (s : List ℕ) (l room velocities : List Float) (marks : List ℕ) (r : Refusal)
     (is : r ≡ closure_refusal_of profile s (length l) (length room) velocities marks) where

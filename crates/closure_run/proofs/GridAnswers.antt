@@ -16,9 +16,8 @@ use Rattle.profile.specs.Profile.{profile_order, profile_refusal_of}
 use Rattle.profile.proofs.Laws.{numbered-order, passed-is-read}
 use Rattle.grid_rules.specs.Rules.{refusal17, refusal18, check_grid_of, first_broken as first_of_grid}
 use Rattle.plans.specs.Lent.{lent_of}
-use Rattle.chain.specs.declared.Answer.{Answer}
 use Rattle.chain.specs.Chain.{chain_of}
-use Rattle.chain.specs.Rules.{refusal9, outcome as shifted, Outcome as Shifted}
+use Rattle.chain.specs.Rules.{refusal9, Outcome as Shifted}
 use Rattle.chain.specs.Grid.{refusal10_with_grid, shift_grid_of}
 use Rattle.chain.proofs.Counts.{chain_length}
 use Rattle.chain.proofs.Grid.{grid-run-through}
@@ -158,22 +157,22 @@ grid_back_length s velocities marks grid l =
 module _ (s : List ℕ) (velocities : List Float) (marks grid : List ℕ) (l : List Float) (is_read : (refusal_of s).number ≡ 0) (kept9 : refusal9 (length l) ≡ false)
     (kept10 : refusal10_with_grid velocities marks ≡ false) (kept-grid : check_grid_of grid ≡ 0) where
   -- where the rules are kept a shift runs
-  runs : (inverse : Bool) (a : Answer) (l' : List Float) → shifted a l' ≡ shift_grid_of inverse s l velocities marks grid → l' ≡ (chain_of inverse (lent_of velocities marks grid) (steps_of s) l).list
+  runs : (inverse : Bool) (l' : List Float) → l' ≡ (shift_grid_of inverse s l velocities marks grid).list → l' ≡ (chain_of inverse (lent_of velocities marks grid) (steps_of s) l).list
   unfolding shift_grid_of
-  runs inverse a l' e =
-      ap (λ (o : Shifted). o.list) (e ∙ grid-run-through (refusal_of s) inverse (steps_of s) l velocities marks grid is_read kept9 kept10 kept-grid)
+  runs inverse l' e =
+      e ∙ ap (λ (o : Shifted). o.list) (grid-run-through (refusal_of s) inverse (steps_of s) l velocities marks grid is_read kept9 kept10 kept-grid)
 
 module _ (s : List ℕ) (velocities : List Float) (marks grid : List ℕ) (l : List Float) (is_read : (refusal_of s).number ≡ 0) (kept9 : refusal9 (length l) ≡ false)
     (kept10 : refusal10_with_grid velocities marks ≡ false) (kept-grid : check_grid_of grid ≡ 0) where
   -- one shift and then the other
-  pub grid-both-run : (a b : Answer) (l' l'' : List Float) → shifted a l' ≡ shift_grid_of false s l velocities marks grid → shifted b l'' ≡ shift_grid_of true s l' velocities marks grid
+  pub grid-both-run : (l' l'' : List Float) → l' ≡ (shift_grid_of false s l velocities marks grid).list → l'' ≡ (shift_grid_of true s l' velocities marks grid).list
       → l'' ≡ grid_there_and_back_of s velocities marks grid l
   unfolding grid_there_and_back_of
-  grid-both-run a b l' l'' e f =
+  grid-both-run l' l'' e f =
       let lent = lent_of velocities marks grid in
-      let there : l' ≡ (chain_of false lent (steps_of s) l).list = runs s velocities marks grid l is_read kept9 kept10 kept-grid false a l' e in
+      let there : l' ≡ (chain_of false lent (steps_of s) l).list = runs s velocities marks grid l is_read kept9 kept10 kept-grid false l' e in
       let same : length l' ≡ length l = ap length there ∙ chain_length lent false (steps_of s) l in
-      runs s velocities marks grid l' is_read (rw same kept9) kept10 kept-grid true b l'' f
+      runs s velocities marks grid l' is_read (rw same kept9) kept10 kept-grid true l'' f
       ∙ ap (λ (k : List Float). (chain_of true lent (steps_of s) k).list) there
 
 -- ---- the answer

@@ -1,17 +1,16 @@
 -- A closure: a chain forward, then inverse, over a list, and what it adds to a report. When a call
 -- is refused, by number, and what it answers and leaves. The order stands in `closure_order`.
-use Rattle.std.specs.Prelude.{◌≡◌, ℕ, Bool, true, false, cond, List, [], ◌∷◌, ◌++◌, eqb, ltb, length, drop, Float}
+use Rattle.std.specs.Prelude.{◌≡◌, ℕ, Result, Bool, true, false, cond, List, [], ◌∷◌, ◌++◌, eqb, ltb, length, drop, Float}
 use Rattle.sheet.specs.declared.Entry.{Entry}
 use Rattle.sheet.specs.declared.Refusal.{Refusal}
 use Rattle.sheet.specs.Layout.{step_count_of, kind_at, entry_at}
-use Rattle.sheet.specs.Rules.{Rule, rule, of_call, first_broken, has_deformation}
+use Rattle.sheet.specs.Rules.{Rule, rule, of_call, first_broken, has_deformation, unless}
 use Rattle.profile.specs.Profile.{profile_order}
 use Rattle.plans.specs.Lent.{lent_of}
 use Rattle.chain.specs.Chain.{chain_of, entries_of}
 use Rattle.chain.specs.Rules.{refusal9, refusal10}
 use Rattle.closure_report.specs.declared.Report.{Report}
 use Rattle.closure_report.specs.Report.{Pair, added_of}
-use Rattle.closure_run.specs.declared.Closed.{Closed}
 
 -- ---- there and back
 
@@ -45,6 +44,15 @@ unfoldable pub closure_refusal_of : ℕ → List ℕ → ℕ → ℕ → List Fl
 closure_refusal_of profile s list room velocities marks = first_broken (closure_order profile s list room velocities marks)
 
 -- ---- the answer
+
+-- no refusal and the report with the list, or a refusal and the report as it was
+pub record Closed : Type 0 where
+  pub refusal : Refusal
+  pub report : Report
+
+-- what a function hands out of it: the report, or the refusal
+abbrev pub handed_out : Closed → Result Report Refusal
+handed_out closed = unless closed.refusal closed.report
 
 abbrev pub closed_as : Refusal → Report → Closed
 closed_as refusal report = record { refusal = refusal; report = report }

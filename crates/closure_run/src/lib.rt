@@ -14,71 +14,49 @@
 
 ghost use Rattle.std.specs.Prelude.{◌≡◌, false, ◌≤◌, length};
 ghost use Rattle.sheet.specs.Layout.{step_count_of, kind_at};
-ghost use Rattle.sheet.specs.Rules.{has_deformation, refusal_of};
+ghost use Rattle.sheet.specs.Rules.{has_deformation, refusal_of, unless};
 ghost use Rattle.grid_rules.specs.Rules.{check_grid_of};
 ghost use Rattle.chain.specs.Rules.{refusal9, refusal10};
 ghost use Rattle.chain.specs.Grid.{refusal10_with_grid};
 ghost use Rattle.closure_report.specs.Report.{added_of};
-ghost use Rattle.closure_run.specs.Closure.{there_and_back_of, closure_refusal_of, closed_as, outcome, closure_of};
+ghost use Rattle.closure_run.specs.Closure.{there_and_back_of, closure_refusal_of, handed_out, closure_of};
 ghost use Rattle.closure_run.specs.Grid.{grid_there_and_back_of, closure_grid_refusal_of, closure_grid_of};
 
 use closure_report::Report;
 use sheet::Refusal;
 
-// No refusal and the report with the list, or a refusal and the report as it was.
-#[derive(Clone, Copy)]
-pub struct Closed {
-    pub refusal: Refusal,
-    pub report: Report,
-}
-
-// The first rule that a call breaks, by the lengths of list and room.
-fn refusal_of(
+// Whether a call is in rule, by the lengths of list and room.
+fn judge(
     profile: u32,
     s: &[u8],
     numbers: usize,
     room: usize,
     velocities: &[f64],
     marks: &[u8],
-) -> Refusal
-    ensures { result ≡ closure_refusal_of profile s.now numbers room velocities.now marks.now }
+) -> Result<(), Refusal>
+    ensures { result ≡ unless (closure_refusal_of profile s.now numbers room velocities.now marks.now) tt }
 {
-    let own = profile::check(s, profile);
-    if own.number != 0 {
-        return own;
-    }
+    profile::check(s, profile)?;
     if chain::list_broken(numbers) {
-        return Refusal::of_call(9); // the list
+        return Err(Refusal::of_call(9)); // the list
     }
     if chain::lent_broken(chain::has_deformation(s), numbers, velocities, marks) {
-        return Refusal::of_call(10);
+        return Err(Refusal::of_call(10));
     }
     if room < numbers {
-        return Refusal::of_call(15);
+        return Err(Refusal::of_call(15));
     }
-    Refusal::none()
+    Ok(())
 }
 
-// A list's numbers into a room as long.
-fn copy(from: &[f64], to: &mut [f64])
-    requires { length to.old ≡ length from.now }
-    ensures { to.new ≡ from.now }
-{
-    let mut i = 0;
-    while i < from.len() {
-        to[i] = from[i];
-        i += 1;
-    }
-}
-
-// A list forward and then inverse, in place.
+// A list forward and then inverse, in place. Neither way is refused where the rules are kept.
 fn there_and_back(s: &[u8], list: &mut [f64], velocities: &[f64], marks: &[u8])
     requires { ((refusal_of s.now).number ≡ 0) × (refusal9 (length list.old) ≡ false)
         × (refusal10 (has_deformation (kind_at s.now) (step_count_of s.now)) (length list.old) velocities.now marks.now ≡ false) }
     ensures { list.new ≡ there_and_back_of s.now velocities.now marks.now list.old }
 {
-    chain::shift(false, s, list, velocities, marks);
-    chain::shift(true, s, list, velocities, marks);
+    let _ = chain::shift(false, s, list, velocities, marks);
+    let _ = chain::shift(true, s, list, velocities, marks);
 }
 
 // A list added to a report, in a room as long as the list.
@@ -96,7 +74,7 @@ fn close(
     ensures { (room.new ≡ there_and_back_of s.now velocities.now marks.now list.now)
         × (result ≡ added_of report list.now (there_and_back_of s.now velocities.now marks.now list.now)) }
 {
-    copy(list, room);
+    room.copy_from_slice(list); // the list as it was
     there_and_back(s, room, velocities, marks);
     closure_report::add(report, list, room)
 }
@@ -110,28 +88,20 @@ pub fn closure(
     room: &mut [f64],
     velocities: &[f64],
     marks: &[u8],
-) -> Closed
-    ensures { outcome result room.new ≡ closure_of report profile s.now list.now room.old velocities.now marks.now }
+) -> Result<Report, Refusal>
+    ensures { (result ≡ handed_out (closure_of report profile s.now list.now room.old velocities.now marks.now).answer)
+        × (room.new ≡ (closure_of report profile s.now list.now room.old velocities.now marks.now).room) }
 {
-    let refusal = refusal_of(profile, s, list.len(), room.len(), velocities, marks);
-    if refusal.number != 0 {
-        return Closed {
-            refusal: refusal,
-            report: report,
-        };
-    }
+    judge(profile, s, list.len(), room.len(), velocities, marks)?;
     let n = list.len();
     let added = close(report, s, list, &mut room[..n], velocities, marks);
-    Closed {
-        refusal: refusal,
-        report: added, // with the list
-    }
+    Ok(added) // with the list
 }
 
 // ----- with a velocity grid ---------------------------------------------------------------------
 
-// The first rule that a call with a grid breaks.
-fn grid_refusal_of(
+// Whether a call with a grid is in rule.
+fn judge_grid(
     profile: u32,
     s: &[u8],
     numbers: usize,
@@ -139,27 +109,23 @@ fn grid_refusal_of(
     velocities: &[f64],
     marks: &[u8],
     grid: &[u8],
-) -> Refusal
-    ensures { result ≡ closure_grid_refusal_of profile s.now numbers room velocities.now marks.now grid.now }
+) -> Result<(), Refusal>
+    ensures { result ≡ unless (closure_grid_refusal_of profile s.now numbers room velocities.now marks.now grid.now) tt }
 {
-    let own = profile::check(s, profile);
-    if own.number != 0 {
-        return own;
-    }
+    profile::check(s, profile)?;
     if chain::list_broken(numbers) {
-        return Refusal::of_call(9);
+        return Err(Refusal::of_call(9));
     }
     if chain::lent_broken(false, 0, velocities, marks) {
-        return Refusal::of_call(10);
+        return Err(Refusal::of_call(10));
     }
-    let broken = grid_rules::check_grid(grid);
-    if broken != 0 {
-        return Refusal::of_call(broken);
+    if let Err(number) = grid_rules::check_grid(grid) {
+        return Err(Refusal::of_call(number));
     }
     if room < numbers {
-        return Refusal::of_call(15);
+        return Err(Refusal::of_call(15));
     }
-    Refusal::none()
+    Ok(())
 }
 
 // A list forward and then inverse, in place, with a grid.
@@ -167,8 +133,8 @@ fn grid_there_and_back(s: &[u8], list: &mut [f64], velocities: &[f64], marks: &[
     requires { ((refusal_of s.now).number ≡ 0) × (refusal9 (length list.old) ≡ false) × (refusal10_with_grid velocities.now marks.now ≡ false) × (check_grid_of grid.now ≡ 0) }
     ensures { list.new ≡ grid_there_and_back_of s.now velocities.now marks.now grid.now list.old }
 {
-    chain::shift_grid(false, s, list, velocities, marks, grid);
-    chain::shift_grid(true, s, list, velocities, marks, grid);
+    let _ = chain::shift_grid(false, s, list, velocities, marks, grid);
+    let _ = chain::shift_grid(true, s, list, velocities, marks, grid);
 }
 
 // A list added to a report, in a room as long as the list, with a grid.
@@ -186,7 +152,7 @@ fn grid_close(
     ensures { (room.new ≡ grid_there_and_back_of s.now velocities.now marks.now grid.now list.now)
         × (result ≡ added_of report list.now (grid_there_and_back_of s.now velocities.now marks.now grid.now list.now)) }
 {
-    copy(list, room);
+    room.copy_from_slice(list);
     grid_there_and_back(s, room, velocities, marks, grid);
     closure_report::add(report, list, room)
 }
@@ -201,20 +167,12 @@ pub fn closure_grid(
     velocities: &[f64],
     marks: &[u8],
     grid: &[u8],
-) -> Closed
-    ensures { outcome result room.new ≡ closure_grid_of report profile s.now list.now room.old velocities.now marks.now grid.now }
+) -> Result<Report, Refusal>
+    ensures { (result ≡ handed_out (closure_grid_of report profile s.now list.now room.old velocities.now marks.now grid.now).answer)
+        × (room.new ≡ (closure_grid_of report profile s.now list.now room.old velocities.now marks.now grid.now).room) }
 {
-    let refusal = grid_refusal_of(profile, s, list.len(), room.len(), velocities, marks, grid);
-    if refusal.number != 0 {
-        return Closed {
-            refusal: refusal,
-            report: report,
-        };
-    }
+    judge_grid(profile, s, list.len(), room.len(), velocities, marks, grid)?;
     let n = list.len();
     let added = grid_close(report, s, list, &mut room[..n], velocities, marks, grid);
-    Closed {
-        refusal: refusal,
-        report: added,
-    }
+    Ok(added)
 }

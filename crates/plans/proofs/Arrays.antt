@@ -9,6 +9,8 @@ use borrow.Author.Tests.{ltb-true, ltb-false}
 use lib.Dec.{ltb}
 use lib.ListN.{length, set, replicate}
 use lib.Seq.{get_or-set_same, get_or-set_other}
+use Rattle.std.specs.Prelude.{min}
+use Rattle.std.proofs.Math.Nat.{min-eq_left, min-eq_right}
 use Rattle.plans.specs.declared.Plan.{Plan}
 use Rattle.plans.specs.Plans.{plan_in, at_most_sixteen, Ready}
 
@@ -27,6 +29,16 @@ same false n e h = omega (arith, h, ltb-false n 16 e)
 pub sixteen_or_fewer : (n : ℕ) → n ≤ 16 → at_most_sixteen n ≡ n
 unfolding at_most_sixteen
 sixteen_or_fewer n h = same (ltb n 16) n refl h
+
+-- ---- the smaller of a number and sixteen is what the definition's test picks
+
+smaller : (below : Bool) (n : ℕ) → ltb n 16 ≡ below → min n 16 ≡ cond below n 16
+smaller true n e = min-eq_left (omega (arith, ltb-true n 16 e))
+smaller false n e = min-eq_right (omega (arith, ltb-false n 16 e))
+
+pub the_smaller : (n : ℕ) → min n 16 ≡ at_most_sixteen n
+unfolding at_most_sixteen
+the_smaller n = smaller (ltb n 16) n refl
 
 -- ---- filled from the front
 

@@ -8,6 +8,7 @@ use Rattle.lists.specs.Run.{Turns}
 use Rattle.turns.specs.Turns.{moved_turns}
 use Rattle.reach.specs.Met.{Met, meeting_of, moved_met, deformation_met}
 use Rattle.deformation_grid.specs.Gridded.{found_for, gridded_turns}
+use Rattle.plans.specs.declared.Loan.{Loan}
 
 pub record Lent : Type 0 where
   pub velocities : List Float
@@ -16,6 +17,10 @@ pub record Lent : Type 0 where
 
 abbrev pub lent_of : List Float → List ℕ → List ℕ → Lent
 lent_of velocities marks grid = record { velocities = velocities; marks = marks; grid = grid }
+
+-- what the code's loan lends
+abbrev pub lent_in : Loan → Lent
+lent_in loan = lent_of loan.velocities.now loan.marks.now loan.grid.now
 
 -- no grid is lent
 abbrev pub gridless : Lent → Bool

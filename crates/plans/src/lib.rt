@@ -36,6 +36,15 @@ pub enum Plan {
     HelmertEither(Shift, bool),
 }
 
+// What a caller lends beside a list: velocities and marks, one for each fix, or a velocity grid
+// (document 02, A1), which is none where it has no bytes.
+#[derive(Clone, Copy)]
+pub struct Loan<'a> {
+    pub velocities: &'a [f64],
+    pub marks: &'a [u8],
+    pub grid: &'a [u8],
+}
+
 // Where a step stands between two parts of a list: its state, and how many tuples it has counted and
 // how many have met an angle out of reach.
 #[derive(Clone, Copy)]
@@ -51,9 +60,10 @@ fn cart_plan(inverse: bool, step: Cart) -> Plan
 {
     let ellps = Ellipsoid::named(step.ellipsoid);
     if inverse {
-        return Plan::CartInverse(Inverse::new(ellps));
+        Plan::CartInverse(Inverse::new(ellps))
+    } else {
+        Plan::CartForward(ellps)
     }
-    Plan::CartForward(ellps)
 }
 
 // A record that is already read.
@@ -61,24 +71,12 @@ pub fn plan_of_step(inverse: bool, step: Step) -> Plan
     ensures { result ≡ plan_of inverse step }
 {
     match step {
-        Step::Cart(r) => {
-            return cart_plan(inverse, r);
-        }
-        Step::Permtide(r) => {
-            return Plan::PermtideEither(Tide::new(r), inverse);
-        }
-        Step::Deformation(r) => {
-            return Plan::DeformationEither(Motion::new(r), r.directed(inverse));
-        }
-        Step::Molodensky(r) => {
-            return Plan::MolodenskyEither(Moped::new(r), inverse);
-        }
-        Step::Helmert(h) => {
-            return Plan::HelmertEither(helmert::prepare(h), inverse);
-        }
-        Step::Badekas(r) => {
-            return Plan::HelmertEither(badekas::prepare(r), inverse);
-        }
+        Step::Cart(r) => cart_plan(inverse, r),
+        Step::Permtide(r) => Plan::PermtideEither(Tide::new(r), inverse),
+        Step::Deformation(r) => Plan::DeformationEither(Motion::new(r), r.directed(inverse)),
+        Step::Molodensky(r) => Plan::MolodenskyEither(Moped::new(r), inverse),
+        Step::Helmert(h) => Plan::HelmertEither(helmert::prepare(h), inverse),
+        Step::Badekas(r) => Plan::HelmertEither(badekas::prepare(r), inverse),
     }
 }
 
@@ -87,9 +85,10 @@ pub fn held_kind(kind: u32, length: usize) -> u32
     ensures { result ≡ held_kind_of kind length }
 {
     if length == words::wide(bodies::length_of(kind)) {
-        return kind;
+        kind
+    } else {
+        0
     }
-    0
 }
 
 // The cart step that a body holds, blank where no kind is held.
@@ -97,9 +96,10 @@ pub fn cart_of(kind: u32, b: &[u8]) -> Cart
     ensures { result ≡ cond (eqb kind 2) (cart_in b.now) blank_of }
 {
     if kind == 2 {
-        return bodies::read_cart(b);
+        bodies::read_cart(b)
+    } else {
+        Cart::blank()
     }
-    Cart::blank()
 }
 
 // A record in a sheet's bytes. No `Step` is built: the enum is as large as a Helmert record and
@@ -108,33 +108,24 @@ pub fn plan_of(inverse: bool, kind: u32, b: &[u8]) -> Plan
     ensures { result ≡ plan_of inverse (step_of kind b.now) }
 {
     let held = held_kind(kind, b.len());
-    if held == 1 {
-        return Plan::HelmertEither(helmert::prepare(bodies::read_helmert(b)), inverse);
+    match held {
+        1 => Plan::HelmertEither(helmert::prepare(bodies::read_helmert(b)), inverse),
+        3 => Plan::MolodenskyEither(Moped::new(bodies::read_molodensky(b)), inverse),
+        4 => Plan::PermtideEither(Tide::new(bodies::read_permtide(b)), inverse),
+        5 => {
+            let r = bodies::read_deformation(b);
+            Plan::DeformationEither(Motion::new(r), r.directed(inverse))
+        }
+        6 => Plan::HelmertEither(badekas::prepare(bodies::read_badekas(b)), inverse),
+        _ => cart_plan(inverse, cart_of(held, b)),
     }
-    if held == 3 {
-        return Plan::MolodenskyEither(Moped::new(bodies::read_molodensky(b)), inverse);
-    }
-    if held == 4 {
-        return Plan::PermtideEither(Tide::new(bodies::read_permtide(b)), inverse);
-    }
-    if held == 5 {
-        let r = bodies::read_deformation(b);
-        return Plan::DeformationEither(Motion::new(r), r.directed(inverse));
-    }
-    if held == 6 {
-        return Plan::HelmertEither(badekas::prepare(bodies::read_badekas(b)), inverse);
-    }
-    cart_plan(inverse, cart_of(held, b))
 }
 
 // As many steps as an array of plans has.
 pub fn at_most_sixteen(n: usize) -> usize
     ensures { result ≡ at_most_sixteen n }
 {
-    if n < 16 {
-        return n;
-    }
-    16
+    n.min(16)
 }
 
 // ----- its start -------------------------------------------------------------------------------
@@ -158,11 +149,11 @@ pub fn start(plan: Plan) -> State
     ensures { result ≡ plan_start_of plan }
 {
     match plan {
-        Plan::CartForward(_) => no_state(),
-        Plan::CartInverse(_) => no_state(),
-        Plan::PermtideEither(_, _) => no_state(),
-        Plan::DeformationEither(_, _) => no_state(),
-        Plan::MolodenskyEither(_, _) => no_state(),
+        Plan::CartForward(_)
+        | Plan::CartInverse(_)
+        | Plan::PermtideEither(_, _)
+        | Plan::DeformationEither(_, _)
+        | Plan::MolodenskyEither(_, _) => no_state(),
         Plan::HelmertEither(shift, _) => helmert::start(shift),
     }
 }

@@ -45,9 +45,7 @@ pub fn plans_of(inverse: bool, s: &[u8], n: usize, plans: &mut [Plan; 16])
     ensures { Ready (plan_at inverse s.now) (at_most_sixteen n) plans.new }
 {
     let steps = plans::at_most_sixteen(n);
-    let mut i = 0;
-    while i < steps {
+    for i in 0..steps {
         plans[i] = plan_at(inverse, s, i);
-        i += 1;
     }
 }

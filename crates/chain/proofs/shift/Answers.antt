@@ -1,39 +1,42 @@
--- One case for each way through the tests. Each by `accepted_count`, `refused-own`, `refused-9` and
--- `refused-10`, from what the calls ensure. Assumes nothing.
-use mathlib.Core.Path.{sym, ap, ◌∙◌}
-use Rattle.sheet.specs.declared.Refusal.{Refusal}
+-- What is handed out and left is what the outcome says: by the refusal of a call where it is refused
+-- (`flat-refusal`, `refused-by`), else by the chain (`run-by`). Assumes nothing.
+use native.Mathlib.Omega.{arith}
+use mathlib.Core.Path.{sym, ◌∙◌}
+use mathlib.Core.List.{[]}
+use Rattle.sheet.specs.Layout.{step_count_of, entry_at}
+use Rattle.plans.specs.Lent.{lent_of}
+use Rattle.chain.specs.Chain.{chain_of, entries_of}
 use Rattle.sheet.proofs.Order.{accepted_count}
+use Rattle.sheet.proofs.Unless.{passed, failed, hands_on}
 use Rattle.chain.specs.Rules.{shift_of}
-use Rattle.chain.proofs.Outcome.{refused-own, refused-9, refused-10, run-through, flat_nine_kept}
+use Rattle.chain.proofs.Outcome.{flat_nine_kept, call_kept, told_refused, told-ran, flat-refusal, refused-by, run-by}
 use Rattle.chain.proofs.shift.Goals as goal
 
-pub returns-then-own-ne0 : goal.returns-then-own-ne0
-unfolding shift_of
-returns-then-own-ne0 c =
-    rw (c.refused.ensures, ← c.check-own.ensures) (sym (refused-own c.check-own.result _ _ _ _ _ _ c.if-own-ne0.true))
+pub judge-requires : goal.judge-requires
+judge-requires c = λ e. omega (arith, (flat_nine_kept _ (sym c.list_broken-nine.ensures ∙ e)).1)
 
-pub returns-then-list_broken : goal.returns-then-list_broken
+pub returns-in_err-judge : goal.returns-in_err-judge
 unfolding shift_of
-returns-then-list_broken c =
-    rw (c.refused-then-list_broken.ensures, c.of_call.ensures, ← c.check-own.ensures)
-    (sym (refused-9 c.check-own.result _ _ _ _ _ _ c.if-own-ne0.false (sym c.list_broken.ensures ∙ c.if-list_broken.true)))
+returns-in_err-judge c =
+    let o = c.judge.ensures in
+    let err = c.in_err-judge.was in
+    let none = failed _ _ o err in
+    let a = c.args in
+    let es = entries_of (entry_at a.s.now) (step_count_of a.s.now) 0 in
+    told_refused _ (refused-by _ _ a.inverse es _ _ _ _ (flat-refusal _ _ _ _ _ c.list_broken-nine.ensures) none) none (hands_on _ _ o err c.from_residual.ensures.1)
 
-pub returns-then-lent_broken : goal.returns-then-lent_broken
-unfolding shift_of
-returns-then-lent_broken c =
-    rw (c.refused-then-lent_broken.ensures, c.of_call-then-lent_broken.ensures, ← c.check-own.ensures)
-    (sym (refused-10 c.check-own.result _ _ _ _ _ _ c.if-own-ne0.false (sym c.list_broken.ensures ∙ c.if-list_broken.false) (sym (rw (c.deforms.ensures, c.step_count-n.ensures.0) at c.lent_broken.ensures) ∙ c.if-lent_broken.true)))
-
-pub list_without_grid-tallies-requires : goal.list_without_grid-tallies-requires
-list_without_grid-tallies-requires c =
+pub over_list-requires : goal.over_list-requires
+over_list-requires c =
     let count = c.step_count-n.ensures.0 in
-    let none = ap (λ (r : Refusal). r.number) (sym c.check-own.ensures) ∙ c.if-own-ne0.false in
-    let nine = flat_nine_kept _ (sym c.list_broken.ensures ∙ c.if-list_broken.false) in
-    (rw count (accepted_count c.args.s.now none), count, nine.0, nine.1)
+    let kept = call_kept _ _ _ _ _ _ (passed _ _ c.judge.ensures c.in_ok-judge.was) in
+    let nine = flat_nine_kept _ (sym c.list_broken-nine.ensures ∙ kept.1) in
+    (rw count (accepted_count c.args.s.now kept.0), count, nine.0, nine.1)
 
 pub returns : goal.returns
 unfolding shift_of
 returns c =
-    let e = c.list_without_grid-tallies.ensures in
-    rw (c.ran.ensures, e.0, e.1, c.step_count-n.ensures.0, ← c.check-own.ensures)
-    (sym (run-through c.check-own.result _ _ _ _ _ _ c.if-own-ne0.false (sym c.list_broken.ensures ∙ c.if-list_broken.false) (sym (rw (c.deforms.ensures, c.step_count-n.ensures.0) at c.lent_broken.ensures) ∙ c.if-lent_broken.false)))
+    let none = passed _ _ c.judge.ensures c.in_ok-judge.was in
+    let e = rw (c.no_grid.ensures, c.step_count-n.ensures.0) at c.over_list.ensures in
+    let a = c.args in
+    let es = entries_of (entry_at a.s.now) (step_count_of a.s.now) 0 in
+    told-ran (chain_of a.inverse (lent_of a.velocities.now a.marks.now []) es a.list.now) (run-by _ _ a.inverse es _ _ _ _ (flat-refusal _ _ _ _ _ c.list_broken-nine.ensures) none) e.1 e.0

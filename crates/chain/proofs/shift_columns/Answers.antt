@@ -1,46 +1,47 @@
--- One case for each way through the tests. Each by `accepted_count`, `columns-refused-own`,
--- `columns-refused-9`, `columns-refused-10` and `columns-run-through`, from what the calls ensure;
--- that every column is fixed is `columns_of_lem`. Assumes nothing.
-use mathlib.Core.Path.{sym, ap, ◌∙◌}
-use Rattle.sheet.specs.declared.Refusal.{Refusal}
-use Rattle.sheet.proofs.Order.{accepted_count}
-use Rattle.chain.specs.Columns.{shift_columns_of}
-use Rattle.chain.proofs.Columns.{nine_kept, columns-refused-own, columns-refused-9, columns-refused-10, columns-run-through, columns_of_lem}
+-- What is handed out and left is what the outcome says: by the refusal of a call where it is refused
+-- (`columns-refusal`, `columns-refused-by`), else by the chain (`columns-run-by`); that every column is
+-- fixed is `columns_of_lem`. Assumes nothing.
+use mathlib.Core.Path.{sym, ◌∙◌}
 use borrow.Author.Rules.{rules}
+use mathlib.Core.List.{[]}
+use Rattle.columns.specs.Columns.{columns, flat_of}
+use Rattle.sheet.specs.Layout.{step_count_of, entry_at}
+use Rattle.plans.specs.Lent.{lent_of}
+use Rattle.chain.specs.Chain.{chain_of, entries_of}
+use Rattle.sheet.proofs.Order.{accepted_count}
+use Rattle.sheet.proofs.Unless.{passed, failed, hands_on}
+use Rattle.chain.specs.Columns.{shift_columns_of}
+use Rattle.chain.proofs.Outcome.{call_kept}
+use Rattle.chain.proofs.Columns.{nine_kept, columns_told_refused, columns_told-ran, columns-refusal, columns-refused-by, columns-run-by, columns_of_lem}
 use Rattle.chain.proofs.shift_columns.Goals as goal
 
-pub returns-then-own-ne0 : goal.returns-then-own-ne0
+pub judge-requires : goal.judge-requires
+judge-requires c = λ e. (nine_kept _ _ _ _ (sym c.columns_broken-nine.ensures ∙ e)).1
+
+pub returns-in_err-judge : goal.returns-in_err-judge
 unfolding shift_columns_of
-returns-then-own-ne0 c =
-    rw (c.refused.ensures, ← c.check-own.ensures) (sym (columns-refused-own c.check-own.result _ _ _ _ _ _ c.if-own-ne0.true))
+returns-in_err-judge c =
+    let a = c.args in
+    let o = c.judge.ensures in
+    let err = c.in_err-judge.was in
+    let none = failed _ _ o err in
+    let es = entries_of (entry_at a.s.now) (step_count_of a.s.now) 0 in
+    columns_told_refused _ (columns-refused-by _ _ a.inverse es (columns a.x.now a.y.now a.z.now a.t.now) _ _ _ (columns-refusal _ _ (columns a.x.now a.y.now a.z.now a.t.now) _ _ c.columns_broken-nine.ensures) none) none (hands_on _ _ o err c.from_residual.ensures.1)
 
-pub returns-then-columns_broken : goal.returns-then-columns_broken
-unfolding shift_columns_of
-returns-then-columns_broken c =
-    rw (c.refused-then-columns_broken.ensures, c.of_call.ensures, ← c.check-own.ensures)
-    (sym (columns-refused-9 c.check-own.result _ _ _ _ _ _ c.if-own-ne0.false (sym c.columns_broken.ensures ∙ c.if-columns_broken.true)))
-
-pub overflow_mul-x : goal.overflow_mul-x
-overflow_mul-x c = search (rules, (nine_kept _ _ _ _ (sym c.columns_broken.ensures ∙ c.if-columns_broken.false)).1)
-
-pub returns-then-lent_broken : goal.returns-then-lent_broken
-unfolding shift_columns_of
-returns-then-lent_broken c =
-    rw (c.refused-then-lent_broken.ensures, c.of_call-then-lent_broken.ensures, ← c.check-own.ensures)
-    (sym (columns-refused-10 c.check-own.result _ _ _ _ _ _ c.if-own-ne0.false (sym c.columns_broken.ensures ∙ c.if-columns_broken.false) (sym (rw (c.deforms.ensures, c.step_count-n.ensures.0) at c.lent_broken.ensures) ∙ c.if-lent_broken.true)))
-
-pub columns_without_grid-tallies-requires : goal.columns_without_grid-tallies-requires
-columns_without_grid-tallies-requires c =
+pub over_columns-requires : goal.over_columns-requires
+over_columns-requires c =
     let count = c.step_count-n.ensures.0 in
-    let none = ap (λ (r : Refusal). r.number) (sym c.check-own.ensures) ∙ c.if-own-ne0.false in
-    let nine = nine_kept _ _ _ _ (sym c.columns_broken.ensures ∙ c.if-columns_broken.false) in
-    (rw count (accepted_count c.args.s.now none), count, nine.0, nine.1)
+    let kept = call_kept _ _ _ _ _ _ (passed _ _ c.judge.ensures c.in_ok-judge.was) in
+    let nine = nine_kept _ _ _ _ (sym c.columns_broken-nine.ensures ∙ kept.1) in
+    (rw count (accepted_count c.args.s.now kept.0), count, nine.0, nine.1)
 
 pub returns : goal.returns
 unfolding shift_columns_of
 returns c =
-    let e = c.columns_without_grid-tallies.ensures in
-    let kept = sym c.columns_broken.ensures ∙ c.if-columns_broken.false in
-    let nine = nine_kept _ _ _ _ kept in
-    rw (c.ran.ensures, columns_of_lem _ _ _ _ (search (rules, nine.0), search (rules, nine.0), search (rules, nine.0)) e.0, e.1, c.step_count-n.ensures.0, ← c.check-own.ensures)
-    (sym (columns-run-through c.check-own.result _ _ _ _ _ _ c.if-own-ne0.false kept (sym (rw (c.deforms.ensures, c.step_count-n.ensures.0) at c.lent_broken.ensures) ∙ c.if-lent_broken.false)))
+    let a = c.args in
+    let none = passed _ _ c.judge.ensures c.in_ok-judge.was in
+    let kept = call_kept _ _ _ _ _ _ none in
+    let nine = nine_kept _ _ _ _ (sym c.columns_broken-nine.ensures ∙ kept.1) in
+    let e = rw (c.no_grid.ensures, c.step_count-n.ensures.0) at c.over_columns.ensures in
+    let es = entries_of (entry_at a.s.now) (step_count_of a.s.now) 0 in
+    columns_told-ran (chain_of a.inverse (lent_of a.velocities.now a.marks.now []) es (flat_of a.x.now a.y.now a.z.now a.t.now)) (columns-run-by _ _ a.inverse es (columns a.x.now a.y.now a.z.now a.t.now) _ _ _ (columns-refusal _ _ (columns a.x.now a.y.now a.z.now a.t.now) _ _ c.columns_broken-nine.ensures) none) e.1 (columns_of_lem _ _ _ _ (search (rules, nine.0), search (rules, nine.0), search (rules, nine.0)) e.0)

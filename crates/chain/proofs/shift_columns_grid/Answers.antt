@@ -1,50 +1,43 @@
--- One case for each way through the tests, in the rules' order: the sheet's own, 9, 10, the grid's.
--- Each by the law of its outcome (proofs/Grid.antt), from what the calls ensure. Assumes nothing.
-use mathlib.Core.Path.{sym, ap, ◌∙◌}
-use Rattle.sheet.specs.declared.Refusal.{Refusal}
-use Rattle.sheet.proofs.Order.{accepted_count}
-use Rattle.chain.specs.Grid.{shift_columns_grid_of}
-use Rattle.chain.proofs.Grid.{columns-grid-refused-own, columns-grid-refused-9, columns-grid-refused-10, columns-grid-refused, columns-grid-run-through}
-use Rattle.chain.proofs.Columns.{nine_kept, columns_of_lem}
+-- What is handed out and left is what the outcome says: by the refusal of a call where it is refused
+-- (`columns-refused-by`), else by the chain (`columns-run-by`); that every column is fixed is
+-- `columns_of_lem`. Assumes nothing.
+use mathlib.Core.Path.{refl, sym, ◌∙◌}
 use borrow.Author.Rules.{rules}
+use Rattle.columns.specs.Columns.{columns, flat_of}
+use Rattle.sheet.specs.Layout.{step_count_of, entry_at}
+use Rattle.plans.specs.Lent.{lent_of}
+use Rattle.chain.specs.Chain.{chain_of, entries_of}
+use Rattle.sheet.proofs.Order.{accepted_count}
+use Rattle.sheet.proofs.Unless.{passed, failed, hands_on}
+use Rattle.chain.specs.Grid.{shift_columns_grid_of}
+use Rattle.chain.proofs.Grid.{grid_kept, columns-refused-by, columns-run-by}
+use Rattle.chain.proofs.Columns.{nine_kept, columns_told_refused, columns_told-ran, columns_of_lem}
 use Rattle.chain.proofs.shift_columns_grid.Goals as goal
 
-pub returns-then-own-ne0 : goal.returns-then-own-ne0
+pub returns-in_err-judge_grid : goal.returns-in_err-judge_grid
 unfolding shift_columns_grid_of
-returns-then-own-ne0 c =
-    rw (c.refused.ensures, ← c.check-own.ensures) (sym (columns-grid-refused-own c.check-own.result _ _ _ _ _ _ c.if-own-ne0.true))
+returns-in_err-judge_grid c =
+    let a = c.args in
+    let o = rw c.columns_broken-nine.ensures at c.judge_grid.ensures in
+    let err = c.in_err-judge_grid.was in
+    let none = failed _ _ o err in
+    columns_told_refused _ (columns-refused-by _ _ _ (columns a.x.now a.y.now a.z.now a.t.now) _ _ _ _ refl none) none (hands_on _ _ o err c.from_residual.ensures.1)
 
-pub returns-then-columns_broken : goal.returns-then-columns_broken
-unfolding shift_columns_grid_of
-returns-then-columns_broken c =
-    rw (c.refused-then-columns_broken.ensures, c.of_call.ensures, ← c.check-own.ensures)
-    (sym (columns-grid-refused-9 c.check-own.result _ _ _ _ _ _ c.if-own-ne0.false (sym c.columns_broken.ensures ∙ c.if-columns_broken.true)))
-
-pub returns-then-lent_broken : goal.returns-then-lent_broken
-unfolding shift_columns_grid_of
-returns-then-lent_broken c =
-    rw (c.refused-then-lent_broken.ensures, c.of_call-then-lent_broken.ensures, ← c.check-own.ensures)
-    (sym (columns-grid-refused-10 c.check-own.result _ _ _ _ _ _ c.if-own-ne0.false (sym c.columns_broken.ensures ∙ c.if-columns_broken.false) (sym c.lent_broken.ensures ∙ c.if-lent_broken.true)))
-
-pub returns-then-broken-ne0 : goal.returns-then-broken-ne0
-unfolding shift_columns_grid_of
-returns-then-broken-ne0 c =
-    let g = c.check_grid-broken.ensures in
-    rw (c.refused-then-broken-ne0.ensures, c.of_call-then-broken-ne0.ensures, g, ← c.check-own.ensures)
-    (sym (columns-grid-refused c.check-own.result _ _ _ _ _ _ c.if-own-ne0.false (sym c.columns_broken.ensures ∙ c.if-columns_broken.false) (sym c.lent_broken.ensures ∙ c.if-lent_broken.false) (λ z. c.if-broken-ne0.true (g ∙ z))))
-
-pub over_columns-tallies-requires : goal.over_columns-tallies-requires
-over_columns-tallies-requires c =
+pub over_columns-requires : goal.over_columns-requires
+over_columns-requires c =
     let count = c.step_count-n.ensures.0 in
-    let none = ap (λ (r : Refusal). r.number) (sym c.check-own.ensures) ∙ c.if-own-ne0.false in
-    let nine = nine_kept _ _ _ _ (sym c.columns_broken.ensures ∙ c.if-columns_broken.false) in
-    (rw count (accepted_count c.args.s.now none), count, nine.0, nine.1)
+    let kept = grid_kept _ _ _ _ _ (passed _ _ c.judge_grid.ensures c.in_ok-judge_grid.was) in
+    let nine = nine_kept _ _ _ _ (sym c.columns_broken-nine.ensures ∙ kept.1) in
+    (rw count (accepted_count c.args.s.now kept.0), count, nine.0, nine.1)
 
 pub returns : goal.returns
 unfolding shift_columns_grid_of
 returns c =
-    let e = c.over_columns-tallies.ensures in
-    let kept = sym c.columns_broken.ensures ∙ c.if-columns_broken.false in
-    let nine = nine_kept _ _ _ _ kept in
-    rw (c.ran.ensures, columns_of_lem _ _ _ _ (search (rules, nine.0), search (rules, nine.0), search (rules, nine.0)) e.0, e.1, c.step_count-n.ensures.0, ← c.check-own.ensures)
-    (sym (columns-grid-run-through c.check-own.result _ _ _ _ _ _ c.if-own-ne0.false kept (sym c.lent_broken.ensures ∙ c.if-lent_broken.false) (sym c.check_grid-broken.ensures ∙ c.if-broken-ne0.false)))
+    let a = c.args in
+    let o = rw c.columns_broken-nine.ensures at c.judge_grid.ensures in
+    let none = passed _ _ o c.in_ok-judge_grid.was in
+    let kept = grid_kept _ _ _ _ _ none in
+    let nine = nine_kept _ _ _ _ kept.1 in
+    let e = rw c.step_count-n.ensures.0 at c.over_columns.ensures in
+    let es = entries_of (entry_at a.s.now) (step_count_of a.s.now) 0 in
+    columns_told-ran (chain_of a.inverse (lent_of a.velocities.now a.marks.now a.grid.now) es (flat_of a.x.now a.y.now a.z.now a.t.now)) (columns-run-by _ a.inverse es (columns a.x.now a.y.now a.z.now a.t.now) _ _ _ _ refl none) e.1 (columns_of_lem _ _ _ _ (search (rules, nine.0), search (rules, nine.0), search (rules, nine.0)) e.0)

@@ -1,48 +1,37 @@
--- One case for each way through the tests, in the rules' order: the sheet's own, 9, 10, the grid's.
--- Each by the law of its outcome (proofs/Grid.antt), from what the calls ensure. Assumes nothing.
-use mathlib.Core.Path.{sym, ap, ◌∙◌}
-use Rattle.sheet.specs.declared.Refusal.{Refusal}
+-- What is handed out and left is what the outcome says: by the refusal of a call where it is refused
+-- (`refused-by`), else by the chain (`run_by`). Assumes nothing.
+use mathlib.Core.Path.{refl, sym, ap, ◌∙◌}
+use Rattle.sheet.specs.Layout.{step_count_of, entry_at}
+use Rattle.plans.specs.Lent.{lent_of}
+use Rattle.chain.specs.Chain.{chain_of, entries_of}
 use Rattle.sheet.proofs.Order.{accepted_count}
-use Rattle.chain.specs.Grid.{shift_grid_of}
-use Rattle.chain.proofs.Grid.{grid-refused-own, grid-refused-9, grid-refused-10, grid-refused, grid-run-through}
-use Rattle.chain.proofs.Outcome.{flat_nine_kept}
+use Rattle.sheet.proofs.Unless.{passed, failed, hands_on}
+use Rattle.chain.specs.Grid.{grid_refusal_of, shift_grid_of}
+use Rattle.chain.proofs.Outcome.{flat_nine_kept, told_refused, told-ran}
+use Rattle.chain.proofs.Grid.{grid_kept, refused-by, run_by}
 use Rattle.chain.proofs.shift_grid.Goals as goal
 
-pub returns-then-own-ne0 : goal.returns-then-own-ne0
+pub returns-in_err-judge_grid : goal.returns-in_err-judge_grid
 unfolding shift_grid_of
-returns-then-own-ne0 c =
-    rw (c.refused.ensures, ← c.check-own.ensures) (sym (grid-refused-own c.check-own.result _ _ _ _ _ _ c.if-own-ne0.true))
+returns-in_err-judge_grid c =
+    let o = rw c.list_broken.ensures at c.judge_grid.ensures in
+    let err = c.in_err-judge_grid.was in
+    let none = failed _ _ o err in
+    told_refused _ (refused-by _ _ _ _ _ _ _ _ refl none) none (hands_on _ _ o err c.from_residual.ensures.1)
 
-pub returns-then-list_broken : goal.returns-then-list_broken
-unfolding shift_grid_of
-returns-then-list_broken c =
-    rw (c.refused-then-list_broken.ensures, c.of_call.ensures, ← c.check-own.ensures)
-    (sym (grid-refused-9 c.check-own.result _ _ _ _ _ _ c.if-own-ne0.false (sym c.list_broken.ensures ∙ c.if-list_broken.true)))
-
-pub returns-then-lent_broken : goal.returns-then-lent_broken
-unfolding shift_grid_of
-returns-then-lent_broken c =
-    rw (c.refused-then-lent_broken.ensures, c.of_call-then-lent_broken.ensures, ← c.check-own.ensures)
-    (sym (grid-refused-10 c.check-own.result _ _ _ _ _ _ c.if-own-ne0.false (sym c.list_broken.ensures ∙ c.if-list_broken.false) (sym c.lent_broken.ensures ∙ c.if-lent_broken.true)))
-
-pub returns-then-broken-ne0 : goal.returns-then-broken-ne0
-unfolding shift_grid_of
-returns-then-broken-ne0 c =
-    let g = c.check_grid-broken.ensures in
-    rw (c.refused-then-broken-ne0.ensures, c.of_call-then-broken-ne0.ensures, g, ← c.check-own.ensures)
-    (sym (grid-refused c.check-own.result _ _ _ _ _ _ c.if-own-ne0.false (sym c.list_broken.ensures ∙ c.if-list_broken.false) (sym c.lent_broken.ensures ∙ c.if-lent_broken.false) (λ z. c.if-broken-ne0.true (g ∙ z))))
-
-pub over_list-tallies-requires : goal.over_list-tallies-requires
-over_list-tallies-requires c =
+pub over_list-requires : goal.over_list-requires
+over_list-requires c =
     let count = c.step_count-n.ensures.0 in
-    let none = ap (λ (r : Refusal). r.number) (sym c.check-own.ensures) ∙ c.if-own-ne0.false in
-    let nine = flat_nine_kept _ (sym c.list_broken.ensures ∙ c.if-list_broken.false) in
-    (rw count (accepted_count c.args.s.now none), count, nine.0, nine.1)
+    let kept = grid_kept _ _ _ _ _ (passed _ _ c.judge_grid.ensures c.in_ok-judge_grid.was) in
+    let nine = flat_nine_kept _ (sym c.list_broken.ensures ∙ kept.1) in
+    (rw count (accepted_count c.args.s.now kept.0), count, nine.0, nine.1)
 
 pub returns : goal.returns
 unfolding shift_grid_of
 returns c =
-    let e = c.over_list-tallies.ensures in
-    let kept = sym c.list_broken.ensures ∙ c.if-list_broken.false in
-    rw (c.ran.ensures, e.0, e.1, c.step_count-n.ensures.0, ← c.check-own.ensures)
-    (sym (grid-run-through c.check-own.result _ _ _ _ _ _ c.if-own-ne0.false kept (sym c.lent_broken.ensures ∙ c.if-lent_broken.false) (sym c.check_grid-broken.ensures ∙ c.if-broken-ne0.false)))
+    let o = rw c.list_broken.ensures at c.judge_grid.ensures in
+    let none = passed _ _ o c.in_ok-judge_grid.was in
+    let e = rw c.step_count-n.ensures.0 at c.over_list.ensures in
+    let a = c.args in
+    let es = entries_of (entry_at a.s.now) (step_count_of a.s.now) 0 in
+    told-ran (chain_of a.inverse (lent_of a.velocities.now a.marks.now a.grid.now) es a.list.now) (run_by _ a.inverse es _ _ _ _ _ refl none) e.1 e.0

@@ -1,44 +1,57 @@
 -- One case for each way through the tests, in the rules' order: the record's own, 9, 10, the grid's.
--- Each by the law of its outcome (proofs/Grid.antt), from what the calls ensure. Assumes nothing.
+-- Each by the law of its outcome (chain's proofs/Grid.antt), from what the calls ensure. Assumes
+-- nothing.
+use native.Mathlib.Omega.{arith}
 use mathlib.Core.Path.{sym, ap, ◌∙◌}
-use Rattle.sheet.specs.declared.Refusal.{Refusal}
+use Rattle.std.specs.Prelude.{Err}
+use Rattle.sheet.specs.Rules.{of_call}
+use Rattle.sheet.specs.Layout.{entry_of}
+use Rattle.plans.specs.Lent.{lent_of}
+use Rattle.chain.specs.Chain.{chain_of, entries_of}
+use Rattle.sheet.proofs.Unless.{passed, failed, hands_on}
+use Rattle.grid_rules.proofs.Laws.{unless_err, unless_not_0}
 use Rattle.chain_record.specs.Record.{shift_record_grid_of}
-use Rattle.chain.proofs.Grid.{grid-refused-own, grid-refused-9, grid-refused-10, grid-refused, grid-run-through}
+use Rattle.chain.proofs.Outcome.{told_refused, told-ran}
+use Rattle.chain.proofs.Grid.{let_through, grid-refused-own, grid-refused-9, grid-refused-10, grid-refused, grid-run-through}
 use Rattle.chain_record.proofs.Few.{few-kept}
 use Rattle.chain_record.proofs.shift_record_grid.Goals as goal
 
-pub returns-then-own-ne0 : goal.returns-then-own-ne0
+pub returns-in_err-check_record : goal.returns-in_err-check_record
 unfolding shift_record_grid_of
-returns-then-own-ne0 c =
-    rw (c.refused.ensures, ← c.check_record-own.ensures) (sym (grid-refused-own c.check_record-own.result _ _ _ _ _ _ c.if-own-ne0.true))
+returns-in_err-check_record c =
+    let o = c.check_record.ensures in
+    let err = c.in_err-check_record.was in
+    let broken = failed _ _ o err in
+    told_refused _ (grid-refused-own _ _ _ _ _ _ _ broken) broken (hands_on _ _ o err c.from_residual.ensures.1)
 
 pub returns-then-list_broken : goal.returns-then-list_broken
 unfolding shift_record_grid_of
 returns-then-list_broken c =
-    rw (c.refused-then-list_broken.ensures, c.of_call.ensures, ← c.check_record-own.ensures)
-    (sym (grid-refused-9 c.check_record-own.result _ _ _ _ _ _ c.if-own-ne0.false (sym c.list_broken.ensures ∙ c.if-list_broken.true)))
+    let own = passed _ _ c.check_record.ensures c.in_ok-check_record.was in
+    told_refused (of_call 9) (grid-refused-9 _ _ _ _ _ _ _ own (sym c.list_broken.ensures ∙ c.if-list_broken.true)) (λ z. omega arith) (ap Err c.of_call.ensures)
 
 pub returns-then-lent_broken : goal.returns-then-lent_broken
 unfolding shift_record_grid_of
 returns-then-lent_broken c =
-    rw (c.refused-then-lent_broken.ensures, c.of_call-then-lent_broken.ensures, ← c.check_record-own.ensures)
-    (sym (grid-refused-10 c.check_record-own.result _ _ _ _ _ _ c.if-own-ne0.false (sym c.list_broken.ensures ∙ c.if-list_broken.false) (sym c.lent_broken.ensures ∙ c.if-lent_broken.true)))
+    let own = passed _ _ c.check_record.ensures c.in_ok-check_record.was in
+    told_refused (of_call 10) (grid-refused-10 _ _ _ _ _ _ _ own (sym c.list_broken.ensures ∙ c.if-list_broken.false) (sym c.lent_broken.ensures ∙ c.if-lent_broken.true)) (λ z. omega arith) (ap Err c.of_call-then-lent_broken.ensures)
 
-pub returns-then-broken-ne0 : goal.returns-then-broken-ne0
+pub returns-in-Err : goal.returns-in-Err
 unfolding shift_record_grid_of
-returns-then-broken-ne0 c =
-    let g = c.check_grid-broken.ensures in
-    rw (c.refused-then-broken-ne0.ensures, c.of_call-then-broken-ne0.ensures, g, ← c.check_record-own.ensures)
-    (sym (grid-refused c.check_record-own.result _ _ _ _ _ _ c.if-own-ne0.false (sym c.list_broken.ensures ∙ c.if-list_broken.false) (sym c.lent_broken.ensures ∙ c.if-lent_broken.false) (λ z. c.if-broken-ne0.true (g ∙ z))))
+returns-in-Err c =
+    let own = passed _ _ c.check_record.ensures c.in_ok-check_record.was in
+    let g = c.check_grid.ensures in
+    let err = c.in-Err.is in
+    told_refused _ (grid-refused _ _ _ _ _ _ _ own (sym c.list_broken.ensures ∙ c.if-list_broken.false) (sym c.lent_broken.ensures ∙ c.if-lent_broken.false) (unless_not_0 _ g err)) (unless_not_0 _ g err) (ap Err (c.of_call-in-Err.ensures ∙ ap of_call (unless_err _ g err)))
 
-pub over_record-tallies-requires : goal.over_record-tallies-requires
-over_record-tallies-requires c =
-    rw c.wide-n.ensures.0 (few-kept _ _ (ap (λ (r : Refusal). r.number) (sym c.check_record-own.ensures) ∙ c.if-own-ne0.false))
+pub over_record-requires : goal.over_record-requires
+over_record-requires c =
+    rw c.wide-n.ensures.0 (few-kept _ _ (passed _ _ c.check_record.ensures c.in_ok-check_record.was))
 
 pub returns : goal.returns
 unfolding shift_record_grid_of
 returns c =
-    let e = c.over_record-tallies.ensures in
-    let kept = sym c.list_broken.ensures ∙ c.if-list_broken.false in
-    rw (c.ran.ensures, e.0, e.1, c.wide-n.ensures.0, ← c.check_record-own.ensures)
-    (sym (grid-run-through c.check_record-own.result _ _ _ _ _ _ c.if-own-ne0.false kept (sym c.lent_broken.ensures ∙ c.if-lent_broken.false) (sym c.check_grid-broken.ensures ∙ c.if-broken-ne0.false)))
+    let own = passed _ _ c.check_record.ensures c.in_ok-check_record.was in
+    let e = rw c.wide-n.ensures.0 at c.over_record.ensures in
+    let a = c.args in
+    told-ran (chain_of a.inverse (lent_of a.velocities.now a.marks.now a.grid.now) (entries_of (entry_of a.kept) a.kept.count 0) a.list.now) (grid-run-through _ _ _ _ _ _ _ own (sym c.list_broken.ensures ∙ c.if-list_broken.false) (sym c.lent_broken.ensures ∙ c.if-lent_broken.false) (let_through _ c.check_grid.ensures c.in_default.not-Err)) e.1 e.0

@@ -11,5 +11,5 @@ run_level-requires c = level_told _ _ _ _ (sym c.level.ensures ∙ c.if-level.tr
 pub returns-then-level : goal.returns-then-level
 returns-then-level c = c.run_level.ensures
 
-pub returns : goal.returns
-returns c = rw (flat-uneven _ _ _ _ (sym c.level.ensures ∙ c.if-level.false)) (refl, refl, refl, refl)
+pub returns-else-level : goal.returns-else-level
+returns-else-level c = rw (flat-uneven _ _ _ _ (sym c.level.ensures ∙ c.if-level.false)) (refl, refl, refl, refl)

@@ -6,5 +6,5 @@ use Rattle.plans.proofs.cart_of.Goals as goal
 pub returns-then-kind-eq2 : goal.returns-then-kind-eq2
 returns-then-kind-eq2 c = rw (eq-eqb _ _ c.if-kind-eq2.true) c.read_cart.ensures
 
-pub returns : goal.returns
-returns c = rw (ne_eqb _ _ c.if-kind-eq2.false) c.blank.ensures
+pub returns-else-kind-eq2 : goal.returns-else-kind-eq2
+returns-else-kind-eq2 c = rw (ne_eqb _ _ c.if-kind-eq2.false) c.blank.ensures

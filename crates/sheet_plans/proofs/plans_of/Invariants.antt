@@ -1,6 +1,6 @@
 -- Invariant (`Ready`): the plans before i are those of the steps before i. A turn puts in step i's
--- (`ready-again`). The measure is how many steps are left. Assumes nothing.
-use Prim.Native.Nat.{◌-◌, ◌≤◌}
+-- (`ready-again`). Assumes nothing.
+use Prim.Native.Nat.{◌≤◌}
 use mathlib.Core.Path.{◌≡◌}
 use lib.ListN.{length}
 use Rattle.plans.specs.Plans.{Ready}
@@ -9,6 +9,3 @@ use Rattle.sheet_plans.proofs.plans_of.Given as goal
 
 abbrev pub invariant-loop-i : goal.invariant-loop-i
 invariant-loop-i l = (l.steps ≤ 16) × (length l.plans ≡ 16) × Ready (plan_at l.inverse l.s) l.i l.plans
-
-abbrev pub decreases-loop-i : goal.decreases-loop-i
-decreases-loop-i l = l.steps - l.i

@@ -1,9 +1,7 @@
--- One case for each way through the test. Assumes nothing.
+-- The smaller of both. Assumes nothing.
 use native.Mathlib.Omega.{arith}
+use Rattle.std.proofs.Math.Nat.{min-le_left, min-le_right, le-min}
 use Rattle.step_windows.proofs.rows_of.Goals as goal
 
-pub returns-then-left-lt-ROWS : goal.returns-then-left-lt-ROWS
-returns-then-left-lt-ROWS c = (omega arith, omega (arith, c.if-left-lt-ROWS.true), λ h. h)
-
 pub returns : goal.returns
-returns c = (omega (arith, c.if-left-lt-ROWS.false), omega arith, λ h. omega arith)
+returns c = (omega (arith, c.min.ensures, min-le_left c.args.left 128), omega (arith, c.min.ensures, min-le_right c.args.left 128), λ h. omega (arith, c.min.ensures, le-min {k = 1} {a = c.args.left} {b = 128} (omega (arith, h)) (omega arith)), c.min.ensures)

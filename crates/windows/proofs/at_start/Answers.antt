@@ -2,4 +2,4 @@
 use Rattle.windows.proofs.at_start.Goals as goal
 
 pub returns : goal.returns
-returns c = rw (c.none-tally.ensures, c.start-state.ensures)
+returns c = rw (c.none.ensures, c.start.ensures)

@@ -2,4 +2,4 @@
 use Rattle.windows.proofs.no_standing.Goals as goal
 
 pub returns : goal.returns
-returns c = rw (c.none-tally.ensures, c.no_state-state.ensures)
+returns c = rw (c.none.ensures, c.no_state.ensures)

@@ -1,10 +1,15 @@
+use Prim.Native.Nat.{◌+◌}
 use native.Mathlib.Omega.{arith}
-use mathlib.Core.Path.{sym, ap, ◌∙◌}
+use mathlib.Core.Path.{◌≡◌, sym, ap, ◌∙◌}
+use Rattle.std.proofs.Math.Nat.{min-eq_left, min-eq_right}
 use Rattle.plans.proofs.Arrays.{at_most_sixteen_lem}
 use Rattle.step_windows.proofs.Parts.{room_rows, room_back, fits-list, last_left, part-taken, part_length, part-put}
-use Rattle.windows.specs.Steps.{tallies_of, gone_over}
+use Rattle.plans.specs.Lent.{lent_in}
+use Rattle.plans.specs.Windows.{gone_of}
+use Rattle.windows.specs.Steps.{pass_in, passes_from, tallies_of, gone_over}
 use Rattle.windows.proofs.Steps.{going_start, going-again, going_end, starts_few, passes_few}
 use borrow.Author.Rules.{rules}
+use Rattle.windows.proofs.over.Goals.{else-loop-i-test, then-loop-i-test+else-rows-i-gt128}
 use Rattle.windows.proofs.over.Goals as goal
 
 pub starts-standings-requires : goal.starts-standings-requires
@@ -38,11 +43,8 @@ window-requires c =
     let t = room_rows l.t m l.invariant.4 r.1 in
     (l.invariant.5, (y ∙ sym x, z ∙ sym x, t ∙ sym x), omega (arith, x, k), omega (arith, x, l.invariant.0, l.invariant.7, r.0, more), l.invariant.6.few)
 
-pub overflow_add-i : goal.overflow_add-i
-overflow_add-i c = search (rules, c.loop-i.invariant.0, c.loop-i.invariant.7, c.rows_of-m.ensures.0, c.loop-i-test.true)
-
 pub loop-i-smaller : goal.loop-i-smaller
-loop-i-smaller c = let l = c.loop-i in let r = c.rows_of-m.ensures in let more = c.loop-i-test.true in omega (arith, l.invariant.0, r.0, r.2 (omega (arith, more)), more)
+loop-i-smaller c = omega (arith, c.loop-i-test.true)
 
 pub loop-i-preserved : goal.loop-i-preserved
 loop-i-preserved c =
@@ -53,25 +55,41 @@ loop-i-preserved c =
     let w = c.window.new in
     let more = c.loop-i-test.true in
     let fits = fits-list l.i m l.invariant.0 l.invariant.6.long r.0 more in
-    let k = part-taken l.list l.i m in (
-      omega (arith, l.invariant.0, r.0, more),
+    let k = part-taken l.list l.i m in
+    let next : l.i + 128 ≡ l.i + m = omega (arith, r.3 ∙ min-eq_right (omega arith)) in (
+      omega arith,
       room_back l.x w.x m l.invariant.1 (omega arith),
       room_back l.y w.y m l.invariant.2 (omega arith),
       room_back l.z w.z m l.invariant.3 (omega arith),
       room_back l.t w.t m l.invariant.4 (omega arith),
       l.invariant.5,
-      going-again m (passes_few _ _ l.invariant.5) fits (part-put l.list l.i m _) (rw k at e.0) (rw k at e.1) l.invariant.6,
+      rw next (going-again m (passes_few _ _ l.invariant.5) fits (part-put l.list l.i m _) (rw k at e.0) (rw k at e.1) l.invariant.6),
       l.invariant.7,
     )
 
-pub shape_of-list : goal.shape_of-list
-shape_of-list c = c.loop-i.invariant.6.long
-
+-- before any window, or behind the last, which has the rows that are left
 pub returns : goal.returns
 unfolding gone_over
 returns c =
     let l = c.loop-i in
+    let a = c.args in
+    let gone = gone_of a.inverse 0 (passes_from (pass_in (lent_in a.lent) a.plans.now) c.at_most_sixteen-steps.result 0) c.starts-standings.result a.list.now in
+    let done : (c.loop-i-test.list ≡ gone.list) × (c.loop-i-test.standings ≡ gone.standings) = elim c.loop-i-test.branch [
+      | else-loop-i-test w ↦
+          let e = going_end (last_left l.i l.invariant.6.long w.loop-i-test.false) l.invariant.6 in
+          (w.list-is ∙ e.0, w.standings-is ∙ e.1)
+      | then-loop-i-test+else-rows-i-gt128 w ↦
+          let r = w.rows_of-m.ensures in
+          let m = w.rows_of-m.result in
+          let e = w.window.ensures in
+          let more = w.loop-i-test.true in
+          let fits = fits-list l.i m l.invariant.0 l.invariant.6.long r.0 more in
+          let k = part-taken l.list l.i m in
+          let now = going-again m (passes_few _ _ l.invariant.5) fits (part-put l.list l.i m _) (rw k at e.0) (rw k at e.1) l.invariant.6 in
+          let rest = r.3 ∙ min-eq_left (omega arith) in
+          let g = going_end (last_left (l.i + m) now.long (omega (arith, rest, more))) now in
+          (w.list-is ∙ g.0, w.standings-is ∙ g.1)
+    ] in
     let st = c.starts-standings.ensures in
     let most = c.at_most_sixteen-steps.ensures in
-    let e = going_end (last_left l.i l.invariant.6.long c.loop-i-test.false) l.invariant.6 in
-    (rw (st, most) at e.0, c.tallies_of.ensures ∙ ap tallies_of (rw (st, most) at e.1))
+    (rw (st, most) at done.0, c.tallies_of.ensures ∙ ap tallies_of (rw (st, most) at done.1))
