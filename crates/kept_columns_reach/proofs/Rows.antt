@@ -6,13 +6,12 @@ use mathlib.Core.Path.{◌≡◌, refl, sym, ap, ◌∙◌}
 use mathlib.Core.Bool.{Bool, true, false, cond}
 use mathlib.Core.List.{List, [], ◌∷◌}
 use lib.Dec.{eqb}
-use lib.ListN.{length, take, drop}
+use lib.ListN.{length}
 use lib.Ieee.{Float}
 use borrow.Author.Tests.{eq-eqb, ne_eqb, eqb-true, eqb-false}
 use Rattle.tuple.specs.declared.Tuple.{Tuple}
 use Rattle.helmert.specs.Modes.{start_of}
 use Rattle.lists.specs.Flat.{put_at}
-use Rattle.columns.specs.Columns.{flat_of}
 use Rattle.columns.proofs.Laws.{flat-length}
 use Rattle.sheet.specs.declared.Refusal.{Refusal}
 use Rattle.sheet.specs.Rules.{rule, of_call, first_broken, refusal_of}
@@ -20,7 +19,6 @@ use Rattle.tally.specs.declared.Tally.{Tally}
 use Rattle.tally.specs.Tallies.{no_tally}
 use Rattle.plans.specs.Passes.{tally_of}
 use Rattle.stretch.specs.Kept.{before_of}
-use Rattle.stretch.proofs.Parts.{flat_mid}
 use Rattle.stretch.specs.KeptColumns.{KeptColumns, flat_list_of, flat_kept_of, kept_columns_of, LevelColumns, AllLevel}
 use Rattle.kept.specs.declared.Corrected.{Corrected}
 use Rattle.kept.specs.Entries.{refusal12, refusal14, shift_in, reversed_in, keep_refusal_of, CorrectOutcome, outcome, corrected_as, correct_of}
@@ -130,19 +128,10 @@ module _ (inverse : Bool) (s : List ℕ) (old : KeptColumns) (index : ℕ) (fix 
             let long = flat-length _ _ _ _ level in
             omega (arith, fits, long)
 
-        abbrev part : List Float → List Float
-        part l = take (index + done.redone - index) (drop index l)
-
-        part-is : flat_of (part new.list.x) (part new.list.y) (part new.list.z) (part new.list.t)
-            ≡ take (4 * (index + done.redone) - 4 * index) (drop (4 * index) (flat_list_of new.list))
-        part-is =
-            let size : 4 * (index + done.redone - index) ≡ 4 * (index + done.redone) - 4 * index = omega arith in
-            flat_mid _ _ _ _ level index (index + done.redone - index) ∙ ap (λ (n : ℕ). take n (drop (4 * index) (flat_list_of new.list))) size
-
         -- what the pass finds in the stretch
-        pub columns-met : {n : ℕ} → n ≡ (tally_of (time_pass (shift_in s)) 0 (before_of (shift_in s) (flat_list_of new.track) index) (flat_of (part new.list.x) (part new.list.y) (part new.list.z) (part new.list.t))).met
+        pub columns-met : {n : ℕ} → n ≡ (tally_of (time_pass (shift_in s)) 0 (before_of (shift_in s) (flat_list_of new.track) index) (fixes_from (flat_list_of new.list) index done.redone)).met
             → n ≡ stretch_columns_met_of inverse s old index fix
         columns-met en =
-            stretch-met inverse s (flat_kept_of old) index fix told h
-            (en ∙ ap (λ (l : List Float). (tally_of (time_pass (shift_in s)) 0 (before_of (shift_in s) (flat_list_of new.track) index) l).met) part-is)
+            let size : 4 * (index + done.redone) - 4 * index ≡ 4 * done.redone = omega arith in
+            stretch-met inverse s (flat_kept_of old) index fix told h (rw size en)
             ∙ same_number (ap (λ (c : Corrected). c.redone) (the-correction-gives-the-old-answer inverse s old even index fix))

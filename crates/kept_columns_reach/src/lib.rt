@@ -9,14 +9,18 @@
 // parameters, as in `kept_columns`. For callers that hold columns.
 #![tactic(auto)]
 
-ghost use Rattle.std.specs.Prelude.{◌≡◌};
-ghost use Rattle.columns.specs.Columns.{columns};
+ghost use Rattle.std.specs.Prelude.{◌≡◌, ◌+◌, ◌≤◌, length};
+ghost use Rattle.columns.specs.Columns.{columns, Level, flat_of};
+ghost use Rattle.plans.specs.Passes.{tally_of};
 ghost use Rattle.stretch.specs.KeptColumns.{kept_columns};
 ghost use Rattle.kept_columns.specs.Columns.{keep_columns_refusal_of, keep_columns_of, columns_outcome, correct_columns_of};
+ghost use Rattle.kept_reach.specs.Reach.{fixes_from, time_pass};
 ghost use Rattle.kept_columns_reach.specs.Reach.{keep_columns_tally_of, stretch_columns_met_of};
 
+use helmert::{Shift, State};
 use kept_reach::{CorrectedReach, KeptTally};
 use stretch::ColumnRows;
+use tally::Tally;
 use tuple::Tuple;
 
 // A fresh kept run over columns, as `kept_columns::keep`.
@@ -64,6 +68,30 @@ pub fn keep_reach(
     }
 }
 
+// What `kept_reach::pass` tells of n rows from one on.
+fn pass_rows(
+    shift: Shift,
+    from: State,
+    x: &[f64],
+    y: &[f64],
+    z: &[f64],
+    t: &[f64],
+    first: usize,
+    n: usize,
+) -> Tally
+    requires { Level x.now y.now z.now t.now × (first + n ≤ length x.now) }
+    ensures { result ≡ tally_of (time_pass shift) 0 from (fixes_from (flat_of x.now y.now z.now t.now) first n) }
+{
+    let end = first + n;
+    let rows = ColumnRows {
+        x: &x[first..end],
+        y: &y[first..end],
+        z: &z[first..end],
+        t: &t[first..end],
+    };
+    kept_reach::pass(shift, from, &rows)
+}
+
 // Corrects one fix of a kept run over columns, as `kept_columns::correct`.
 pub fn correct_reach(
     inverse: bool,
@@ -105,14 +133,7 @@ pub fn correct_reach(
         t: kt,
     };
     let from = stretch::before(shift, &track, index);
-    let end = index + corrected.redone as usize;
-    let redone = ColumnRows {
-        x: &x[index..end],
-        y: &y[index..end],
-        z: &z[index..end],
-        t: &t[index..end],
-    };
-    let told = kept_reach::pass(shift, from, &redone);
+    let told = pass_rows(shift, from, x, y, z, t, index, corrected.redone as usize);
     CorrectedReach {
         corrected: corrected,
         met: told.met as u64,

@@ -21,7 +21,7 @@ pub loop-i-preserved : goal.loop-i-preserved
 loop-i-preserved g c =
     let l = c.loop-i in
     let v = c.row-v.ensures in
-    let h : 4 * l.i + 4 ≤ length (g.R.Rows.flat c.args.list.now) = omega (arith, c.len.ensures, c.loop-i-test.true) in
+    let h : 4 * l.i + 4 ≤ length (g.R.Rows.flat c.args.list.now) = omega (arith, c.len-i-end.ensures, c.loop-i-test.true) in
     let next : 4 * (l.i + 1) ≡ 4 * l.i + 4 = omega arith in
     rw (next, c.moved-state.ensures, v) (
       omega (arith, l.invariant.0, c.one_if-count.ensures.1),
@@ -33,5 +33,5 @@ loop-i-preserved g c =
 pub returns : goal.returns
 returns g c =
     let l = c.loop-i in
-    let end : length (g.R.Rows.flat c.args.list.now) - 4 * l.i < 4 = omega (arith, c.len.ensures, c.loop-i-test.false) in
+    let end : length (g.R.Rows.flat c.args.list.now) - 4 * l.i < 4 = omega (arith, c.len-i-end.ensures, c.loop-i-test.false) in
     tally_is (count-end end l.invariant.2) (count-end end l.invariant.3)
