@@ -6,7 +6,7 @@
 // link.
 #![tactic(auto)]
 
-ghost use Rattle.std.specs.Prelude.{◌≡◌, ◌≤◌};
+ghost use Rattle.std.specs.Prelude.{◌≡◌, ◌+◌, ◌≤◌};
 ghost use Rattle.arrays.specs.Arrays.{tuple_of, three_at, helmert_of, molodensky_of, badekas_of};
 
 use badekas::Badekas;
@@ -27,8 +27,9 @@ pub fn tuple_of(fix: &[f64; 4]) -> Tuple
     }
 }
 
-fn three_at(numbers: &[f64; 30], i: usize) -> Vec3
-    requires { i ≤ 27 }
+// Three numbers from a place on.
+fn three_at<const N: usize>(numbers: &[f64; N], i: usize) -> Vec3
+    requires { i + 3 ≤ N }
     ensures { result ≡ three_at numbers.now i }
 {
     Vec3 {
@@ -78,17 +79,6 @@ pub fn molodensky_of(flags: u32, first: u32, second: u32, numbers: &[f64; 5]) ->
     }
 }
 
-fn three_of_ten(numbers: &[f64; 10], i: usize) -> Vec3
-    requires { i ≤ 7 }
-    ensures { result ≡ three_at numbers.now i }
-{
-    Vec3 {
-        x: numbers[i],
-        y: numbers[i + 1],
-        z: numbers[i + 2],
-    }
-}
-
 // The ten numbers in the order of the body: translation, rotation, scale, pivot.
 pub fn badekas_of(flags: u32, convention: u32, numbers: &[f64; 10]) -> Badekas
     ensures { result ≡ badekas_of flags convention numbers.now }
@@ -96,9 +86,9 @@ pub fn badekas_of(flags: u32, convention: u32, numbers: &[f64; 10]) -> Badekas
     Badekas {
         flags: flags,
         convention: convention,
-        translation: three_of_ten(numbers, 0),
-        rotation: three_of_ten(numbers, 3),
+        translation: three_at(numbers, 0),
+        rotation: three_at(numbers, 3),
         scale: numbers[6],
-        pivot: three_of_ten(numbers, 7),
+        pivot: three_at(numbers, 7),
     }
 }

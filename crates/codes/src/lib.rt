@@ -22,10 +22,8 @@ pub fn narrow(counts: [usize; 16]) -> [u32; 16]
     ensures { result ≡ narrow_of counts }
 {
     let mut out = [0u32; 16];
-    let mut i = 0;
-    while i < 16 {
+    for i in 0..16 {
         out[i] = (counts[i] % 4294967296) as u32;
-        i += 1;
     }
     out
 }

@@ -10,11 +10,13 @@
 // a mode, and how many comparisons parted.
 #![tactic(auto)]
 
-ghost use Rattle.std.specs.Prelude.{◌<◌, ◌≤◌};
+ghost use Rattle.std.specs.Prelude.{◌≡◌, ◌<◌, ◌≤◌, length};
 ghost use Rattle.corrections.specs.Room.{Roomy};
 
+use blocks::one_if;
 use kept::Corrected;
 use sheet::Refusal;
+use std::fmt;
 use std::io;
 use tuple::Tuple;
 
@@ -96,22 +98,39 @@ fn index_of(seed: usize, fixes: usize) -> usize {
 
 // ----- a sheet of one Helmert step ---------------------------------------------------------------
 
-// Modes: 0 static, 1 fixed, 2 own-epoch, 3 running.
-fn flags(mode: usize, exact: usize, seed: usize) -> usize
+#[derive(Clone, Copy, PartialEq, Eq)]
+enum Mode {
+    Static,
+    Fixed,
+    OwnEpoch,
+    Running,
+}
+
+impl fmt::Display for Mode {
+    fn fmt<W: fmt::Write>(&self, f: &mut fmt::Formatter<W>) -> fmt::Result {
+        f.write_str(match self {
+            Mode::Static => "static",
+            Mode::Fixed => "fixed",
+            Mode::OwnEpoch => "own-epoch",
+            Mode::Running => "running",
+        })
+    }
+}
+
+fn flags(mode: Mode, exact: bool, seed: usize) -> usize
     ensures { result < 16 }
 {
     let units = 2 * (seed / 65536 % 4);
-    if mode == 2 {
-        return exact % 2 + units + 8;
-    }
-    if mode == 3 {
-        return exact % 2 + units;
-    }
-    exact % 2 + units + 8 * (seed / 262144 % 2)
+    let own_epoch = match mode {
+        Mode::Static | Mode::Fixed => seed / 262144 % 2,
+        Mode::OwnEpoch => 1,
+        Mode::Running => 0,
+    };
+    one_if(exact) + units + 8 * own_epoch
 }
 
 // Header, directory, flags and convention.
-fn word(mode: usize, exact: usize, seed: usize, k: usize) -> usize
+fn word(mode: Mode, exact: bool, seed: usize, k: usize) -> usize
     ensures { result < 281 }
 {
     match k {
@@ -140,8 +159,8 @@ fn parameter(seed: usize) -> f64 {
 }
 
 // A rate: none in a static sheet; one of dx is never zero in the others.
-fn rate(mode: usize, seed: usize, j: usize) -> f64 {
-    if mode == 0 {
+fn rate(mode: Mode, seed: usize, j: usize) -> f64 {
+    if mode == Mode::Static {
         return 0.0;
     }
     if j == 9 {
@@ -152,30 +171,26 @@ fn rate(mode: usize, seed: usize, j: usize) -> f64 {
 
 // The number at a body's place: translation, xyz, their rates, rotation, rxyz, their rates, the
 // scales, t_epoch, t_obs.
-fn number(mode: usize, seed: usize, j: usize) -> f64 {
+fn number(mode: Mode, seed: usize, j: usize) -> f64 {
     match j {
         6 | 7 | 8 | 9 | 10 | 11 | 18 | 19 | 20 | 21 | 22 | 23 | 26 | 27 => rate(mode, seed, j),
         28 => if seed / 65536 % 4 == 0 { -0.0 } else { 2000.0 },
-        29 => if mode == 1 { 2010.0 } else { 0.0 / 0.0 },
+        29 => if mode == Mode::Fixed { 2010.0 } else { 0.0 / 0.0 },
         _ => parameter(seed),
     }
 }
 
-fn write_words(s: &mut [u8], mode: usize, exact: usize, seed: usize) {
-    let mut k = 0;
-    while k < 10 {
+fn write_words(s: &mut [u8], mode: Mode, exact: bool, seed: usize) {
+    for k in 0..10 {
         words::put32(s, 4 * k, word(mode, exact, seed, k) as u32);
-        k += 1;
     }
 }
 
-fn write_numbers(s: &mut [u8], mode: usize, start: usize) {
+fn write_numbers(s: &mut [u8], mode: Mode, start: usize) {
     let mut seed = start;
-    let mut j = 0;
-    while j < 30 {
+    for j in 0..30 {
         words::put_number(s, 40 + 8 * j, number(mode, seed, j));
         seed = next(seed);
-        j += 1;
     }
 }
 
@@ -191,19 +206,9 @@ fn listed(seed: usize, calm: bool) -> Tuple {
 
 fn fill(list: &mut [f64], start: usize, calm: bool) {
     let mut seed = start;
-    let mut i = 0;
-    while 4 <= list.len() - i {
-        lists::write4(list, i, listed(seed, calm));
+    for i in 0..list.len() / 4 {
+        lists::write4(list, 4 * i, listed(seed, calm));
         seed = next(next(next(next(seed))));
-        i += 4;
-    }
-}
-
-fn copy(from: &[f64], to: &mut [f64]) {
-    let mut i = 0;
-    while 4 <= from.len() - i {
-        lists::write4(to, i, lists::read4(from, i));
-        i += 4;
     }
 }
 
@@ -220,13 +225,10 @@ fn same4(v: Tuple, w: Tuple) -> bool {
 
 // How many tuples of two lists differ in a bit.
 fn differing(a: &[f64], b: &[f64]) -> usize {
-    let mut n = 0;
-    let mut i = 0;
-    while 4 <= a.len() - i {
-        if !same4(lists::read4(a, i), lists::read4(b, i)) {
-            n = std::num::wrapping_add_usize(n, 1);
-        }
-        i += 4;
+    let mut n = 0usize;
+    for i in 0..a.len() / 4 {
+        let same = same4(lists::read4(a, 4 * i), lists::read4(b, 4 * i));
+        n = n.wrapping_add(one_if(!same));
     }
     n
 }
@@ -234,14 +236,13 @@ fn differing(a: &[f64], b: &[f64]) -> usize {
 // The stretch by the words: from the index up to the first fix after which the new track equals the
 // old one, else to the end.
 fn stretch(new: &[f64], old: &[f64], index: usize) -> usize {
-    let mut i = index;
-    while i < new.len() / 4 {
+    let fixes = new.len() / 4;
+    for i in index..fixes {
         if same4(lists::read4(new, 4 * i), lists::read4(old, 4 * i)) {
             return i - index + 1;
         }
-        i += 1;
     }
-    i - index
+    fixes.saturating_sub(index)
 }
 
 // ----- a correction --------------------------------------------------------------------------------
@@ -258,14 +259,6 @@ struct Tally {
     parted: usize,
 }
 
-fn plus(a: usize, b: usize) -> usize {
-    std::num::wrapping_add_usize(a, b)
-}
-
-fn one_if(b: bool) -> usize {
-    if b { 1 } else { 0 }
-}
-
 // Index below the count: taken, by the stretch. Else 14, and nothing redone.
 fn judged(
     was: Tally,
@@ -278,20 +271,16 @@ fn judged(
     let refusal = answer.refusal;
     let here = index < fixes;
     let number = if here { 0 } else { 14 };
-    let wrong = plus(
-        one_if(refusal.number != number),
-        plus(
-            one_if(refusal.step != 0),
-            one_if(answer.redone != right as u64),
-        ),
-    );
+    let wrong = one_if(refusal.number != number)
+        .wrapping_add(one_if(refusal.step != 0))
+        .wrapping_add(one_if(answer.redone != right as u64));
     Tally {
         seed: next(next(next(next(next(was.seed))))),
-        taken: plus(was.taken, one_if(here)),
-        refused: plus(was.refused, one_if(!here)),
-        redone: plus(was.redone, right),
-        longer: plus(was.longer, one_if(1 < right)),
-        parted: plus(was.parted, plus(wrong, apart)),
+        taken: was.taken.wrapping_add(one_if(here)),
+        refused: was.refused.wrapping_add(one_if(!here)),
+        redone: was.redone.wrapping_add(right),
+        longer: was.longer.wrapping_add(one_if(1 < right)),
+        parted: was.parted.wrapping_add(wrong).wrapping_add(apart),
     }
 }
 
@@ -309,10 +298,10 @@ fn compared(
     again: Refusal,
     was: Tally,
 ) -> Tally {
-    let apart = plus(
-        plus(differing(list, own), differing(results, fresh_results)),
-        plus(differing(track, fresh_track), one_if(again.number != 0)),
-    );
+    let apart = differing(list, own)
+        .wrapping_add(differing(results, fresh_results))
+        .wrapping_add(differing(track, fresh_track))
+        .wrapping_add(one_if(again.number != 0));
     judged(
         was,
         list.len() / 4,
@@ -334,10 +323,12 @@ fn one(
     fresh_results: &mut [f64],
     fresh_track: &mut [f64],
     was: Tally,
-) -> Tally {
+) -> Tally
+    requires { length old.old ≡ length track.old }
+{
     let index = index_of(was.seed, list.len() / 4);
     let fix = fix_of(next(was.seed));
-    copy(track, old);
+    old.copy_from_slice(track);
     put(own, index, fix);
     let answer = kept::correct(inverse, s, list, results, track, index, fix);
     let again = kept::keep(inverse, s, own, fresh_results, fresh_track);
@@ -369,10 +360,11 @@ fn several(
     fresh_results: &mut [f64],
     fresh_track: &mut [f64],
     was: Tally,
-) -> Tally {
+) -> Tally
+    requires { length old.old ≡ length track.old }
+{
     let mut now = was;
-    let mut k: usize = 0;
-    while k < 6 {
+    for _ in 0..6 {
         now = one(
             inverse,
             s,
@@ -385,15 +377,14 @@ fn several(
             fresh_track,
             now,
         );
-        k += 1;
     }
     now
 }
 
 // Results and track hold anything before the first run.
 fn case(
-    mode: usize,
-    exact: usize,
+    mode: Mode,
+    exact: bool,
     inverse: bool,
     calm: bool,
     s: &mut [u8],
@@ -405,7 +396,9 @@ fn case(
     fresh_results: &mut [f64],
     fresh_track: &mut [f64],
     was: Tally,
-) -> Tally {
+) -> Tally
+    requires { length old.old ≡ length track.old }
+{
     let seed = was.seed;
     write_words(s, mode, exact, seed);
     write_numbers(s, mode, next(seed));
@@ -413,7 +406,7 @@ fn case(
     fill(own, seed, calm);
     let first = kept::keep(inverse, s, list, results, track);
     let mut now = was;
-    now.parted = plus(was.parted, one_if(first.number != 0));
+    now.parted = was.parted.wrapping_add(one_if(first.number != 0));
     several(
         inverse,
         s,
@@ -426,6 +419,24 @@ fn case(
         fresh_track,
         now,
     )
+}
+
+// What case k of 960 runs: four modes, small-angle and exact, forward and inverse.
+fn mode_of(k: usize) -> Mode {
+    match k / 240 {
+        0 => Mode::Static,
+        1 => Mode::Fixed,
+        2 => Mode::OwnEpoch,
+        _ => Mode::Running,
+    }
+}
+
+fn is_exact(k: usize) -> bool {
+    k / 120 % 2 == 1
+}
+
+fn is_inverse(k: usize) -> bool {
+    k / 60 % 2 == 1
 }
 
 // How many numbers the list of case k of a mode has.
@@ -455,9 +466,9 @@ fn cut(
 {
     let m = size(k % 60);
     case(
-        k / 240,
-        k / 120 % 2,
-        k / 60 % 2 == 1,
+        mode_of(k),
+        is_exact(k),
+        is_inverse(k),
         30 <= k % 60,
         s,
         &mut list[..m],
@@ -473,25 +484,16 @@ fn cut(
 
 // ----- every mode ---------------------------------------------------------------------------------------
 
-fn print_mode(out: &impl Print, mode: usize) -> io::Result<()> {
-    match mode {
-        0 => print!(out; "static, "),
-        1 => print!(out; "fixed, "),
-        2 => print!(out; "own-epoch, "),
-        _ => print!(out; "running, "),
-    }
-}
-
-fn print_form(out: &impl Print, exact: usize, inverse: usize) -> io::Result<()> {
-    if exact == 0 {
-        print!(out; "small-angle, ")?;
-    } else {
+fn print_form(out: &impl Print, exact: bool, inverse: bool) -> io::Result<()> {
+    if exact {
         print!(out; "exact, ")?;
-    }
-    if inverse == 0 {
-        print!(out; "forward: ")
     } else {
+        print!(out; "small-angle, ")?;
+    }
+    if inverse {
         print!(out; "inverse: ")
+    } else {
+        print!(out; "forward: ")
     }
 }
 
@@ -516,8 +518,8 @@ fn begun(seed: usize, parted: usize) -> Tally {
 // After the last case of a mode its line, and a new count.
 fn told(out: &impl Print, k: usize, t: Tally) -> io::Result<Tally> {
     if k % 60 == 59 {
-        print_mode(out, k / 240)?;
-        print_form(out, k / 120 % 2, k / 60 % 2)?;
+        print!(out; "{}, ", mode_of(k))?;
+        print_form(out, is_exact(k), is_inverse(k))?;
         print_tally(out, t)?;
         return Ok(begun(t.seed, t.parted));
     }
@@ -539,8 +541,7 @@ fn replayed(
     requires { Roomy list.old own.old results.old track.old old.old fresh_results.old fresh_track.old }
 {
     let mut now = begun(1, 0);
-    let mut k: usize = 0;
-    while k < 960 {
+    for k in 0..960 {
         now = told(
             out,
             k,
@@ -557,7 +558,6 @@ fn replayed(
                 now,
             ),
         )?;
-        k += 1;
     }
     Ok(now.parted)
 }

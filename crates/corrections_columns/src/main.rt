@@ -11,6 +11,7 @@
 
 ghost use Rattle.std.specs.Prelude.{◌<◌, ◌≤◌};
 
+use blocks::one_if;
 use kept::Corrected;
 use sheet::Refusal;
 use std::io;
@@ -74,11 +75,9 @@ fn index_of(seed: usize) -> usize {
 
 fn fill(list: &mut [f64], start: usize, calm: bool) {
     let mut seed = start;
-    let mut i = 0;
-    while 4 <= list.len() - i {
-        lists::write4(list, i, fix_of(seed, calm));
+    for i in 0..list.len() / 4 {
+        lists::write4(list, 4 * i, fix_of(seed, calm));
         seed = next(next(next(next(seed))));
-        i += 4;
     }
 }
 
@@ -109,20 +108,35 @@ fn put_numbers(s: &mut [u8], rate: f64, time: f64) {
     words::put_number(s, 272, time);
 }
 
-fn flags(mode: usize, exact: bool) -> u32 {
-    if mode == 2 {
-        return if exact { 9 } else { 8 };
-    }
-    if exact { 1 } else { 0 }
+#[derive(Clone, Copy, PartialEq, Eq)]
+enum Mode {
+    Static,
+    Fixed,
+    OwnEpoch,
+    Running,
 }
 
-// Modes: 0 static, 1 fixed, 2 own-epoch, 3 running; small-angle or exact.
-fn put_sheet(s: &mut [u8], mode: usize, exact: bool) {
+fn mode_of(k: usize) -> Mode {
+    match k % 4 {
+        0 => Mode::Static,
+        1 => Mode::Fixed,
+        2 => Mode::OwnEpoch,
+        _ => Mode::Running,
+    }
+}
+
+fn flags(mode: Mode, exact: bool) -> u32 {
+    let own_epoch = if mode == Mode::OwnEpoch { 8 } else { 0 };
+    if exact { own_epoch + 1 } else { own_epoch }
+}
+
+// A sheet of one step, small-angle or exact.
+fn put_sheet(s: &mut [u8], mode: Mode, exact: bool) {
     put_words(s, flags(mode, exact));
     put_numbers(
         s,
-        if mode == 0 { 0.0 } else { 0.25 },
-        if mode == 1 { 2010.0 } else { 0.0 / 0.0 },
+        if mode == Mode::Static { 0.0 } else { 0.25 },
+        if mode == Mode::Fixed { 2010.0 } else { 0.0 / 0.0 },
     );
 }
 
@@ -142,29 +156,13 @@ fn columns_of(list: &[f64]) -> Columns {
     let mut y = [0.0; 72];
     let mut z = [0.0; 72];
     let mut t = [0.0; 72];
-    let mut i = 0;
-    while i < 72 {
-        let v = lists::read4(list, 4 * i);
-        x[i] = v.x;
-        y[i] = v.y;
-        z[i] = v.z;
-        t[i] = v.t;
-        i += 1;
-    }
+    columns::to_columns(list, &mut x, &mut y, &mut z, &mut t);
     Columns {
         x: x,
         y: y,
         z: z,
         t: t,
     }
-}
-
-fn plus(a: usize, b: usize) -> usize {
-    std::num::wrapping_add_usize(a, b)
-}
-
-fn one_if(b: bool) -> usize {
-    if b { 1 } else { 0 }
 }
 
 fn same4(x: f64, y: f64, z: f64, t: f64, v: Tuple) -> bool {
@@ -177,12 +175,10 @@ fn parted(c: Columns, list: &[f64]) -> usize {
     let y = c.y;
     let z = c.z;
     let t = c.t;
-    let mut n = 0;
-    let mut i = 0;
-    while i < 72 {
+    let mut n = 0usize;
+    for i in 0..72 {
         let v = lists::read4(list, 4 * i);
-        n = plus(n, one_if(!same4(x[i], y[i], z[i], t[i], v)));
-        i += 1;
+        n = n.wrapping_add(one_if(!same4(x[i], y[i], z[i], t[i], v)));
     }
     n
 }
@@ -317,13 +313,9 @@ fn keep_both(
     let columns = keep(inverse, s, columns_of(list));
     let flat = kept::keep(inverse, s, list, results, track);
     let refusal = columns.refusal;
-    plus(
-        one_if((flat.number != 0) | (refusal.number != 0)),
-        plus(
-            parted(columns.results, results),
-            parted(columns.track, track),
-        ),
-    )
+    one_if((flat.number != 0) | (refusal.number != 0))
+        .wrapping_add(parted(columns.results, results))
+        .wrapping_add(parted(columns.track, track))
 }
 
 // Both answers: the same refusal, and as many fixes redone.
@@ -336,10 +328,10 @@ fn judged(was: Tally, flat: Corrected, columns: Corrected, apart: usize) -> Tall
         & (flat.redone == columns.redone);
     Tally {
         seed: next(next(next(next(next(was.seed))))),
-        taken: plus(was.taken, one_if(taken)),
-        refused: plus(was.refused, one_if(!taken)),
-        redone: plus(was.redone, columns.redone as usize),
-        parted: plus(was.parted, plus(one_if(!alike), apart)),
+        taken: was.taken.wrapping_add(one_if(taken)),
+        refused: was.refused.wrapping_add(one_if(!taken)),
+        redone: was.redone.wrapping_add(columns.redone as usize),
+        parted: was.parted.wrapping_add(one_if(!alike)).wrapping_add(apart),
     }
 }
 
@@ -363,13 +355,9 @@ fn correct_both(
         fix,
     );
     let flat = kept::correct(inverse, s, list, results, track, index, fix);
-    let apart = plus(
-        parted(columns.list, list),
-        plus(
-            parted(columns.results, results),
-            parted(columns.track, track),
-        ),
-    );
+    let apart = parted(columns.list, list)
+        .wrapping_add(parted(columns.results, results))
+        .wrapping_add(parted(columns.track, track));
     judged(was, flat, columns.answer, apart)
 }
 
@@ -382,10 +370,8 @@ fn five(
     was: Tally,
 ) -> Tally {
     let mut now = was;
-    let mut k: usize = 0;
-    while k < 5 {
+    for _ in 0..5 {
         now = correct_both(inverse, s, list, results, track, now);
-        k += 1;
     }
     now
 }
@@ -394,16 +380,14 @@ fn five(
 fn run(k: usize, was: Tally) -> Tally {
     let inverse = k / 8 % 2 == 1;
     let mut s = [0u8; 280];
-    put_sheet(&mut s, k % 4, k / 4 % 2 == 1);
+    put_sheet(&mut s, mode_of(k), k / 4 % 2 == 1);
     let mut list = [0.0; 288];
     let mut results = [1.0; 288];
     let mut track = [1.0; 288];
     fill(&mut list, was.seed, k / 16 % 2 == 1);
     let mut now = was;
-    now.parted = plus(
-        was.parted,
-        keep_both(inverse, &s, &list, &mut results, &mut track),
-    );
+    let apart = keep_both(inverse, &s, &list, &mut results, &mut track);
+    now.parted = was.parted.wrapping_add(apart);
     five(inverse, &s, &mut list, &mut results, &mut track, now)
 }
 
@@ -415,10 +399,8 @@ fn runs() -> Tally {
         redone: 0,
         parted: 0,
     };
-    let mut k: usize = 0;
-    while k < 320 {
+    for k in 0..320 {
         now = run(k, now);
-        k += 1;
     }
     now
 }

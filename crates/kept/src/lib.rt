@@ -17,7 +17,7 @@
 ghost use Rattle.std.specs.Prelude.{◌≡◌, []};
 ghost use Rattle.sheet.specs.Rules.{first_broken};
 ghost use Rattle.stretch.specs.Kept.{kept_of};
-ghost use Rattle.kept.specs.Entries.{refusal12, refusal13, refusal14, order_by, kept_order, keep_refusal_of, keep_of, step_shift_of, outcome, correct_of};
+ghost use Rattle.kept.specs.Entries.{refusal12, refusal13, refusal14, order_by, kept_order, keep_refusal_of, shift_in, reversed_in, keep_of, step_shift_of, outcome, correct_of};
 ghost use Rattle.helmert.specs.Modes.{prepare_of};
 ghost use Rattle.helmert.specs.Record.{zero_helmert};
 
@@ -42,10 +42,9 @@ fn step_shift(step: Step) -> Shift
     match step {
         Step::Helmert(h) => helmert::prepare(h),
         Step::Badekas(r) => badekas::prepare(r),
-        Step::Cart(_) => no_shift(),
-        Step::Molodensky(_) => no_shift(),
-        Step::Permtide(_) => no_shift(),
-        Step::Deformation(_) => no_shift(),
+        Step::Cart(_) | Step::Molodensky(_) | Step::Permtide(_) | Step::Deformation(_) => {
+            no_shift()
+        }
     }
 }
 
@@ -55,6 +54,24 @@ pub fn shift_of(entry: Entry) -> Shift
 {
     let step = entry.step;
     step_shift(step)
+}
+
+// The shift of a sheet's first step, and the direction that it runs in.
+#[derive(Clone, Copy)]
+pub struct Ready {
+    pub shift: Shift,
+    pub reversed: bool,
+}
+
+pub fn step_in(inverse: bool, s: &[u8]) -> Ready
+    ensures { (result.shift ≡ shift_in s.now) × (result.reversed ≡ reversed_in inverse s.now) }
+{
+    let entry = sheet::entry_at(s, 0);
+    let reversed = chain::reversed(inverse, entry); // turned round where the step is inverted
+    Ready {
+        shift: shift_of(entry),
+        reversed: reversed,
+    }
 }
 
 // ----- the rules -----------------------------------------------------------------------------
@@ -128,14 +145,8 @@ pub fn keep(
     if refusal.number != 0 {
         return refusal;
     }
-    let entry = sheet::entry_at(s, 0);
-    stretch_flat::fresh(
-        shift_of(entry),
-        chain::reversed(inverse, entry), // turned round where the step is inverted
-        list,
-        results,
-        track,
-    );
+    let step = step_in(inverse, s);
+    stretch_flat::fresh(step.shift, step.reversed, list, results, track);
     refusal
 }
 
@@ -174,16 +185,8 @@ pub fn correct(
             redone: 0,
         };
     }
-    let entry = sheet::entry_at(s, 0);
-    let n = stretch_flat::put_right(
-        shift_of(entry),
-        chain::reversed(inverse, entry),
-        list,
-        results,
-        track,
-        index,
-        fix,
-    );
+    let step = step_in(inverse, s);
+    let n = stretch_flat::put_right(step.shift, step.reversed, list, results, track, index, fix);
     Corrected {
         refusal: refusal,
         redone: n as u64,

@@ -8,8 +8,9 @@
 //
 // No rounding but the step's own. Proved for all input: what is answered and left is what
 // specs/Columns.antt says, column by column; and for columns of one length it is the old answer on
-// the converted lists (proofs/Columns.antt), so what is promised of `kept` holds here. Used by the
-// display's calls.
+// the converted lists (proofs/Columns.antt), so what is promised of `kept` holds here. The four columns
+// stay four parameters: a struct of lent columns needs a clause a column that it is the same one, and
+// is no plainer. Used by the display's calls.
 #![tactic(auto)]
 
 ghost use Rattle.std.specs.Prelude.{◌≡◌, ◌||◌, []};
@@ -17,10 +18,9 @@ ghost use Rattle.columns.specs.Columns.{columns};
 ghost use Rattle.sheet.specs.Rules.{first_broken};
 ghost use Rattle.chain.specs.Columns.{refusal9_columns};
 ghost use Rattle.stretch.specs.KeptColumns.{kept_columns};
-ghost use Rattle.kept.specs.Entries.{order_by, shift_in, reversed_in};
+ghost use Rattle.kept.specs.Entries.{order_by};
 ghost use Rattle.kept_columns.specs.Columns.{uneven, keep_columns_refusal_of, keep_columns_of, columns_outcome, correct_columns_of};
 
-use helmert::Shift;
 use kept::Corrected;
 use sheet::Refusal;
 use tuple::Tuple;
@@ -56,24 +56,8 @@ fn check_lengths(
     kept::check_order(s, nine, results | track)
 }
 
-// The shift of the sheet's step, and the direction that it runs in.
-#[derive(Clone, Copy)]
-struct Ready {
-    shift: Shift,
-    reversed: bool,
-}
-
-fn step_in(inverse: bool, s: &[u8]) -> Ready
-    ensures { (result.shift ≡ shift_in s.now) × (result.reversed ≡ reversed_in inverse s.now) }
-{
-    let entry = sheet::entry_at(s, 0);
-    let reversed = chain::reversed(inverse, entry);
-    let shift = kept::shift_of(entry);
-    Ready {
-        shift: shift,
-        reversed: reversed,
-    }
-}
+// Both entries stand beside `kept`'s: the rules and the step are `kept`'s own, and what is left here
+// is to lend twelve columns, which no generic function takes more plainly.
 
 // A fresh kept run over columns: reads the list's, writes those of the results and of the track.
 pub fn keep(
@@ -120,11 +104,10 @@ pub fn keep(
     if refusal.number != 0 {
         return refusal;
     }
-    let step = step_in(inverse, s);
-    let shift = step.shift;
+    let step = kept::step_in(inverse, s);
     stretch_columns::fresh(
-        step.reversed,
-        shift,
+        step.reversed, // the fresh run's direction
+        step.shift,
         x,
         y,
         z,
@@ -195,11 +178,10 @@ pub fn correct(
             redone: 0,
         };
     }
-    let step = step_in(inverse, s);
-    let shift = step.shift;
+    let step = kept::step_in(inverse, s);
     let n = stretch_columns::put_right(
         step.reversed,
-        shift,
+        step.shift,
         x,
         y,
         z,

@@ -1,19 +1,17 @@
--- Rows of columns as fixes of the flat list that the columns stand for; and what a fresh run and a
--- correction tell of it, by the laws of the flat lists. Assumes nothing.
+-- What a fresh run and a correction over columns tell, by the laws of the flat lists that the columns
+-- stand for. Assumes nothing.
 use Prim.Native.Nat.{ℕ, ◌+◌, ◌*◌, ◌-◌, ◌≤◌, ◌<◌}
 use native.Mathlib.Omega.{arith}
 use mathlib.Core.Path.{◌≡◌, refl, sym, ap, ◌∙◌}
 use mathlib.Core.Bool.{Bool, true, false, cond}
 use mathlib.Core.List.{List, [], ◌∷◌}
 use lib.Dec.{eqb}
-use lib.ListN.{length, drop, length-drop}
-use lib.Seq.{take_all, length-take-le}
+use lib.ListN.{length}
 use lib.Ieee.{Float}
 use borrow.Author.Tests.{eq-eqb, ne_eqb, eqb-true, eqb-false}
 use Rattle.tuple.specs.declared.Tuple.{Tuple}
 use Rattle.helmert.specs.Modes.{start_of}
-use Rattle.lists.specs.Flat.{tuple_at, put_at}
-use Rattle.lists.proofs.Results.{tuple_beyond}
+use Rattle.lists.specs.Flat.{put_at}
 use Rattle.columns.proofs.Laws.{flat-length}
 use Rattle.sheet.specs.declared.Refusal.{Refusal}
 use Rattle.sheet.specs.Rules.{rule, of_call, first_broken, refusal_of}
@@ -21,7 +19,7 @@ use Rattle.tally.specs.declared.Tally.{Tally}
 use Rattle.tally.specs.Tallies.{no_tally}
 use Rattle.plans.specs.Passes.{tally_of}
 use Rattle.stretch.specs.Kept.{before_of}
-use Rattle.stretch.specs.KeptColumns.{KeptColumns, flat_list_of, flat_kept_of, kept_columns_of, AllLevel}
+use Rattle.stretch.specs.KeptColumns.{KeptColumns, flat_list_of, flat_kept_of, kept_columns_of, LevelColumns, AllLevel}
 use Rattle.kept.specs.declared.Corrected.{Corrected}
 use Rattle.kept.specs.Entries.{refusal12, refusal14, shift_in, reversed_in, keep_refusal_of, CorrectOutcome, outcome, corrected_as, correct_of}
 use Rattle.kept.proofs.Answers.{passed, first_stays}
@@ -29,26 +27,8 @@ use Rattle.kept_columns.specs.Columns.{list_uneven, kept_uneven, keep_columns_re
 use Rattle.kept_columns.proofs.Columns.{keep-refused-alike, passes-level, the-correction-gives-the-old-answer, the-correction-leaves-the-old-lists}
 use Rattle.kept_reach.specs.Reach.{fixes_from, met_from, stretch_met_of, time_pass}
 use Rattle.kept_reach.proofs.Along.{by-times}
-use Rattle.kept_reach.proofs.Stretch.{tuple_in_front, refused-met, stretch-fits, stretch-small, stretch-met}
+use Rattle.kept_reach.proofs.Stretch.{refused-met, stretch-fits, stretch-met}
 use Rattle.kept_columns_reach.specs.Reach.{keep_columns_tally_of, stretch_columns_met_of}
-
--- ---- rows
-
-module _ (l : List Float) (first n : ℕ) (h : 4 * (first + n) ≤ length l) where
-  left : length (drop (4 * first) l) ≡ length l - 4 * first
-  left = length-drop (4 * first) l
-
-  pub part_length : length (fixes_from l first n) ≡ 4 * n
-  part_length = length-take-le (4 * n) (drop (4 * first) l) (rw left (omega (arith, h)))
-
-  pub row-in-part : (i : ℕ) → i < n → tuple_at l (4 * (first + i)) ≡ tuple_at (fixes_from l first n) (4 * i)
-  row-in-part i k =
-      let place : 4 * (first + i) ≡ 4 * first + 4 * i = omega arith in
-      rw place (sym (tuple_in_front (drop (4 * first) l) (4 * n) (4 * i) (omega (arith, k)) (rw left (omega (arith, h))) ∙ tuple_beyond l (4 * first) (4 * i)))
-
--- all rows
-pub whole_part : (l : List Float) (n : ℕ) → length l ≡ 4 * n → fixes_from l 0 n ≡ l
-whole_part l n e = take_all (4 * n) l (omega (arith, e))
 
 -- ---- a fresh run
 
@@ -61,23 +41,11 @@ module _ (inverse : Bool) (s : List ℕ) (old : KeptColumns) where
     level : AllLevel old
     level = passes-level s old h
 
-    pub list_length : length (flat_list_of old.list) ≡ 4 * length old.list.x
-    list_length = flat-length _ _ _ _ level.0
-
-    pub few-rows : length old.list.x ≤ 2048
-    unfolding keep_refusal_of
-    few-rows =
-        let none = ap (λ (r : Refusal). r.number) (sym (keep-refused-alike old level s)) ∙ h in
-        let p = passed s _ _ _ none in
-        omega (arith, p.few, list_length)
-
-    pub columns-tally : {tally : Tally} → tally ≡ tally_of (time_pass (shift_in s)) 0 (start_of (shift_in s)) (fixes_from (flat_list_of old.list) 0 (length old.list.x))
+    pub columns-tally : {tally : Tally} → tally ≡ tally_of (time_pass (shift_in s)) 0 (start_of (shift_in s)) (flat_list_of old.list)
         → tally ≡ keep_columns_tally_of inverse s old
     unfolding keep_columns_tally_of
     columns-tally e =
-        rw (eq-eqb _ _ h)
-        (e ∙ ap (tally_of (time_pass (shift_in s)) 0 (start_of (shift_in s))) (whole_part _ (length old.list.x) list_length)
-        ∙ by-times (reversed_in inverse s) (shift_in s) 0 0 (start_of (shift_in s)) (flat_list_of old.list))
+        rw (eq-eqb _ _ h) (e ∙ by-times (reversed_in inverse s) (shift_in s) 0 0 (start_of (shift_in s)) (flat_list_of old.list))
 
 -- ---- a correction
 
@@ -148,17 +116,22 @@ module _ (inverse : Bool) (s : List ℕ) (old : KeptColumns) (index : ℕ) (fix 
       told : outcome done (flat_kept_of new) ≡ correct_of inverse s (flat_kept_of old) index fix
       told = λ i. outcome (answer-is i) (kept-is i)
 
-      -- the stretch lies in the list
-      pub rows_fit : 4 * (index + done.redone) ≤ length (flat_list_of new.list)
-      rows_fit = stretch-fits inverse s (flat_kept_of old) index fix told h
+      pub list_level : LevelColumns old.list
+      list_level = even.0
 
-      pub rows-small : index + done.redone ≤ 2048
-      rows-small = let few = stretch-small inverse s (flat_kept_of old) index fix told h in omega (arith, few)
+      -- the columns are of one length after the call too
+      module _ (level : LevelColumns new.list) where
+        -- the stretch lies in the columns
+        pub rows_fit : index + done.redone ≤ length new.list.x
+        rows_fit =
+            let fits : 4 * (index + done.redone) ≤ length (flat_list_of new.list) = stretch-fits inverse s (flat_kept_of old) index fix told h in
+            let long = flat-length _ _ _ _ level in
+            omega (arith, fits, long)
 
-      -- what the pass finds in the stretch
-      pub columns-met : {n : ℕ} → n ≡ (tally_of (time_pass (shift_in s)) 0 (before_of (shift_in s) (flat_list_of new.track) index) (fixes_from (flat_list_of new.list) index done.redone)).met
-          → n ≡ stretch_columns_met_of inverse s old index fix
-      columns-met en =
-          let size : 4 * (index + done.redone) - 4 * index ≡ 4 * done.redone = omega arith in
-          stretch-met inverse s (flat_kept_of old) index fix told h (rw size en)
-          ∙ same_number (ap (λ (c : Corrected). c.redone) (the-correction-gives-the-old-answer inverse s old even index fix))
+        -- what the pass finds in the stretch
+        pub columns-met : {n : ℕ} → n ≡ (tally_of (time_pass (shift_in s)) 0 (before_of (shift_in s) (flat_list_of new.track) index) (fixes_from (flat_list_of new.list) index done.redone)).met
+            → n ≡ stretch_columns_met_of inverse s old index fix
+        columns-met en =
+            let size : 4 * (index + done.redone) - 4 * index ≡ 4 * done.redone = omega arith in
+            stretch-met inverse s (flat_kept_of old) index fix told h (rw size en)
+            ∙ same_number (ap (λ (c : Corrected). c.redone) (the-correction-gives-the-old-answer inverse s old even index fix))

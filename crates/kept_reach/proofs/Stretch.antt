@@ -126,7 +126,7 @@ module _ (inverse : Bool) (s : List ℕ) (old : Kept) (index : ℕ) (fix : Tuple
       pub stretch-small : 4 * (index + done.redone) ≤ 8192
       stretch-small = omega (arith, within, redone-is, lists.few)
 
-      pub track-reaches : 4 * index ≤ length new.track
+      track-reaches : 4 * index ≤ length new.track
       track-reaches = omega (arith, there, ap (λ (k : Kept). length k.track) kept-is, track-left.long, lists.long-track)
 
       pub list-is : new.list ≡ put_at old.list (4 * index) fix

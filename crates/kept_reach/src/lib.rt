@@ -10,9 +10,9 @@
 // Used by the entries that C and Rust call.
 #![tactic(auto)]
 
-ghost use Rattle.std.specs.Prelude.{◌≡◌, ◌*◌, ◌≤◌, length};
+ghost use Rattle.std.specs.Prelude.{◌≡◌};
 ghost use Rattle.plans.specs.Passes.{tally_of};
-ghost use Rattle.stretch.specs.Kept.{kept_of, before_of};
+ghost use Rattle.stretch.specs.Kept.{kept_of};
 ghost use Rattle.kept.specs.Entries.{keep_refusal_of, keep_of, outcome, correct_of};
 ghost use Rattle.kept_reach.specs.Reach.{keep_tally_of, stretch_met_of, time_pass};
 
@@ -20,45 +20,30 @@ use blocks::one_if;
 use helmert::{Shift, State};
 use kept::Corrected;
 use sheet::Refusal;
+use stretch::{FlatRows, Rows};
 use tally::Tally;
 use tuple::Tuple;
 
 // ----- a pass over a list ------------------------------------------------------------------------
 
 // How many fixes of a list the step counts, and how many meet an angle out of reach, from the state
-// that its first fix is met in. The list is read, and no sine is taken.
-fn pass(shift: Shift, from: State, list: &[f64]) -> Tally
-    ensures { result ≡ tally_of (time_pass shift) 0 from list.now }
+// that its first fix is met in. The list is read, flat or in columns, and no sine is taken.
+pub fn pass<R: Rows>(shift: Shift, from: State, list: &R) -> Tally
+    ensures { result ≡ tally_of (time_pass shift) 0 from (R.flat list.now) }
 {
     let mut state = from;
     let mut count = 0;
     let mut met = 0;
-    let mut i = 0;
-    while 4 <= list.len() - i {
-        let v = lists::read4(list, i);
+    for i in 0..list.len() {
+        let v = list.row(i);
         count += one_if(helmert::counted(shift, v));
         met += one_if(reach::helmert_met(shift, state, v));
         state = stretch::moved(shift, state, v.t);
-        i += 4;
     }
     Tally {
         count: count,
         met: met,
     }
-}
-
-// The state before an index: in running mode what the track holds there.
-fn before(shift: Shift, track: &[f64], index: usize) -> State
-    requires { 4 * index ≤ length track.now }
-    ensures { result ≡ before_of shift track.now index }
-{
-    if index == 0 {
-        return helmert::start(shift);
-    }
-    if helmert::is_running(shift) {
-        return stretch::held(lists::read4(track, 4 * (index - 1)));
-    }
-    helmert::start(shift)
 }
 
 // ----- the entries -------------------------------------------------------------------------------
@@ -91,10 +76,9 @@ pub fn keep_reach(
             tally: none,
         };
     }
-    let entry = sheet::entry_at(s, 0);
-    let shift = kept::shift_of(entry);
+    let shift = kept::step_in(inverse, s).shift;
     let start = helmert::start(shift);
-    let tally = pass(shift, start, list);
+    let tally = pass(shift, start, &FlatRows { list: list });
     KeptTally {
         refusal: refusal,
         tally: tally,
@@ -130,12 +114,12 @@ pub fn correct_reach(
             met: 0, // a refused call redoes nothing
         };
     }
-    let entry = sheet::entry_at(s, 0);
-    let shift = kept::shift_of(entry);
-    let from = before(shift, track, index);
+    let shift = kept::step_in(inverse, s).shift;
+    let from = stretch::before(shift, &FlatRows { list: track }, index);
     let a = 4 * index;
     let e = 4 * (index + corrected.redone as usize); // the stretch, and no more
-    let told = pass(shift, from, &list[a..e]);
+    let redone = FlatRows { list: &list[a..e] };
+    let told = pass(shift, from, &redone);
     CorrectedReach {
         corrected: corrected,
         met: told.met as u64,

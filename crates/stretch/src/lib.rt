@@ -9,6 +9,9 @@
 // specs/KeptColumns.antt the same lists as columns. Here stand the states as data, by which a
 // correction compares: every NaN is every other, and zeros differ by sign.
 //
+// What reads a list row by row, as the state before an index is read, is generic over `Rows`, which
+// flat lists and columns are.
+//
 // Nothing is rounded here. Proved for every shift, direction, list, index and fix
 // (proofs/Laws.antt): a run in which a fix is corrected equals, in every bit, a fresh run of the
 // list as it stands; the count is the stretch's length, one where the mode is not running; nothing
@@ -16,9 +19,11 @@
 // keeps and corrects over columns, and by `stretch_flat`, which does so for flat lists.
 #![tactic(auto)]
 
-ghost use Rattle.std.specs.Prelude.{◌≡◌};
+ghost use Rattle.std.specs.Prelude.{◌≡◌, ◌*◌, ◌/◌, List, Float, length};
+ghost use Rattle.columns.specs.Columns.{flat_of};
+ghost use Rattle.lists.specs.Flat.{tuple_at};
 ghost use Rattle.stretch.specs.Same.{alike_number_of, alike_of};
-ghost use Rattle.stretch.specs.Kept.{tracked_of, held_of};
+ghost use Rattle.stretch.specs.Kept.{tracked_of, held_of, before_of};
 ghost use Rattle.stretch.specs.Track.{moved_of};
 ghost use Rattle.stretch.specs.Rows.{of_rows_of};
 
@@ -42,7 +47,8 @@ pub fn alike(v: Tuple, w: Tuple) -> bool
         & (alike_number(v.y, w.y) & (alike_number(v.z, w.z) & alike_number(v.t, w.t)))
 }
 
-// A state as the track holds it.
+// A state as the track holds it. Not `From`: state and tuple are other crates' types, and Rust has
+// no impl of another crate's trait for them here.
 pub fn tracked(state: State) -> Tuple
     ensures { result ≡ tracked_of state }
 {
@@ -76,6 +82,81 @@ pub fn moved(shift: Shift, state: State, time: f64) -> State
         return helmert::next(shift, state, time);
     }
     state
+}
+
+// ----- rows, flat or in columns ------------------------------------------------------------
+
+// A list of tuples to be read row by row, however its numbers lie: what is said of one holds for
+// flat lists and for columns.
+pub trait Rows {
+    // The flat list that it is or stands for.
+    ghost flat: { Self → List Float };
+
+    // How many rows it has.
+    fn len(&self) -> usize
+        ensures { result ≡ length (flat self.now) / 4 };
+
+    // The tuple at an index; four NaNs where no row stands there.
+    fn row(&self, i: usize) -> Tuple
+        ensures { result ≡ tuple_at (flat self.now) (4 * i) };
+}
+
+// Four numbers a tuple, in one list.
+#[derive(Clone, Copy)]
+pub struct FlatRows<'a> {
+    pub list: &'a [f64],
+}
+
+impl<'a> Rows for FlatRows<'a> {
+    ghost flat = { λ r. r.list.now };
+
+    fn len(&self) -> usize {
+        self.list.len() / 4
+    }
+
+    fn row(&self, i: usize) -> Tuple {
+        if i < self.list.len() / 4 {
+            lists::read4(self.list, 4 * i)
+        } else {
+            Tuple::nan()
+        }
+    }
+}
+
+// Four columns; where they are not of one length they have no row.
+#[derive(Clone, Copy)]
+pub struct ColumnRows<'a> {
+    pub x: &'a [f64],
+    pub y: &'a [f64],
+    pub z: &'a [f64],
+    pub t: &'a [f64],
+}
+
+impl<'a> Rows for ColumnRows<'a> {
+    ghost flat = { λ r. flat_of r.x.now r.y.now r.z.now r.t.now };
+
+    fn len(&self) -> usize {
+        if columns::level(self.x, self.y, self.z, self.t) {
+            self.x.len()
+        } else {
+            0
+        }
+    }
+
+    fn row(&self, i: usize) -> Tuple {
+        columns::read_row(self.x, self.y, self.z, self.t, i)
+    }
+}
+
+// The state before an index of a kept list, by its track: in running mode what stands before the
+// index, at index 0 and in any other mode the state that the run starts from.
+pub fn before<R: Rows>(shift: Shift, track: &R, index: usize) -> State
+    ensures { result ≡ before_of shift (R.flat track.now) index }
+{
+    if (index == 0) | !helmert::is_running(shift) {
+        return helmert::start(shift);
+    }
+    held(track.row(index - 1))
 }
 
 // ----- what is lent -------------------------------------------------------------------------

@@ -10,8 +10,9 @@
 //
 // No rounding but the step's own. Proved for all input: what is left is what the words define, column
 // by column (`fresh_columns_of`, `put_right_columns_of`; stretch, specs/KeptColumns.antt). Where the
-// twelve columns are not of one length, or no fix stands at the index, nothing is written. Used by
-// `kept_columns`.
+// twelve columns are not of one length, or no fix stands at the index, nothing is written. The four
+// columns stay four parameters: a struct of lent columns needs a clause a column that it is the same
+// one, and is no plainer. Used by `kept_columns`.
 #![tactic(auto)]
 
 ghost use Rattle.std.specs.Prelude.{◌≡◌, ◌&&◌, ◌++◌, ◌+◌, ◌*◌, ◌≤◌, length, take, drop};
@@ -22,6 +23,7 @@ ghost use Rattle.stretch.specs.Rows.{of_rows_of};
 ghost use Rattle.stretch.specs.KeptColumns.{kept_columns, fresh_columns_of, redone_columns, put_right_columns_of};
 
 use helmert::{Shift, State};
+use stretch::ColumnRows;
 use tuple::Tuple;
 
 // Whether twelve columns, by their lengths, are of one length.
@@ -110,19 +112,6 @@ pub fn fresh(
 
 // ----- a correction ---------------------------------------------------------------------------
 
-// The state before an index.
-fn before(shift: Shift, kx: &[f64], ky: &[f64], kz: &[f64], kt: &[f64], index: usize) -> State
-    ensures { result ≡ before_of shift (flat_of kx.now ky.now kz.now kt.now) index }
-{
-    if index == 0 {
-        return helmert::start(shift);
-    }
-    if helmert::is_running(shift) {
-        return stretch::held(columns::read_row(kx, ky, kz, kt, index - 1));
-    }
-    helmert::start(shift)
-}
-
 // Where a stretch starts: the state before its first fix; and its length.
 #[derive(Clone, Copy)]
 struct Stretch {
@@ -148,7 +137,13 @@ fn track_stretch(
         × (index + result.count ≤ length t.now)
         × (result.from ≡ before_of shift (flat_of kx.old ky.old kz.old kt.old) index) }
 {
-    let from = before(shift, kx, ky, kz, kt, index);
+    let kept = ColumnRows {
+        x: kx,
+        y: ky,
+        z: kz,
+        t: kt,
+    };
+    let from = stretch::before(shift, &kept, index);
     let again = stretch_track::track_again(
         shift,
         from,

@@ -3,7 +3,7 @@
 use Prim.Native.Nat.{ℕ, ◌+◌, ◌-◌, ◌*◌, ◌≤◌}
 use native.Mathlib.Omega.{arith}
 use mathlib.Core.Bool.{Bool}
-use mathlib.Core.Path.{◌≡◌, refl, sym, ap, ◌∙◌}
+use mathlib.Core.Path.{◌≡◌, refl, sym, ap, subst, ◌∙◌}
 use mathlib.Core.List.{List, ◌++◌, append_assoc, append-nil}
 use lib.ListN.{length, take, drop, length-drop, take-append-drop, drop_of_length-le}
 use lib.Seq.{take_all, drop-drop, length-take-le}
@@ -26,13 +26,13 @@ pub shifting_start : (shift : Shift) (inverse : Bool) (from : State) (l rs : Lis
 shifting_start shift inverse from l rs e = record { within = omega arith; long = e; are = refl }
 
 module _ {shift : Shift} {inverse : Bool} {from state : State} {l rs : List Float} {i : ℕ} (now : Shifting shift inverse from l i state rs) where
-  pub shifting-on : (w : ℕ) (p : List Float) {rs' : List Float} {next : State} → 4 * (i + w) ≤ length l
+  pub shifting-on : (w : ℕ) {j : ℕ} → i + w ≡ j → (p : List Float) {rs' : List Float} {next : State} → 4 * (i + w) ≤ length l
       → length p ≡ length (take (4 * i + 4 * w - 4 * i) (drop (4 * i) rs))
       → p ≡ ran_of (helmert_turns inverse shift) 0 state (take (4 * i + 4 * w - 4 * i) (drop (4 * i) l))
       → next ≡ state_after_of (helmert_turns inverse shift) 0 state (take (4 * i + 4 * w - 4 * i) (drop (4 * i) l))
       → rs' ≡ take (4 * i) rs ++ (p ++ drop (4 * i + 4 * w - 4 * i) (drop (4 * i) rs)) → length rs' ≡ length rs
-      → Shifting shift inverse from l (i + w) next rs'
-  shifting-on w p {rs'} {next} h lp ep en er long =
+      → Shifting shift inverse from l j next rs'
+  shifting-on w ej p {rs'} {next} h lp ep en er long =
       let f = helmert_turns inverse shift in
       let rest = drop (4 * i) l in
       let a = take (4 * w) rest in
@@ -45,7 +45,7 @@ module _ {shift : Shift} {inverse : Bool} {from state : State} {l rs : List Floa
       let made : p ≡ ran_of f 0 state a = ep ∙ ap (ran_of f 0 state) (window-is l i w) in
       let after : next ≡ state_after_of f 0 state a = en ∙ ap (state_after_of f 0 state) (window-is l i w) in
       let head : take (4 * (i + w)) rs' ≡ take (4 * i) rs ++ p = ap (take (4 * (i + w))) er ∙ window-put rs i w p (omega (arith, now.long, now.within)) long-p in
-      record {
+      subst (λ (k : ℕ). Shifting shift inverse from l k next rs') ej record {
         within = h;
         long = long ∙ now.long;
         are =

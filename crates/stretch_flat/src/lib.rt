@@ -11,40 +11,15 @@
 // or no fix stands at the index, nothing is written. Used by `kept`.
 #![tactic(auto)]
 
-ghost use Rattle.std.specs.Prelude.{◌≡◌, ◌+◌, ◌*◌, ◌%◌, ◌≤◌, ◌<◌, length};
+ghost use Rattle.std.specs.Prelude.{◌≡◌, ◌+◌, ◌*◌, ◌%◌, ◌≤◌, length};
 ghost use Rattle.columns.specs.Columns.{Level};
 ghost use Rattle.lists.specs.Run.{ran_of, state_after_of};
 ghost use Rattle.helmert.specs.Turns.{helmert_turns};
-ghost use Rattle.stretch.specs.Kept.{kept_of, fresh_of, redone_of, redo_of, before_of, corrected_of, fit_of, fresh_run_of, put_right_of};
+ghost use Rattle.stretch.specs.Kept.{kept_of, fresh_of, redone_of, redo_of, corrected_of, fit_of, fresh_run_of, put_right_of};
 
 use helmert::{Shift, State};
+use stretch::FlatRows;
 use tuple::Tuple;
-
-// ----- rooms ----------------------------------------------------------------------------------
-
-// How many fixes the next window has, of those that are left.
-fn window(left: usize, most: usize) -> usize
-    requires { (0 < left) × (0 < most) }
-    ensures { (0 < result) × (result ≤ left) × (result ≤ most) }
-{
-    if left < most {
-        return left;
-    }
-    most
-}
-
-// A column's room.
-fn room_of_four() -> [f64; 4]
-    ensures { length result ≡ 4 }
-{
-    [0.0; 4]
-}
-
-fn room_of_64() -> [f64; 64]
-    ensures { length result ≡ 64 }
-{
-    [0.0; 64]
-}
 
 // ----- the results ----------------------------------------------------------------------------
 
@@ -72,18 +47,22 @@ fn shift_window(
     state // handed on to the next window
 }
 
-// A window's results through a room of four rows, and of 64, of which it takes as many as the window
-// has. A room is zeroed when it is made, so a short window takes the small one. Gives the state
-// after the window.
-fn shift_few(inverse: bool, shift: Shift, from: State, list: &[f64], results: &mut [f64]) -> State
-    requires { (length list.now % 4 ≡ 0) × (length list.now ≤ 16) × (length results.old ≡ length list.now) }
+// A window's results through a room of N rows, of which it takes as many as the window has.
+fn shift_room<const N: usize>(
+    inverse: bool,
+    shift: Shift,
+    from: State,
+    list: &[f64],
+    results: &mut [f64],
+) -> State
+    requires { (length list.now % 4 ≡ 0) × (length list.now ≤ 4 * N) × (N ≤ 64) × (length results.old ≡ length list.now) }
     ensures { (results.new ≡ ran_of (helmert_turns inverse shift) 0 from list.now)
         × (result ≡ state_after_of (helmert_turns inverse shift) 0 from list.now) }
 {
-    let mut x = room_of_four();
-    let mut y = room_of_four();
-    let mut z = room_of_four();
-    let mut t = room_of_four();
+    let mut x = [0.0; N];
+    let mut y = [0.0; N];
+    let mut z = [0.0; N];
+    let mut t = [0.0; N];
     let n = list.len() / 4; // as many rows as fixes
     shift_window(
         inverse,
@@ -98,38 +77,16 @@ fn shift_few(inverse: bool, shift: Shift, from: State, list: &[f64], results: &m
     )
 }
 
-fn shift_many(inverse: bool, shift: Shift, from: State, list: &[f64], results: &mut [f64]) -> State
-    requires { (length list.now % 4 ≡ 0) × (length list.now ≤ 256) × (length results.old ≡ length list.now) }
-    ensures { (results.new ≡ ran_of (helmert_turns inverse shift) 0 from list.now)
-        × (result ≡ state_after_of (helmert_turns inverse shift) 0 from list.now) }
-{
-    let mut x = room_of_64();
-    let mut y = room_of_64();
-    let mut z = room_of_64();
-    let mut t = room_of_64();
-    let n = list.len() / 4;
-    shift_window(
-        inverse,
-        shift,
-        from,
-        list,
-        results,
-        &mut x[..n],
-        &mut y[..n],
-        &mut z[..n],
-        &mut t[..n],
-    )
-}
-
+// A room is zeroed when it is made, so a short window takes one of four rows.
 fn shift_part(inverse: bool, shift: Shift, from: State, list: &[f64], results: &mut [f64]) -> State
     requires { (length list.now % 4 ≡ 0) × (length list.now ≤ 256) × (length results.old ≡ length list.now) }
     ensures { (results.new ≡ ran_of (helmert_turns inverse shift) 0 from list.now)
         × (result ≡ state_after_of (helmert_turns inverse shift) 0 from list.now) }
 {
     if list.len() <= 16 {
-        return shift_few(inverse, shift, from, list, results);
+        return shift_room::<4>(inverse, shift, from, list, results);
     }
-    shift_many(inverse, shift, from, list, results)
+    shift_room::<64>(inverse, shift, from, list, results)
 }
 
 // The list's results from a state on, window after window.
@@ -139,13 +96,11 @@ fn shift_list(inverse: bool, shift: Shift, from: State, list: &[f64], results: &
 {
     let count = list.len() / 4;
     let mut state = from;
-    let mut i = 0;
-    while i < count {
-        let w = window(count - i, 64);
+    for i in (0..count).step_by(64) {
+        let w = (count - i).min(64); // as many fixes as are left
         let a = 4 * i; // the window of results
         let e = a + 4 * w;
         state = shift_part(inverse, shift, state, &list[a..e], &mut results[a..e]);
-        i += w;
     }
 }
 
@@ -179,20 +134,6 @@ pub fn fresh(shift: Shift, inverse: bool, list: &[f64], results: &mut [f64], tra
 }
 
 // ----- a correction ---------------------------------------------------------------------------
-
-// The state before an index.
-fn before(shift: Shift, track: &[f64], index: usize) -> State
-    requires { 4 * index ≤ length track.now }
-    ensures { result ≡ before_of shift track.now index }
-{
-    if index == 0 {
-        return helmert::start(shift);
-    }
-    if helmert::is_running(shift) {
-        return stretch::held(lists::read4(track, 4 * (index - 1)));
-    }
-    helmert::start(shift)
-}
 
 // Redoes from an index on until the states meet: first the track, which tells how far, then the
 // results of as many fixes.
@@ -231,7 +172,7 @@ fn put_and_redo(
         ≡ corrected_of shift inverse (kept_of list.old results.old track.old) index fix }
 {
     lists::write4(list, 4 * index, fix);
-    let from = before(shift, track, index);
+    let from = stretch::before(shift, &FlatRows { list: track }, index);
     redo(shift, inverse, list, results, track, index, from)
 }
 

@@ -2,7 +2,7 @@
 use Prim.Native.Nat.{ℕ, ◌+◌, ◌-◌, ◌*◌, ◌%◌, ◌≤◌}
 use native.Mathlib.Omega.{arith}
 use mathlib.Core.Bool.{Bool, true, false}
-use mathlib.Core.Path.{◌≡◌, sym, ap, ◌∙◌}
+use mathlib.Core.Path.{◌≡◌, sym, ap, subst, ◌∙◌}
 use mathlib.Core.List.{List, ◌++◌}
 use lib.ListN.{length, take, drop, length-drop, take-append-drop}
 use lib.Seq.{length-take-le}
@@ -30,9 +30,6 @@ module _ {shift : Shift} {from state : State} (l : List Float) {ts₀ ts : List 
   pub retracking-window-met : met ≡ true → retracked (i + n) true next ts' ≡ retrack_of shift from (times_of l) ts₀
   retracking-window-met = retracking-met now w fits window-told put
 
-  pub retracking-window : met ≡ false → Retracking shift from (times_of l) ts₀ (i + n) next ts'
-  retracking-window = retracking-on now w fits window-told put
-
   times_long : length (take w (drop i (times_of l))) ≡ w
   times_long = let d = length-drop i (times_of l) in length-take-le w (drop i (times_of l)) (omega (arith, d, fits))
 
@@ -42,15 +39,19 @@ module _ {shift : Shift} {from state : State} (l : List Float) {ts₀ ts : List 
       let long : length (take (4 * w) (drop (4 * i) ts)) ≡ 4 * w = length-take-le (4 * w) (drop (4 * i) ts) (omega (arith, d, now.long, fits)) in
       rewritten shift state (take w (drop i (times_of l))) (take (4 * w) (drop (4 * i) ts)) (omega (arith, times_long, long))
 
-  -- a window brings the loop on, by all of its fixes where the states do not meet
   pub window-few : n ≤ w
   window-few =
       let en = ap (λ (d : Retracked). d.count) window-told in
       omega (arith, en, window-rewritten.few, times_long)
 
-  pub window-all : met ≡ false → n ≡ w
+  window-all : met ≡ false → n ≡ w
   window-all m =
       ap (λ (d : Retracked). d.count) window-told ∙ window-rewritten.all (sym (ap (λ (d : Retracked). d.met) window-told) ∙ m) ∙ times_long
+
+  -- a window in which the states do not meet brings the loop on by all of its fixes
+  pub retracking-window : {j : ℕ} → i + w ≡ j → met ≡ false → Retracking shift from (times_of l) ts₀ j next ts'
+  retracking-window ej m =
+      subst (λ (k : ℕ). Retracking shift from (times_of l) ts₀ k next ts') (ap (λ (k : ℕ). i + k) (window-all m) ∙ ej) (retracking-on now w fits window-told put m)
 
 -- ---- what is put back of a window
 

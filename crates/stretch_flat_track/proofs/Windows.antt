@@ -2,7 +2,7 @@
 -- written so far. Assumes nothing.
 use Prim.Native.Nat.{ℕ, zero, suc, ◌+◌, ◌-◌, ◌*◌, ◌/◌, ◌%◌, ◌≤◌}
 use native.Mathlib.Omega.{arith}
-use mathlib.Core.Path.{◌≡◌, refl, sym, ap, ◌∙◌}
+use mathlib.Core.Path.{◌≡◌, refl, sym, ap, subst, ◌∙◌}
 use mathlib.Core.List.{List, [], ◌∷◌, ◌++◌, append_assoc}
 use lib.ListN.{length, take, drop, get_or, length-drop, length-append}
 use lib.Seq.{drop-drop, take_at, length-take-le}
@@ -96,18 +96,19 @@ time_there l i whole h =
 -- ---- the track, window after window
 
 module _ {shift : Shift} {from state : State} (l : List Float) {ts : List Float} {i : ℕ} (now : Tracking shift from (times_of l) i state ts) where
-  pub tracking-window : (w : ℕ) (p : List Float) {ts' : List Float} {next : State} → 4 * (i + w) ≤ length l
+  pub tracking-window : (w : ℕ) {j : ℕ} → i + w ≡ j → (p : List Float) {ts' : List Float} {next : State} → 4 * (i + w) ≤ length l
       → length p ≡ length (take (4 * i + 4 * w - 4 * i) (drop (4 * i) ts))
       → p ≡ tracks_of shift state (times_of (take (4 * i + 4 * w - 4 * i) (drop (4 * i) l)))
       → next ≡ moved_by_of shift state (times_of (take (4 * i + 4 * w - 4 * i) (drop (4 * i) l)))
       → ts' ≡ take (4 * i) ts ++ (p ++ drop (4 * i + 4 * w - 4 * i) (drop (4 * i) ts)) → length ts' ≡ length ts
-      → Tracking shift from (times_of l) (i + w) next ts'
-  tracking-window w p h lp ep en et long =
+      → Tracking shift from (times_of l) j next ts'
+  tracking-window w ej p {ts'} {next} h lp ep en et long =
       let c = column_length (λ (v : Tuple). v.t) l in
       let dt = length-drop (4 * i) ts in
       let fits : i + w ≤ length (times_of l) = omega (arith, c, h) in
       let long-p : length p ≡ 4 * w = lp ∙ ap length (window-is ts i w) ∙ length-take-le (4 * w) (drop (4 * i) ts) (omega (arith, dt, now.long, fits)) in
-      tracking-on now w fits
+      subst (λ (k : ℕ). Tracking shift from (times_of l) k next ts') ej
+      (tracking-on now w fits
       (ep ∙ ap (tracks_of shift state) (window_times l i w))
       (en ∙ ap (moved_by_of shift state) (window_times l i w))
-      (ap (take (4 * (i + w))) et ∙ window-put ts i w p (omega (arith, now.long, now.within)) long-p) long
+      (ap (take (4 * (i + w))) et ∙ window-put ts i w p (omega (arith, now.long, now.within)) long-p) long)

@@ -11,7 +11,7 @@
 // `stretch_flat`.
 #![tactic(auto)]
 
-ghost use Rattle.std.specs.Prelude.{◌≡◌, cond, ◌++◌, ◌*◌, ◌%◌, ◌≤◌, ◌<◌, length, take, drop};
+ghost use Rattle.std.specs.Prelude.{◌≡◌, cond, ◌++◌, ◌*◌, ◌%◌, ◌≤◌, length, take, drop};
 ghost use Rattle.tuple.specs.declared.Tuple.{Tuple};
 ghost use Rattle.columns.specs.Columns.{Level, flat_of, column_of};
 ghost use Rattle.stretch.specs.Kept.{as_long_of};
@@ -27,32 +27,6 @@ fn as_long(list: usize, track: usize) -> bool
     (list % 4 == 0) & (track == list)
 }
 
-// ----- rooms ----------------------------------------------------------------------------------
-
-// How many fixes the next window has, of those that are left.
-fn window(left: usize, most: usize) -> usize
-    requires { (0 < left) × (0 < most) }
-    ensures { (0 < result) × (result ≤ left) × (result ≤ most) }
-{
-    if left < most {
-        return left;
-    }
-    most
-}
-
-// A column's room.
-fn room_of_four() -> [f64; 4]
-    ensures { length result ≡ 4 }
-{
-    [0.0; 4]
-}
-
-fn room_of_64() -> [f64; 64]
-    ensures { length result ≡ 64 }
-{
-    [0.0; 64]
-}
-
 // ----- the track ------------------------------------------------------------------------------
 
 // The times of the fixes.
@@ -60,10 +34,8 @@ fn times(list: &[f64], t: &mut [f64])
     requires { length list.now ≡ 4 * length t.old }
     ensures { t.new ≡ column_of (λ (v : Tuple). v.t) list.now }
 {
-    let mut i = 0;
-    while i < t.len() {
+    for i in 0..t.len() {
         t[i] = list[4 * i + 3];
-        i += 1;
     }
 }
 
@@ -96,11 +68,11 @@ fn track_part(shift: Shift, from: State, list: &[f64], track: &mut [f64]) -> Sta
     ensures { (track.new ≡ tracks_of shift from (column_of (λ (v : Tuple). v.t) list.now))
         × (result ≡ moved_by_of shift from (column_of (λ (v : Tuple). v.t) list.now)) }
 {
-    let mut t = room_of_64();
-    let mut kx = room_of_64();
-    let mut ky = room_of_64();
-    let mut kz = room_of_64();
-    let mut kt = room_of_64();
+    let mut t = [0.0; 64];
+    let mut kx = [0.0; 64];
+    let mut ky = [0.0; 64];
+    let mut kz = [0.0; 64];
+    let mut kt = [0.0; 64];
     let n = list.len() / 4; // as many rows as fixes
     track_window(
         shift,
@@ -131,13 +103,11 @@ fn track_by_windows(shift: Shift, from: State, list: &[f64], track: &mut [f64])
 {
     let count = list.len() / 4;
     let mut state = from;
-    let mut i = 0;
-    while i < count {
-        let w = window(count - i, 64);
+    for i in (0..count).step_by(64) {
+        let w = (count - i).min(64); // as many fixes as are left
         let a = 4 * i; // the window of track
         let e = a + 4 * w;
         state = track_part(shift, state, &list[a..e], &mut track[a..e]);
-        i += w;
     }
 }
 
@@ -201,11 +171,11 @@ fn retrack_part(shift: Shift, from: State, list: &[f64], track: &mut [f64]) -> R
     ensures { retracked result.count result.met result.state track.new
         ≡ retrack_of shift from (column_of (λ (v : Tuple). v.t) list.now) track.old }
 {
-    let mut t = room_of_four();
-    let mut kx = room_of_four();
-    let mut ky = room_of_four();
-    let mut kz = room_of_four();
-    let mut kt = room_of_four();
+    let mut t = [0.0; 4];
+    let mut kx = [0.0; 4];
+    let mut ky = [0.0; 4];
+    let mut kz = [0.0; 4];
+    let mut kt = [0.0; 4];
     let n = list.len() / 4;
     retrack_window(
         shift,
@@ -242,18 +212,15 @@ fn retrack_by_windows(shift: Shift, from: State, list: &[f64], track: &mut [f64]
 {
     let count = list.len() / 4;
     let mut state = from;
-    let mut i = 0;
-    while i < count {
-        let w = window(count - i, 4);
+    for i in (0..count).step_by(4) {
+        let w = (count - i).min(4);
         let a = 4 * i;
         let e = a + 4 * w;
         let again = retrack_part(shift, state, &list[a..e], &mut track[a..e]);
-        i += again.count;
-        let met = again.met;
-        if met {
-            return i;
+        if again.met { // the states have met
+            return i + again.count;
         }
         state = again.state;
     }
-    i
+    count
 }

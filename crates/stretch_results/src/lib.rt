@@ -5,7 +5,9 @@
 // copies the rows of a stretch, or of the whole list, and runs the step over the copy.
 //
 // No rounding but the step's own. Proved equal to the step's run from tuple to tuple. Where the
-// columns do not fit together, nothing is written. Used by `stretch_columns`.
+// columns do not fit together, nothing is written. The four columns stay four parameters: a struct of
+// lent columns needs a clause a column that it is the same one, and is no plainer. Used by
+// `stretch_columns`.
 #![tactic(auto)]
 
 ghost use Rattle.std.specs.Prelude.{◌≡◌, true, false, ◌++◌, ◌-◌, ◌*◌, ◌≤◌, length, take, drop};
@@ -15,18 +17,6 @@ ghost use Rattle.helmert.specs.Turns.{helmert_turns};
 ghost use Rattle.stretch.specs.KeptColumns.{rows_beside_of};
 
 use helmert::{Shift, State};
-
-// A column's numbers into another as long.
-fn copy(from: &[f64], to: &mut [f64])
-    requires { length to.old ≡ length from.now }
-    ensures { to.new ≡ from.now }
-{
-    let mut i = 0;
-    while i < from.len() {
-        to[i] = from[i];
-        i += 1;
-    }
-}
 
 // Four columns into four others.
 fn copy_columns(
@@ -43,10 +33,10 @@ fn copy_columns(
     ensures { flat_of rx.new ry.new rz.new rt.new
         ≡ flat_of x.now y.now z.now t.now }
 {
-    copy(x, rx);
-    copy(y, ry);
-    copy(z, rz);
-    copy(t, rt);
+    rx.copy_from_slice(x);
+    ry.copy_from_slice(y);
+    rz.copy_from_slice(z);
+    rt.copy_from_slice(t);
 }
 
 // The list's rows copied into the results, and the step run over them from a state on.

@@ -7,7 +7,9 @@
 //
 // No rounding but the step's own. Every contract is told by the flat list that the columns stand
 // for (stretch, specs/Track.antt). Where the columns have not one row for each time, nothing is
-// written. Used by `stretch_columns` and, window by window, by `stretch_flat_track`.
+// written. The four columns stay four parameters: a struct of lent columns needs a clause a column
+// that it is the same one, and is no plainer. Used by `stretch_columns` and, window by window, by
+// `stretch_flat_track`.
 #![tactic(auto)]
 
 ghost use Rattle.std.specs.Prelude.{◌≡◌, true, false, ◌*◌, ◌<◌, length};
@@ -87,11 +89,9 @@ fn track_rows(
         × (result ≡ moved_by_of shift from t.now) }
 {
     let mut state = from;
-    let mut i = 0;
-    while i < t.len() {
+    for i in 0..t.len() {
         state = stretch::moved(shift, state, t[i]);
         put_row(kx, ky, kz, kt, i, stretch::tracked(state));
-        i += 1;
     }
     state
 }
@@ -119,7 +119,7 @@ fn track_fix(
 }
 
 // How many fixes were tracked anew, whether the state after the last of them is the kept one, and
-// that state.
+// that state. `met` is no Option's flag: the state stands either way, and `retracked` tells all three.
 #[derive(Clone, Copy)]
 pub struct Retrack {
     pub count: usize,
@@ -170,21 +170,18 @@ fn track_until(
         ≡ retrack_of shift from t.now (flat_of kx.old ky.old kz.old kt.old) }
 {
     let mut state = from;
-    let mut i = 0;
-    while i < t.len() { // a fix is left
+    for i in 0..t.len() { // a fix is left
         state = stretch::moved(shift, state, t[i]);
-        let met = track_fix(kx, ky, kz, kt, i, state);
-        i += 1; // the next fix
-        if met { // the states have met
+        if track_fix(kx, ky, kz, kt, i, state) { // the states have met
             return Retrack {
-                count: i,
+                count: i + 1,
                 met: true,
                 state: state,
             };
         }
     }
     Retrack {
-        count: i,
+        count: t.len(),
         met: false,
         state: state,
     }

@@ -6,7 +6,7 @@ pub returns : goal.returns
 unfolding badekas_of
 returns c =
     rw (
-      c.three_of_ten-3.ensures,
-      c.three_of_ten-2.ensures,
-      c.three_of_ten.ensures,
+      c.three_at-3.ensures,
+      c.three_at-2.ensures,
+      c.three_at.ensures,
     )

@@ -26,4 +26,4 @@ returns c =
     correct-done _ _ _ _ _ e none there
     (c.put_right-n.ensures
     ∙ right-fits _ _ _ _ _ (fit_told _ _ _ p.whole p.long-results p.long-track) (below _ _ there)
-    ∙ rw (c.reversed.ensures, c.shift_of.ensures, c.entry_at-entry.ensures))
+    ∙ rw (c.step_in-step.ensures.0, c.step_in-step.ensures.1))

@@ -23,5 +23,5 @@ returns c =
       keep-done _ _ _ none
           (c.fresh.ensures
           ∙ fresh-fits _ _ _ (fit_told _ _ _ p.whole p.long-results p.long-track)
-          ∙ rw (c.reversed.ensures, c.shift_of.ensures, c.entry_at-entry.ensures)),
+          ∙ rw (c.step_in-step.ensures.0, c.step_in-step.ensures.1)),
     )

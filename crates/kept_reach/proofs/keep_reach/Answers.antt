@@ -14,5 +14,5 @@ pub returns : goal.returns
 returns c =
     let e = c.keep-refusal.ensures in
     let none = sym (ap (λ (r : Refusal). r.number) e.0) ∙ c.if-refusal-ne0.false in
-    let told = rw (c.start-start.ensures, c.shift_of-shift.ensures, c.entry_at-entry.ensures) at c.pass-tally.ensures in
+    let told = rw (c.start-start.ensures, c.step_in.ensures.0) at c.pass-tally.ensures in
     (e.0, keep-tally _ _ _ none told, e.1)

@@ -1,5 +1,0 @@
--- Calls are replaced by what they ensure; the definition is left. Assumes nothing.
-use Rattle.kept_columns.proofs.step_in.Goals as goal
-
-pub returns : goal.returns
-returns c = (rw c.entry_at-entry.ensures at c.shift_of-shift.ensures, rw c.entry_at-entry.ensures at c.reversed-reversed.ensures)
