@@ -11,16 +11,18 @@
 // Used by the program and by callers that keep lists.
 #![tactic(auto)]
 
-ghost use Rattle.std.specs.Prelude.{◌≡◌, true, false, [], ◌*◌, ◌%◌, ◌≤◌, ◌<◌, length};
+ghost use Rattle.std.specs.Prelude.{◌≡◌, [], ◌*◌, ◌%◌, ◌≤◌, ◌<◌, ltb, length};
+ghost use Rattle.std.specs.List.{list_any};
 ghost use Rattle.columns.specs.Columns.{columns, Level, flat_of};
 ghost use Rattle.sheet.specs.Layout.{step_count_of, kind_at, entry_at};
 ghost use Rattle.sheet.specs.Rules.{has_deformation};
-ghost use Rattle.plans.specs.Lent.{lent_of};
-ghost use Rattle.chain.specs.Chain.{reversed_of, step_list_of, step_tally_of, chain_forward_of, chain_inverse_of, chain_of, places_of, entries_of};
-ghost use Rattle.chain.specs.Rules.{refusal9, over_one, lent_for, refusal10, refused_answer, ran_answer, outcome, shift_of};
+ghost use Rattle.plans.specs.Lent.{lent_in};
+ghost use Rattle.chain.specs.Chain.{reversed_of, step_list_of, step_tally_of, chain_of, places_of, entries_of};
+ghost use Rattle.chain.specs.Rules.{refusal9, lent_for, refusal10, refused_answer, ran_answer, outcome, shift_of};
 ghost use Rattle.chain.specs.Columns.{refusal9_columns, columns_outcome, shift_columns_of};
 ghost use Rattle.chain.specs.Grid.{shift_grid_of, shift_columns_grid_of};
 
+use plans::Loan;
 use sheet::{Entry, Refusal};
 use tally::Tally;
 
@@ -50,18 +52,15 @@ fn step_at(
     y: &mut [f64],
     z: &mut [f64],
     t: &mut [f64],
-    velocities: &[f64],
-    marks: &[u8],
-    grid: &[u8],
+    lent: Loan<'_>,
 ) -> Tally
     requires { (i < step_count_of s.now) × Level x.old y.old z.old t.old × (length x.old ≤ 2048) }
     ensures { (flat_of x.new y.new z.new t.new
-        ≡ step_list_of inverse (lent_of velocities.now marks.now grid.now) (entry_at s.now i) (flat_of x.old y.old z.old t.old))
-        × (result ≡ step_tally_of inverse (lent_of velocities.now marks.now grid.now) (entry_at s.now i) (flat_of x.old y.old z.old t.old)) }
+        ≡ step_list_of inverse (lent_in lent.entry) (entry_at s.now i) (flat_of x.old y.old z.old t.old))
+        × (result ≡ step_tally_of inverse (lent_in lent.entry) (entry_at s.now i) (flat_of x.old y.old z.old t.old)) }
 {
     let plan = sheet_plans::plan_at(inverse, s, i);
-    let from = plans::start(plan);
-    let part = plan_columns::run(plan, 0, from, x, y, z, t, velocities, marks, grid);
+    let part = plan_columns::run(plan, 0, plans::start(plan), x, y, z, t, lent);
     Tally {
         count: part.count,
         met: part.met,
@@ -69,58 +68,6 @@ fn step_at(
 }
 
 // ----- a sheet's steps, one after another ------------------------------------------------------
-
-fn forward(
-    s: &[u8],
-    n: usize,
-    x: &mut [f64],
-    y: &mut [f64],
-    z: &mut [f64],
-    t: &mut [f64],
-    velocities: &[f64],
-    marks: &[u8],
-    grid: &[u8],
-) -> [Tally; 16]
-    requires { (n ≤ 16) × (n ≡ step_count_of s.now) × Level x.old y.old z.old t.old × (length x.old ≤ 2048) }
-    ensures { (flat_of x.new y.new z.new t.new
-        ≡ (chain_forward_of (lent_of velocities.now marks.now grid.now) (entries_of (entry_at s.now) n 0) (flat_of x.old y.old z.old t.old)).list)
-        × (result ≡ places_of (chain_forward_of (lent_of velocities.now marks.now grid.now) (entries_of (entry_at s.now) n 0) (flat_of x.old y.old z.old t.old)).tallies) }
-{
-    let mut tallies = [tally::none(); 16];
-    let mut i = 0;
-    while i < n {
-        let tally = step_at(false, s, i, x, y, z, t, velocities, marks, grid); // the first step first
-        tallies[i] = tally; // in the sheet's order
-        i += 1;
-    }
-    tallies
-}
-
-fn backward(
-    s: &[u8],
-    n: usize,
-    x: &mut [f64],
-    y: &mut [f64],
-    z: &mut [f64],
-    t: &mut [f64],
-    velocities: &[f64],
-    marks: &[u8],
-    grid: &[u8],
-) -> [Tally; 16]
-    requires { (n ≤ 16) × (n ≡ step_count_of s.now) × Level x.old y.old z.old t.old × (length x.old ≤ 2048) }
-    ensures { (flat_of x.new y.new z.new t.new
-        ≡ (chain_inverse_of (lent_of velocities.now marks.now grid.now) (entries_of (entry_at s.now) n 0) (flat_of x.old y.old z.old t.old)).list)
-        × (result ≡ places_of (chain_inverse_of (lent_of velocities.now marks.now grid.now) (entries_of (entry_at s.now) n 0) (flat_of x.old y.old z.old t.old)).tallies) }
-{
-    let mut tallies = [tally::none(); 16];
-    let mut i = n;
-    while 0 < i {
-        i -= 1;
-        let tally = step_at(true, s, i, x, y, z, t, velocities, marks, grid); // the last step first
-        tallies[i] = tally;
-    }
-    tallies
-}
 
 // The whole columns in either direction.
 fn over_columns(
@@ -131,19 +78,26 @@ fn over_columns(
     y: &mut [f64],
     z: &mut [f64],
     t: &mut [f64],
-    velocities: &[f64],
-    marks: &[u8],
-    grid: &[u8],
+    lent: Loan<'_>,
 ) -> [Tally; 16]
     requires { (n ≤ 16) × (n ≡ step_count_of s.now) × Level x.old y.old z.old t.old × (length x.old ≤ 2048) }
     ensures { (flat_of x.new y.new z.new t.new
-        ≡ (chain_of inverse (lent_of velocities.now marks.now grid.now) (entries_of (entry_at s.now) n 0) (flat_of x.old y.old z.old t.old)).list)
-        × (result ≡ places_of (chain_of inverse (lent_of velocities.now marks.now grid.now) (entries_of (entry_at s.now) n 0) (flat_of x.old y.old z.old t.old)).tallies) }
+        ≡ (chain_of inverse (lent_in lent.entry) (entries_of (entry_at s.now) n 0) (flat_of x.old y.old z.old t.old)).list)
+        × (result ≡ places_of (chain_of inverse (lent_in lent.entry) (entries_of (entry_at s.now) n 0) (flat_of x.old y.old z.old t.old)).tallies) }
 {
+    let mut tallies = [tally::none(); 16];
     if inverse {
-        return backward(s, n, x, y, z, t, velocities, marks, grid);
+        for i in (0..n).rev() {
+            let tally = step_at(true, s, i, x, y, z, t, lent); // the last step first
+            tallies[i] = tally;
+        }
+    } else {
+        for i in 0..n {
+            let tally = step_at(false, s, i, x, y, z, t, lent); // the first step first
+            tallies[i] = tally; // in the sheet's order
+        }
     }
-    forward(s, n, x, y, z, t, velocities, marks, grid)
+    tallies
 }
 
 // ----- a flat list -----------------------------------------------------------------------------
@@ -158,16 +112,14 @@ fn through(
     y: &mut [f64],
     z: &mut [f64],
     t: &mut [f64],
-    velocities: &[f64],
-    marks: &[u8],
-    grid: &[u8],
+    lent: Loan<'_>,
 ) -> [Tally; 16]
     requires { (n ≤ 16) × (n ≡ step_count_of s.now) × Level x.old y.old z.old t.old × (length list.old ≡ 4 * length x.old) × (length x.old ≤ 16) }
-    ensures { (list.new ≡ (chain_of inverse (lent_of velocities.now marks.now grid.now) (entries_of (entry_at s.now) n 0) list.old).list)
-        × (result ≡ places_of (chain_of inverse (lent_of velocities.now marks.now grid.now) (entries_of (entry_at s.now) n 0) list.old).tallies) }
+    ensures { (list.new ≡ (chain_of inverse (lent_in lent.entry) (entries_of (entry_at s.now) n 0) list.old).list)
+        × (result ≡ places_of (chain_of inverse (lent_in lent.entry) (entries_of (entry_at s.now) n 0) list.old).tallies) }
 {
     columns::to_columns(list, x, y, z, t);
-    let tallies = over_columns(inverse, s, n, x, y, z, t, velocities, marks, grid);
+    let tallies = over_columns(inverse, s, n, x, y, z, t, lent);
     columns::to_flat(x, y, z, t, list);
     tallies
 }
@@ -180,18 +132,10 @@ fn zeros() -> [f64; 16]
 }
 
 // A list of at most sixteen tuples, in one go.
-fn short(
-    inverse: bool,
-    s: &[u8],
-    n: usize,
-    list: &mut [f64],
-    velocities: &[f64],
-    marks: &[u8],
-    grid: &[u8],
-) -> [Tally; 16]
+fn short(inverse: bool, s: &[u8], n: usize, list: &mut [f64], lent: Loan<'_>) -> [Tally; 16]
     requires { (n ≤ 16) × (n ≡ step_count_of s.now) × (length list.old % 4 ≡ 0) × (length list.old ≤ 64) }
-    ensures { (list.new ≡ (chain_of inverse (lent_of velocities.now marks.now grid.now) (entries_of (entry_at s.now) n 0) list.old).list)
-        × (result ≡ places_of (chain_of inverse (lent_of velocities.now marks.now grid.now) (entries_of (entry_at s.now) n 0) list.old).tallies) }
+    ensures { (list.new ≡ (chain_of inverse (lent_in lent.entry) (entries_of (entry_at s.now) n 0) list.old).list)
+        × (result ≡ places_of (chain_of inverse (lent_in lent.entry) (entries_of (entry_at s.now) n 0) list.old).tallies) }
 {
     let mut x = zeros();
     let mut y = zeros();
@@ -207,55 +151,38 @@ fn short(
         &mut y[..m],
         &mut z[..m],
         &mut t[..m],
-        velocities,
-        marks,
-        grid,
+        lent,
     )
 }
 
 // A sheet of one step over a long list: its plan alone is made.
-fn alone(
-    inverse: bool,
-    s: &[u8],
-    list: &mut [f64],
-    velocities: &[f64],
-    marks: &[u8],
-    grid: &[u8],
-) -> [Tally; 16]
+fn alone(inverse: bool, s: &[u8], list: &mut [f64], lent: Loan<'_>) -> [Tally; 16]
     requires { 0 < step_count_of s.now }
-    ensures { (list.new ≡ (chain_of inverse (lent_of velocities.now marks.now grid.now) (entries_of (entry_at s.now) 1 0) list.old).list)
-        × (result ≡ places_of (chain_of inverse (lent_of velocities.now marks.now grid.now) (entries_of (entry_at s.now) 1 0) list.old).tallies) }
+    ensures { (list.new ≡ (chain_of inverse (lent_in lent.entry) (entries_of (entry_at s.now) 1 0) list.old).list)
+        × (result ≡ places_of (chain_of inverse (lent_in lent.entry) (entries_of (entry_at s.now) 1 0) list.old).tallies) }
 {
     let plan = sheet_plans::plan_at(inverse, s, 0);
-    let tally = step_windows::over(plan, list, velocities, marks, grid);
+    let tally = step_windows::over(plan, list, lent);
     let mut tallies = [tally::none(); 16];
     tallies[0] = tally;
     tallies
 }
 
 // A list of whole tuples of any length in rule.
-fn over_list(
-    inverse: bool,
-    s: &[u8],
-    n: usize,
-    list: &mut [f64],
-    velocities: &[f64],
-    marks: &[u8],
-    grid: &[u8],
-) -> [Tally; 16]
+fn over_list(inverse: bool, s: &[u8], n: usize, list: &mut [f64], lent: Loan<'_>) -> [Tally; 16]
     requires { (n ≤ 16) × (n ≡ step_count_of s.now) × (length list.old % 4 ≡ 0) × (length list.old ≤ 8192) }
-    ensures { (list.new ≡ (chain_of inverse (lent_of velocities.now marks.now grid.now) (entries_of (entry_at s.now) n 0) list.old).list)
-        × (result ≡ places_of (chain_of inverse (lent_of velocities.now marks.now grid.now) (entries_of (entry_at s.now) n 0) list.old).tallies) }
+    ensures { (list.new ≡ (chain_of inverse (lent_in lent.entry) (entries_of (entry_at s.now) n 0) list.old).list)
+        × (result ≡ places_of (chain_of inverse (lent_in lent.entry) (entries_of (entry_at s.now) n 0) list.old).tallies) }
 {
     if list.len() <= 64 {
-        return short(inverse, s, n, list, velocities, marks, grid);
+        return short(inverse, s, n, list, lent);
     }
     if n == 1 {
-        return alone(inverse, s, list, velocities, marks, grid);
+        return alone(inverse, s, list, lent);
     }
     let mut plans = [sheet_plans::NO_PLAN; 16];
     sheet_plans::plans_of(inverse, s, n, &mut plans);
-    windows::over(inverse, &plans, n, list, velocities, marks, grid)
+    windows::over(inverse, &plans, n, list, lent)
 }
 
 // ----- without a grid --------------------------------------------------------------------------
@@ -265,42 +192,6 @@ pub fn no_grid(s: &[u8]) -> &[u8]
     ensures { result.now ≡ [] }
 {
     &s[0..0]
-}
-
-fn list_without_grid(
-    inverse: bool,
-    s: &[u8],
-    n: usize,
-    list: &mut [f64],
-    velocities: &[f64],
-    marks: &[u8],
-) -> [Tally; 16]
-    requires { (n ≤ 16) × (n ≡ step_count_of s.now) × (length list.old % 4 ≡ 0) × (length list.old ≤ 8192) }
-    ensures { (list.new ≡ (chain_of inverse (lent_of velocities.now marks.now []) (entries_of (entry_at s.now) n 0) list.old).list)
-        × (result ≡ places_of (chain_of inverse (lent_of velocities.now marks.now []) (entries_of (entry_at s.now) n 0) list.old).tallies) }
-{
-    let none = no_grid(s);
-    over_list(inverse, s, n, list, velocities, marks, none)
-}
-
-fn columns_without_grid(
-    inverse: bool,
-    s: &[u8],
-    n: usize,
-    x: &mut [f64],
-    y: &mut [f64],
-    z: &mut [f64],
-    t: &mut [f64],
-    velocities: &[f64],
-    marks: &[u8],
-) -> [Tally; 16]
-    requires { (n ≤ 16) × (n ≡ step_count_of s.now) × Level x.old y.old z.old t.old × (length x.old ≤ 2048) }
-    ensures { (flat_of x.new y.new z.new t.new
-        ≡ (chain_of inverse (lent_of velocities.now marks.now []) (entries_of (entry_at s.now) n 0) (flat_of x.old y.old z.old t.old)).list)
-        × (result ≡ places_of (chain_of inverse (lent_of velocities.now marks.now []) (entries_of (entry_at s.now) n 0) (flat_of x.old y.old z.old t.old)).tallies) }
-{
-    let none = no_grid(s);
-    over_columns(inverse, s, n, x, y, z, t, velocities, marks, none)
 }
 
 // ----- the rules of the lent lists --------------------------------------------------------------
@@ -321,26 +212,16 @@ pub fn columns_broken(x: usize, y: usize, z: usize, t: usize) -> bool
 
 // A mark over 1.
 fn over_one(marks: &[u8]) -> bool
-    ensures { result ≡ over_one marks.now }
+    ensures { result ≡ list_any (λ mark. ltb 1 mark) marks.now }
 {
-    let mut i = 0;
-    while i < marks.len() {
-        if 1 < marks[i] {
-            return true;
-        }
-        i += 1;
-    }
-    false
+    marks.iter().any(|mark| 1 < *mark)
 }
 
 // How many velocities and marks a list wants.
 fn lent_for(deforms: bool, numbers: usize) -> usize
     ensures { (result ≡ lent_for deforms numbers) × (result < 4611686018427387904) }
 {
-    if deforms {
-        return numbers / 4;
-    }
-    0
+    if deforms { numbers / 4 } else { 0 }
 }
 
 // Rule 10.
@@ -348,13 +229,7 @@ pub fn lent_broken(deforms: bool, numbers: usize, velocities: &[f64], marks: &[u
     ensures { result ≡ refusal10 deforms numbers velocities.now marks.now }
 {
     let tuples = lent_for(deforms, numbers);
-    if velocities.len() != 3 * tuples {
-        return true;
-    }
-    if marks.len() != tuples {
-        return true;
-    }
-    over_one(marks)
+    (velocities.len() != 3 * tuples) | (marks.len() != tuples) | over_one(marks)
 }
 
 // Whether one of the first n steps is a deformation step.
@@ -362,10 +237,8 @@ fn deforms(s: &[u8], n: usize) -> bool
     ensures { result ≡ has_deformation (kind_at s.now) n }
 {
     let mut found = false;
-    let mut i = 0;
-    while i < n {
-        found = found | (sheet::kind_at(s, i) == 5);
-        i += 1;
+    for i in 0..n {
+        found |= sheet::kind_at(s, i) == 5;
     }
     found
 }
@@ -382,10 +255,9 @@ pub fn has_deformation(s: &[u8]) -> bool
 pub fn refused(refusal: Refusal) -> Answer
     ensures { result ≡ refused_answer refusal }
 {
-    let tallies = [tally::none(); 16];
     Answer {
-        refusal: refusal,
-        tallies: tallies,
+        refusal,
+        tallies: [tally::none(); 16],
     }
 }
 
@@ -394,7 +266,7 @@ pub fn ran(tallies: [Tally; 16]) -> Answer
 {
     Answer {
         refusal: Refusal::none(),
-        tallies: tallies,
+        tallies,
     }
 }
 
@@ -423,7 +295,12 @@ pub fn shift_columns(
     if lent_broken(deforms(s, n), 4 * x.len(), velocities, marks) {
         return refused(Refusal::of_call(10));
     }
-    let tallies = columns_without_grid(inverse, s, n, x, y, z, t, velocities, marks);
+    let lent = Loan {
+        velocities,
+        marks,
+        grid: no_grid(s),
+    };
+    let tallies = over_columns(inverse, s, n, x, y, z, t, lent);
     ran(tallies)
 }
 
@@ -442,7 +319,12 @@ pub fn shift(inverse: bool, s: &[u8], list: &mut [f64], velocities: &[f64], mark
     if lent_broken(deforms(s, n), list.len(), velocities, marks) {
         return refused(Refusal::of_call(10));
     }
-    let tallies = list_without_grid(inverse, s, n, list, velocities, marks);
+    let lent = Loan {
+        velocities,
+        marks,
+        grid: no_grid(s),
+    };
+    let tallies = over_list(inverse, s, n, list, lent);
     ran(tallies)
 }
 
@@ -478,7 +360,12 @@ pub fn shift_columns_grid(
         return refused(Refusal::of_call(broken));
     }
     let n = sheet::step_count(s);
-    let tallies = over_columns(inverse, s, n, x, y, z, t, velocities, marks, grid);
+    let lent = Loan {
+        velocities,
+        marks,
+        grid,
+    };
+    let tallies = over_columns(inverse, s, n, x, y, z, t, lent);
     ran(tallies)
 }
 
@@ -508,6 +395,11 @@ pub fn shift_grid(
         return refused(Refusal::of_call(broken));
     }
     let n = sheet::step_count(s);
-    let tallies = over_list(inverse, s, n, list, velocities, marks, grid);
+    let lent = Loan {
+        velocities,
+        marks,
+        grid,
+    };
+    let tallies = over_list(inverse, s, n, list, lent);
     ran(tallies)
 }

@@ -7,80 +7,27 @@
 // definitions. No rounding but the steps' own. For callers that hold a sheet as a record.
 #![tactic(auto)]
 
-ghost use Rattle.std.specs.Prelude.{◌≡◌, [], ◌≤◌};
+ghost use Rattle.std.specs.Prelude.{◌≡◌, ◌≤◌};
 ghost use Rattle.sheet.specs.Layout.{entry_of, kind_in};
 ghost use Rattle.sheet.specs.Rules.{has_deformation};
-ghost use Rattle.plans.specs.Lent.{lent_of};
-ghost use Rattle.chain.specs.Chain.{step_list_of, step_tally_of, chain_forward_of, chain_inverse_of, chain_of, places_of, entries_of};
+ghost use Rattle.plans.specs.Lent.{lent_in};
+ghost use Rattle.chain.specs.Chain.{step_list_of, step_tally_of, chain_of, places_of, entries_of};
 ghost use Rattle.chain.specs.Rules.{outcome};
 ghost use Rattle.chain_record.specs.Record.{shift_record_of, shift_record_grid_of};
 
 use chain::Answer;
+use plans::Loan;
 use sheet::{Entry, Refusal, Sheet};
 use tally::Tally;
 
 // One step over the list, a window of it at a time.
-fn run_step(
-    inverse: bool,
-    entry: Entry,
-    list: &mut [f64],
-    velocities: &[f64],
-    marks: &[u8],
-    grid: &[u8],
-) -> Tally
-    ensures { (list.new ≡ step_list_of inverse (lent_of velocities.now marks.now grid.now) entry list.old)
-        × (result ≡ step_tally_of inverse (lent_of velocities.now marks.now grid.now) entry list.old) }
+fn run_step(inverse: bool, entry: Entry, list: &mut [f64], lent: Loan<'_>) -> Tally
+    ensures { (list.new ≡ step_list_of inverse (lent_in lent.entry) entry list.old)
+        × (result ≡ step_tally_of inverse (lent_in lent.entry) entry list.old) }
 {
     let inv = chain::reversed(inverse, entry);
-    let step = entry.step;
-    let plan = plans::plan_of_step(inv, step);
-    step_windows::over(plan, list, velocities, marks, grid)
-}
-
-fn forward_record(
-    kept: Sheet,
-    n: usize,
-    list: &mut [f64],
-    velocities: &[f64],
-    marks: &[u8],
-    grid: &[u8],
-) -> [Tally; 16]
-    requires { n ≤ 16 }
-    ensures { (list.new ≡ (chain_forward_of (lent_of velocities.now marks.now grid.now) (entries_of (entry_of kept) n 0) list.old).list)
-        × (result ≡ places_of (chain_forward_of (lent_of velocities.now marks.now grid.now) (entries_of (entry_of kept) n 0) list.old).tallies) }
-{
-    let mut tallies = [tally::none(); 16];
-    let mut i = 0;
-    while i < n {
-        let entry = kept.entries[i];
-        let tally = run_step(false, entry, list, velocities, marks, grid);
-        tallies[i] = tally;
-        i += 1;
-    }
-    tallies
-}
-
-fn backward_record(
-    kept: Sheet,
-    n: usize,
-    list: &mut [f64],
-    velocities: &[f64],
-    marks: &[u8],
-    grid: &[u8],
-) -> [Tally; 16]
-    requires { n ≤ 16 }
-    ensures { (list.new ≡ (chain_inverse_of (lent_of velocities.now marks.now grid.now) (entries_of (entry_of kept) n 0) list.old).list)
-        × (result ≡ places_of (chain_inverse_of (lent_of velocities.now marks.now grid.now) (entries_of (entry_of kept) n 0) list.old).tallies) }
-{
-    let mut tallies = [tally::none(); 16];
-    let mut i = n;
-    while 0 < i {
-        i -= 1;
-        let entry = kept.entries[i];
-        let tally = run_step(true, entry, list, velocities, marks, grid);
-        tallies[i] = tally;
-    }
-    tallies
+    let plan = plans::plan_of_step(inv, entry.step);
+    step_windows::over(plan, list, lent)
 }
 
 // All n steps, in the order of the direction.
@@ -89,35 +36,25 @@ fn over_record(
     kept: Sheet,
     n: usize,
     list: &mut [f64],
-    velocities: &[f64],
-    marks: &[u8],
-    grid: &[u8],
+    lent: Loan<'_>,
 ) -> [Tally; 16]
     requires { n ≤ 16 }
-    ensures { (list.new ≡ (chain_of inverse (lent_of velocities.now marks.now grid.now) (entries_of (entry_of kept) n 0) list.old).list)
-        × (result ≡ places_of (chain_of inverse (lent_of velocities.now marks.now grid.now) (entries_of (entry_of kept) n 0) list.old).tallies) }
+    ensures { (list.new ≡ (chain_of inverse (lent_in lent.entry) (entries_of (entry_of kept) n 0) list.old).list)
+        × (result ≡ places_of (chain_of inverse (lent_in lent.entry) (entries_of (entry_of kept) n 0) list.old).tallies) }
 {
+    let mut tallies = [tally::none(); 16];
     if inverse {
-        return backward_record(kept, n, list, velocities, marks, grid);
+        for i in (0..n).rev() {
+            let tally = run_step(true, kept.entries[i], list, lent);
+            tallies[i] = tally;
+        }
+    } else {
+        for i in 0..n {
+            let tally = run_step(false, kept.entries[i], list, lent);
+            tallies[i] = tally;
+        }
     }
-    forward_record(kept, n, list, velocities, marks, grid)
-}
-
-// The same without a grid.
-fn record_without_grid(
-    inverse: bool,
-    kept: Sheet,
-    n: usize,
-    list: &mut [f64],
-    velocities: &[f64],
-    marks: &[u8],
-) -> [Tally; 16]
-    requires { n ≤ 16 }
-    ensures { (list.new ≡ (chain_of inverse (lent_of velocities.now marks.now []) (entries_of (entry_of kept) n 0) list.old).list)
-        × (result ≡ places_of (chain_of inverse (lent_of velocities.now marks.now []) (entries_of (entry_of kept) n 0) list.old).tallies) }
-{
-    let none = chain::no_grid(marks);
-    over_record(inverse, kept, n, list, velocities, marks, none)
+    tallies
 }
 
 // Whether one of the first n steps is a deformation step.
@@ -126,12 +63,8 @@ fn deforms_record(kept: Sheet, n: usize) -> bool
     ensures { result ≡ has_deformation (kind_in kept) n }
 {
     let mut found = false;
-    let mut i = 0;
-    while i < n {
-        let entry = kept.entries[i];
-        let step = entry.step;
-        found = found | (bodies::kind_of(step) == 5);
-        i += 1;
+    for i in 0..n {
+        found |= bodies::kind_of(kept.entries[i].step) == 5;
     }
     found
 }
@@ -157,7 +90,12 @@ pub fn shift_record(
     if chain::lent_broken(deforms_record(kept, n), list.len(), velocities, marks) {
         return chain::refused(Refusal::of_call(10));
     }
-    let tallies = record_without_grid(inverse, kept, n, list, velocities, marks);
+    let lent = Loan {
+        velocities,
+        marks,
+        grid: chain::no_grid(marks),
+    };
+    let tallies = over_record(inverse, kept, n, list, lent);
     chain::ran(tallies)
 }
 
@@ -187,6 +125,11 @@ pub fn shift_record_grid(
         return chain::refused(Refusal::of_call(broken));
     }
     let n = words::wide(kept.count);
-    let tallies = over_record(inverse, kept, n, list, velocities, marks, grid);
+    let lent = Loan {
+        velocities,
+        marks,
+        grid,
+    };
+    let tallies = over_record(inverse, kept, n, list, lent);
     chain::ran(tallies)
 }

@@ -1,8 +1,8 @@
 -- Invariant: found says whether one of the first i steps is a deformation step (`has_deformation`),
 -- and i is at most n. A turn asks whether the kind of step i, as the directory has it (`kind_at`),
 -- is 5, and found then speaks of one step more (`before-next`). The loop ends at i = n, so found is
--- the answer for all n steps. The measure is n - i. Assumes nothing.
-use Prim.Native.Nat.{◌-◌, ◌≤◌}
+-- the answer for all n steps. Assumes nothing.
+use Prim.Native.Nat.{◌≤◌}
 use mathlib.Core.Path.{◌≡◌}
 use Rattle.sheet.specs.Layout.{kind_at}
 use Rattle.sheet.specs.Rules.{has_deformation}
@@ -10,6 +10,3 @@ use Rattle.chain.proofs.deforms.Given as goal
 
 abbrev pub invariant-loop-i : goal.invariant-loop-i
 invariant-loop-i l = (l.i ≤ l.n) × (l.found ≡ has_deformation (kind_at l.s) l.i)
-
-abbrev pub decreases-loop-i : goal.decreases-loop-i
-decreases-loop-i l = l.n - l.i

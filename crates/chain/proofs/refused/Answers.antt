@@ -2,4 +2,4 @@
 use Rattle.chain.proofs.refused.Goals as goal
 
 pub returns : goal.returns
-returns c = rw c.none-tallies.ensures
+returns c = rw c.none.ensures

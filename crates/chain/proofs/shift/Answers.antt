@@ -24,8 +24,8 @@ returns-then-lent_broken c =
     rw (c.refused-then-lent_broken.ensures, c.of_call-then-lent_broken.ensures, ← c.check-own.ensures)
     (sym (refused-10 c.check-own.result _ _ _ _ _ _ c.if-own-ne0.false (sym c.list_broken.ensures ∙ c.if-list_broken.false) (sym (rw (c.deforms.ensures, c.step_count-n.ensures.0) at c.lent_broken.ensures) ∙ c.if-lent_broken.true)))
 
-pub list_without_grid-tallies-requires : goal.list_without_grid-tallies-requires
-list_without_grid-tallies-requires c =
+pub over_list-tallies-requires : goal.over_list-tallies-requires
+over_list-tallies-requires c =
     let count = c.step_count-n.ensures.0 in
     let none = ap (λ (r : Refusal). r.number) (sym c.check-own.ensures) ∙ c.if-own-ne0.false in
     let nine = flat_nine_kept _ (sym c.list_broken.ensures ∙ c.if-list_broken.false) in
@@ -34,6 +34,6 @@ list_without_grid-tallies-requires c =
 pub returns : goal.returns
 unfolding shift_of
 returns c =
-    let e = c.list_without_grid-tallies.ensures in
+    let e = rw c.no_grid.ensures at c.over_list-tallies.ensures in
     rw (c.ran.ensures, e.0, e.1, c.step_count-n.ensures.0, ← c.check-own.ensures)
     (sym (run-through c.check-own.result _ _ _ _ _ _ c.if-own-ne0.false (sym c.list_broken.ensures ∙ c.if-list_broken.false) (sym (rw (c.deforms.ensures, c.step_count-n.ensures.0) at c.lent_broken.ensures) ∙ c.if-lent_broken.false)))

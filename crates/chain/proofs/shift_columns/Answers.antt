@@ -29,8 +29,8 @@ returns-then-lent_broken c =
     rw (c.refused-then-lent_broken.ensures, c.of_call-then-lent_broken.ensures, ← c.check-own.ensures)
     (sym (columns-refused-10 c.check-own.result _ _ _ _ _ _ c.if-own-ne0.false (sym c.columns_broken.ensures ∙ c.if-columns_broken.false) (sym (rw (c.deforms.ensures, c.step_count-n.ensures.0) at c.lent_broken.ensures) ∙ c.if-lent_broken.true)))
 
-pub columns_without_grid-tallies-requires : goal.columns_without_grid-tallies-requires
-columns_without_grid-tallies-requires c =
+pub over_columns-tallies-requires : goal.over_columns-tallies-requires
+over_columns-tallies-requires c =
     let count = c.step_count-n.ensures.0 in
     let none = ap (λ (r : Refusal). r.number) (sym c.check-own.ensures) ∙ c.if-own-ne0.false in
     let nine = nine_kept _ _ _ _ (sym c.columns_broken.ensures ∙ c.if-columns_broken.false) in
@@ -39,7 +39,7 @@ columns_without_grid-tallies-requires c =
 pub returns : goal.returns
 unfolding shift_columns_of
 returns c =
-    let e = c.columns_without_grid-tallies.ensures in
+    let e = rw c.no_grid.ensures at c.over_columns-tallies.ensures in
     let kept = sym c.columns_broken.ensures ∙ c.if-columns_broken.false in
     let nine = nine_kept _ _ _ _ kept in
     rw (c.ran.ensures, columns_of_lem _ _ _ _ (search (rules, nine.0), search (rules, nine.0), search (rules, nine.0)) e.0, e.1, c.step_count-n.ensures.0, ← c.check-own.ensures)

@@ -8,5 +8,5 @@ pub returns : goal.returns
 returns c =
     let below = c.requires.0 in
     let there = c.plan_at-plan.ensures in
-    let e = rw c.start-from.ensures at c.run-part.ensures in
+    let e = rw c.start.ensures at c.run-part.ensures in
     (e.0 ∙ list_at _ _ _ _ below there _, tally-told _ _ _ _ below there _ e.2 e.3)

@@ -27,12 +27,13 @@ returns-then-lent_broken c =
     rw (c.refused-then-lent_broken.ensures, c.of_call-then-lent_broken.ensures, ← c.check_record-own.ensures)
     (sym (refused-10 c.check_record-own.result _ _ _ _ _ _ c.if-own-ne0.false (sym c.list_broken.ensures ∙ c.if-list_broken.false) (sym (rw (c.deforms_record.ensures, c.wide-n.ensures.0) at c.lent_broken.ensures) ∙ c.if-lent_broken.true)))
 
-pub record_without_grid-tallies-requires : goal.record_without_grid-tallies-requires
-record_without_grid-tallies-requires c =
+pub over_record-tallies-requires : goal.over_record-tallies-requires
+over_record-tallies-requires c =
     rw c.wide-n.ensures.0 (few-kept _ _ (ap (λ (r : Refusal). r.number) (sym c.check_record-own.ensures) ∙ c.if-own-ne0.false))
 
 pub returns : goal.returns
 unfolding shift_record_of
 returns c =
-    rw (c.ran.ensures, c.record_without_grid-tallies.ensures.0, c.record_without_grid-tallies.ensures.1, c.wide-n.ensures.0, ← c.check_record-own.ensures)
+    let e = rw c.no_grid.ensures at c.over_record-tallies.ensures in
+    rw (c.ran.ensures, e.0, e.1, c.wide-n.ensures.0, ← c.check_record-own.ensures)
     (sym (run-through c.check_record-own.result _ _ _ _ _ _ c.if-own-ne0.false (sym c.list_broken.ensures ∙ c.if-list_broken.false) (sym (rw (c.deforms_record.ensures, c.wide-n.ensures.0) at c.lent_broken.ensures) ∙ c.if-lent_broken.false)))
