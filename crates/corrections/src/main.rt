@@ -16,8 +16,7 @@ ghost use Rattle.corrections.specs.Room.{Roomy};
 use blocks::one_if;
 use kept::Corrected;
 use sheet::Refusal;
-use std::fmt;
-use std::io;
+use std::{fmt, io};
 use tuple::Tuple;
 
 // ----- chance ----------------------------------------------------------------------------------
@@ -175,7 +174,11 @@ fn number(mode: Mode, seed: usize, j: usize) -> f64 {
     match j {
         6 | 7 | 8 | 9 | 10 | 11 | 18 | 19 | 20 | 21 | 22 | 23 | 26 | 27 => rate(mode, seed, j),
         28 => if seed / 65536 % 4 == 0 { -0.0 } else { 2000.0 },
-        29 => if mode == Mode::Fixed { 2010.0 } else { 0.0 / 0.0 },
+        29 => if mode == Mode::Fixed {
+            2010.0
+        } else {
+            0.0 / 0.0
+        },
         _ => parameter(seed),
     }
 }

@@ -136,7 +136,11 @@ fn put_sheet(s: &mut [u8], mode: Mode, exact: bool) {
     put_numbers(
         s,
         if mode == Mode::Static { 0.0 } else { 0.25 },
-        if mode == Mode::Fixed { 2010.0 } else { 0.0 / 0.0 },
+        if mode == Mode::Fixed {
+            2010.0
+        } else {
+            0.0 / 0.0
+        },
     );
 }
 

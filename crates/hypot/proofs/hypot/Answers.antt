@@ -16,13 +16,13 @@ pub returns-then-p-infinity : goal.returns-then-p-infinity
 returns-then-p-infinity c =
     let a = c.args in
     elim c.then-p-infinity.branch [
-      then-p-infinity-via-then-p-infinity w ↦
-        rw one_over_zero (infinite-first a.x a.y (sym (equals_infinity a.x) ∙ rw (one_over_zero, c.abs-p.ensures) at w.if-p-infinity.true))
-    | then-p-infinity-via-else-p-infinity+then-q-infinity w ↦
-        rw one_over_zero
-        (infinite-second a.x a.y
-        (sym (equals_infinity a.x) ∙ rw (one_over_zero, c.abs-p.ensures) at w.if-p-infinity.false)
-        (sym (equals_infinity a.y) ∙ rw (one_over_zero, c.abs-q.ensures) at w.if-q-infinity.true))
+      | then-p-infinity-via-then-p-infinity w ↦
+          rw one_over_zero (infinite-first a.x a.y (sym (equals_infinity a.x) ∙ rw (one_over_zero, c.abs-p.ensures) at w.if-p-infinity.true))
+      | then-p-infinity-via-else-p-infinity+then-q-infinity w ↦
+          rw one_over_zero
+          (infinite-second a.x a.y
+          (sym (equals_infinity a.x) ∙ rw (one_over_zero, c.abs-p.ensures) at w.if-p-infinity.false)
+          (sym (equals_infinity a.y) ∙ rw (one_over_zero, c.abs-q.ensures) at w.if-q-infinity.true))
     ]
 
 pub returns : goal.returns

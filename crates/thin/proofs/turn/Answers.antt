@@ -16,8 +16,8 @@ pub returns-after-inverse : goal.returns-after-inverse
 unfolding turn_of
 returns-after-inverse c =
     elim c.if-inverse.branch [
-      then-inverse w ↦ rw (c.in-PermtideEither.is, c.carried_on-in-PermtideEither.ensures, c.out_of_reach.ensures, w.v-is, w.inv-v.ensures, w.if-inverse.true)
-    | else-inverse w ↦ rw (c.in-PermtideEither.is, c.carried_on-in-PermtideEither.ensures, c.out_of_reach.ensures, w.v-is, w.fwd-v.ensures, w.if-inverse.false)
+      | then-inverse w ↦ rw (c.in-PermtideEither.is, c.carried_on-in-PermtideEither.ensures, c.out_of_reach.ensures, w.v-is, w.inv-v.ensures, w.if-inverse.true)
+      | else-inverse w ↦ rw (c.in-PermtideEither.is, c.carried_on-in-PermtideEither.ensures, c.out_of_reach.ensures, w.v-is, w.fwd-v.ensures, w.if-inverse.false)
     ]
 
 pub returns-in-MolodenskyEither : goal.returns-in-MolodenskyEither
