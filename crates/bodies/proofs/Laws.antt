@@ -6,11 +6,20 @@ use mathlib.Core.Bool.{Bool, true, false, not, cond, ◌&&◌}
 use mathlib.Core.List.{List}
 use lib.Dec.{T, eqb}
 use lib.ListN.{length}
-use borrow.Author.Tests.{eq-eqb, eqb-true}
+use borrow.Author.Tests.{eq-eqb, eqb-true, eqb-false}
 use Rattle.bodies.specs.declared.Step.TheVariants.{Cart, Permtide, Deformation, Molodensky, Badekas, Helmert}
 use Rattle.bodies.specs.Kinds.{length_of, kind_of}
 use Rattle.bodies.specs.Read.{helmert_of, cart_of, molodensky_of, permtide_of, deformation_of, badekas_of, helmert_in, cart_in, molodensky_in, permtide_in, deformation_in, badekas_in, step_of}
-use Rattle.bodies.specs.Rules.{step_in_rule, written_in_rule, body_in_rule, lacks_convention, lacks_epoch, lacks_duration, lowest_broken}
+use Rattle.bodies.specs.Rules.{step_in_rule, written_in_rule, body_in_rule, lacks_convention, lacks_epoch, lacks_duration, lowest_broken, lowest_of, some_rule}
+use Rattle.words.specs.Words.{word32, one_nan_at}
+use Rattle.helmert.specs.Rules.{fields_in_rule_of, lacks_convention_of, lacks_epoch_of}
+use Rattle.cart.specs.Record.{in_rule_of as cart_in_rule_of}
+use Rattle.molodensky.specs.Record.{in_rule_of as molodensky_in_rule_of}
+use Rattle.permtide.specs.Record.{in_rule_of as permtide_in_rule_of}
+use Rattle.deformation.specs.Record.{in_rule_of as deformation_in_rule_of, neither_of}
+use Rattle.badekas.specs.Rules.{fields_in_rule_of as badekas_in_rule_of, lacks_convention_of as badekas_lacks_convention_of}
+use Rattle.std.specs.Prelude.{Some, None}
+use Rattle.std.specs.Option.{option_eq}
 
 -- ---- two tests
 
@@ -151,3 +160,79 @@ no_kind_lowest k b e1 e2 e3 e4 e5 e6 = by (body_in_rule k b) refl _
     by : (t : Bool) → body_in_rule k b ≡ t → (n : ℕ) → cond t n 5 ≡ 5
     by true e n = absurd (none k b e e1 e2 e3 e4 e5 e6)
     by false e n = refl
+
+-- a rule's number as an answer is 5 exactly where the number is
+pub some_is_five : (n : ℕ) → option_eq eqb (some_rule n) (Some 5) ≡ eqb n 5
+unfolding some_rule
+some_is_five n = by (eqb n 0) refl
+  where
+    by : (t : Bool) → eqb n 0 ≡ t → option_eq eqb (cond t None (Some n)) (Some 5) ≡ eqb n 5
+    by true e = rw (eqb-true n 0 e)
+    by false e = refl
+
+-- it is none where the number is 0, and else that number
+pub no_rule : (n : ℕ) → some_rule n ≡ None → n ≡ 0
+unfolding some_rule
+no_rule n = by (eqb n 0) refl
+  where
+    by : (t : Bool) → eqb n 0 ≡ t → cond t None (Some n) ≡ None → n ≡ 0
+    by true e h = eqb-true n 0 e
+    by false e h = absurd (cc h)
+
+pub a_rule : (n k : ℕ) → some_rule n ≡ Some k → (n ≡ k) × (k ≡ 0 → ⊥)
+unfolding some_rule
+a_rule n k = by (eqb n 0) refl
+  where
+    by : (t : Bool) → eqb n 0 ≡ t → cond t None (Some n) ≡ Some k → (n ≡ k) × (k ≡ 0 → ⊥)
+    by true e h = absurd (cc h)
+    by false e h = let same : n ≡ k = cc h in (same, λ z. eqb-false n 0 e (same ∙ z))
+
+-- ---- the lowest rule, by what a kind's code asks
+
+pub lowest_helmert : (b : List ℕ) → lowest_broken 1 b ≡ lowest_of 248 helmert_of (λ b. one_nan_at b 232 && one_nan_at b 240) fields_in_rule_of (λ h. cond (lacks_convention_of h) 6 (cond (lacks_epoch_of h) 7 0)) b
+unfolding lowest_broken body_in_rule written_in_rule step_in_rule step_of length_of lacks_convention lacks_epoch lacks_duration lowest_of
+lowest_helmert b = by (eqb (length b) 248) refl
+  where
+    by : (t : Bool) → eqb (length b) 248 ≡ t → lowest_broken 1 b ≡ lowest_of 248 helmert_of (λ b. one_nan_at b 232 && one_nan_at b 240) fields_in_rule_of (λ h. cond (lacks_convention_of h) 6 (cond (lacks_epoch_of h) 7 0)) b
+    by true e = rw e
+    by false e = rw e
+
+pub lowest_cart : (b : List ℕ) → lowest_broken 2 b ≡ lowest_of 8 cart_of (λ b. eqb (word32 b 4) 0) cart_in_rule_of (λ r. 0) b
+unfolding lowest_broken body_in_rule written_in_rule step_in_rule step_of length_of lacks_convention lacks_epoch lacks_duration lowest_of
+lowest_cart b = by (eqb (length b) 8) refl
+  where
+    by : (t : Bool) → eqb (length b) 8 ≡ t → lowest_broken 2 b ≡ lowest_of 8 cart_of (λ b. eqb (word32 b 4) 0) cart_in_rule_of (λ r. 0) b
+    by true e = rw e
+    by false e = rw e
+
+pub lowest_molodensky : (b : List ℕ) → lowest_broken 3 b ≡ lowest_of 56 molodensky_of (λ b. eqb (word32 b 12) 0) molodensky_in_rule_of (λ r. 0) b
+unfolding lowest_broken body_in_rule written_in_rule step_in_rule step_of length_of lacks_convention lacks_epoch lacks_duration lowest_of
+lowest_molodensky b = by (eqb (length b) 56) refl
+  where
+    by : (t : Bool) → eqb (length b) 56 ≡ t → lowest_broken 3 b ≡ lowest_of 56 molodensky_of (λ b. eqb (word32 b 12) 0) molodensky_in_rule_of (λ r. 0) b
+    by true e = rw e
+    by false e = rw e
+
+pub lowest_permtide : (b : List ℕ) → lowest_broken 4 b ≡ lowest_of 24 permtide_of (λ b. eqb (word32 b 12) 0) permtide_in_rule_of (λ r. 0) b
+unfolding lowest_broken body_in_rule written_in_rule step_in_rule step_of length_of lacks_convention lacks_epoch lacks_duration lowest_of
+lowest_permtide b = by (eqb (length b) 24) refl
+  where
+    by : (t : Bool) → eqb (length b) 24 ≡ t → lowest_broken 4 b ≡ lowest_of 24 permtide_of (λ b. eqb (word32 b 12) 0) permtide_in_rule_of (λ r. 0) b
+    by true e = rw e
+    by false e = rw e
+
+pub lowest_deformation : (b : List ℕ) → lowest_broken 5 b ≡ lowest_of 24 deformation_of (λ b. one_nan_at b 8 && one_nan_at b 16) deformation_in_rule_of (λ r. cond (neither_of r) 8 0) b
+unfolding lowest_broken body_in_rule written_in_rule step_in_rule step_of length_of lacks_convention lacks_epoch lacks_duration lowest_of
+lowest_deformation b = by (eqb (length b) 24) refl
+  where
+    by : (t : Bool) → eqb (length b) 24 ≡ t → lowest_broken 5 b ≡ lowest_of 24 deformation_of (λ b. one_nan_at b 8 && one_nan_at b 16) deformation_in_rule_of (λ r. cond (neither_of r) 8 0) b
+    by true e = rw e
+    by false e = rw e
+
+pub lowest_badekas : (b : List ℕ) → lowest_broken 6 b ≡ lowest_of 88 badekas_of (λ b. true) badekas_in_rule_of (λ r. cond (badekas_lacks_convention_of r) 6 0) b
+unfolding lowest_broken body_in_rule written_in_rule step_in_rule step_of length_of lacks_convention lacks_epoch lacks_duration lowest_of
+lowest_badekas b = by (eqb (length b) 88) refl
+  where
+    by : (t : Bool) → eqb (length b) 88 ≡ t → lowest_broken 6 b ≡ lowest_of 88 badekas_of (λ b. true) badekas_in_rule_of (λ r. cond (badekas_lacks_convention_of r) 6 0) b
+    by true e = rw e
+    by false e = rw e

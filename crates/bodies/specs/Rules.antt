@@ -1,6 +1,6 @@
 -- Rule 5 on a body, and rules 5 to 8 on a step. What a record's fields may be is said in the crate
 -- of its kind; here stands what only the bytes show.
-use Rattle.std.specs.Prelude.{ℕ, Bool, true, false, cond, ◌&&◌, List, eqb, length}
+use Rattle.std.specs.Prelude.{ℕ, Bool, true, false, cond, ◌&&◌, List, eqb, length, Option, Some, None}
 use Rattle.words.specs.Words.{word32, one_nan_at}
 use Rattle.helmert.specs.Rules.{fields_in_rule_of, lacks_convention_of, lacks_epoch_of}
 use Rattle.cart.specs.Record.{in_rule_of as cart_in_rule_of}
@@ -79,3 +79,15 @@ lowest_broken kind b =
     (cond (lacks_epoch (step_of kind b)) 7
     (cond (lacks_duration (step_of kind b)) 8 0)))
     5
+
+-- ---- what the code asks of a body, whichever kind it is of
+
+-- a rule's number as an answer, none where it is 0
+unfoldable pub some_rule : ℕ → Option ℕ
+some_rule n = cond (eqb n 0) None (Some n)
+
+-- the lowest rule that a body breaks, by its kind's length, its record, rule 5 on the bytes and on
+-- the record, and the lowest of the later rules
+unfoldable pub lowest_of : {A : Type 0} → ℕ → (List ℕ → A) → (List ℕ → Bool) → (A → Bool) → (A → ℕ) → List ℕ → ℕ
+lowest_of n held written in_rule later b =
+    cond (eqb (length b) n && (written b && in_rule (held b))) (later (held b)) 5

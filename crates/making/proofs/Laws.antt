@@ -20,10 +20,9 @@ use Rattle.bodies.specs.Held.{Held}
 use Rattle.sheet.specs.declared.Entry.{Entry}
 use Rattle.sheet.specs.declared.Sheet.{Sheet}
 use Rattle.sheet.specs.declared.Refusal.{Refusal}
-use Rattle.sheet.specs.declared.Reading.{Reading}
 use Rattle.sheet.specs.Layout.{total_length_of, record_of, blank_sheet}
 use Rattle.sheet_writer.specs.Bytes.{sheet_length, sheet_bytes_of}
-use Rattle.sheet.specs.Rules.{accepted, of_call, refusal_of, reading_of}
+use Rattle.sheet.specs.Rules.{Reading, accepted, of_call, refusal_of, reading_of}
 use Rattle.sheet_writer.specs.Rules.{writer_refusal_of, room_after_of}
 use Rattle.sheet.proofs.Accepted.{Accepted, accepted-keeps}
 use Rattle.sheet.proofs.Back.{bytes-part}

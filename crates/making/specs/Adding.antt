@@ -4,11 +4,9 @@ use Rattle.bodies.specs.declared.Step.{Step}
 use Rattle.sheet.specs.declared.Entry.{Entry}
 use Rattle.sheet.specs.declared.Sheet.{Sheet}
 use Rattle.sheet.specs.declared.Refusal.{Refusal}
-use Rattle.sheet.specs.declared.Reading.{Reading}
 use Rattle.sheet.specs.Layout.{total_length_of, blank_sheet}
-use Rattle.sheet.specs.Rules.{accepted, of_call, reading_of}
+use Rattle.sheet.specs.Rules.{accepted, of_call, Reading, reading_of}
 use Rattle.sheet_writer.specs.Rules.{writer_refusal_of, room_after_of}
-use Rattle.making.specs.declared.Added.{Added}
 
 -- ---- what stands there
 
@@ -36,6 +34,11 @@ with_step_of sheet inverted step =
       count = sheet.count + 1;
       entries = cond (ltb sheet.count 16) (set sheet.entries sheet.count (entry_as inverted step)) sheet.entries;
     }
+
+-- a refusal and the length as it was, or none and the sheet's new length
+pub record Added : Type 0 where
+  pub refusal : Refusal
+  pub length : ℕ
 
 -- what a call answers, and the room afterwards
 pub record AddOutcome : Type 0 where

@@ -11,37 +11,24 @@
 // not for whoever runs one. Used by the exported library.
 #![tactic(auto)]
 
-ghost use Rattle.std.specs.Prelude.{◌≡◌, ◌≤◌};
-ghost use Rattle.making.specs.Adding.{reading_as, standing_of, with_step_of, outcome, written_as, added_of};
+ghost use Rattle.std.specs.Prelude.{◌≡◌, ◌≤◌, length};
+ghost use Rattle.sheet.specs.Layout.{total_length_of};
+ghost use Rattle.sheet.specs.Rules.{unless};
+ghost use Rattle.sheet_writer.specs.Rules.{writer_refusal_of, room_after_of};
+ghost use Rattle.making.specs.Adding.{standing_of, with_step_of, added_of};
 
 use bodies::Step;
-use sheet::{Entry, Reading, Refusal, Sheet};
-
-// A refusal and the length as it was, or none and the sheet's new length.
-#[derive(Clone, Copy)]
-pub struct Added {
-    pub refusal: Refusal,
-    pub length: usize,
-}
-
-fn reading(refusal: Refusal, sheet: Sheet) -> Reading
-    ensures { result ≡ reading_as refusal sheet }
-{
-    Reading {
-        refusal: refusal,
-        sheet: sheet,
-    }
-}
+use sheet::{Entry, Refusal, Sheet};
 
 // What stands in the room's first `len` bytes; of length 0 the record with no step.
-fn standing(room: &[u8], len: usize) -> Reading
-    ensures { result ≡ standing_of room.now len }
+fn standing(room: &[u8], len: usize) -> Result<Sheet, Refusal>
+    ensures { let r = standing_of room.now len in result ≡ unless r.refusal r.sheet }
 {
     if len == 0 {
-        return reading(Refusal::none(), Sheet::blank());
+        return Ok(Sheet::blank());
     }
     if room.len() < len {
-        return reading(Refusal::of_call(1), Sheet::blank());
+        return Err(Refusal::of_call(1));
     }
     sheet::read(&room[..len])
 }
@@ -54,11 +41,10 @@ fn with_step(sheet: Sheet, inverted: u32, step: Step) -> Sheet
     let n = sheet.count;
     let mut entries = sheet.entries;
     if n < 16 {
-        let entry = Entry {
+        entries[n as usize] = Entry {
             inverted: inverted,
             step: step,
         };
-        entries[n as usize] = entry;
     }
     Sheet {
         count: n + 1,
@@ -66,36 +52,21 @@ fn with_step(sheet: Sheet, inverted: u32, step: Step) -> Sheet
     }
 }
 
-// Writes the record, and answers with its length; on refusal with `len`.
-fn written(sheet: Sheet, room: &mut [u8], len: usize) -> Added
-    ensures { outcome result room.new ≡ written_as sheet room.old len }
+// Writes the record, and answers with its length.
+fn written(sheet: Sheet, room: &mut [u8]) -> Result<usize, Refusal>
+    ensures { let after = room_after_of sheet room.old in
+        (result ≡ unless (writer_refusal_of sheet (length room.old)) (total_length_of after)) × (room.new ≡ after) }
 {
-    let refusal = sheet_writer::write(sheet, room);
-    if refusal.number != 0 {
-        return Added {
-            refusal: refusal,
-            length: len,
-        };
-    }
-    Added {
-        refusal: refusal,
-        length: words::wide(words::read32(room, 4)),
-    }
+    sheet_writer::write(sheet, room)?;
+    Ok(words::wide(words::read32(room, 4)))
 }
 
-// Adds a step at the end of the sheet that stands in the room's first `len` bytes, 0 for none yet.
-// On refusal the room holds what it held.
-pub fn add(room: &mut [u8], len: usize, inverted: u32, step: Step) -> Added
-    ensures { outcome result room.new ≡ added_of room.old len inverted step }
+// Adds a step at the end of the sheet that stands in the room's first `len` bytes, 0 for none yet,
+// and answers with the sheet's new length. On refusal the room holds what it held.
+pub fn add(room: &mut [u8], len: usize, inverted: u32, step: Step) -> Result<usize, Refusal>
+    ensures { let o = added_of room.old len inverted step in
+        (result ≡ unless o.answer.refusal o.answer.length) × (room.new ≡ o.room) }
 {
-    let found = standing(room, len);
-    let own = found.refusal;
-    if own.number != 0 {
-        return Added {
-            refusal: own,
-            length: len,
-        };
-    }
-    let sheet = found.sheet;
-    written(with_step(sheet, inverted, step), room, len)
+    let sheet = standing(room, len)?;
+    written(with_step(sheet, inverted, step), room)
 }

@@ -10,9 +10,12 @@ use lib.Dec.{eqb}
 use Rattle.bodies.specs.declared.Step.{Step}
 use Rattle.sheet.specs.declared.Refusal.{Refusal}
 use Rattle.sheet.specs.Layout.{step_count_of, kind_at, step_at}
-use Rattle.sheet.specs.Rules.{Rule, rule, accepted, of_call, of_step, refusal3, refusal5_at, elevens, reader_order, first_broken, refusal_of}
+use Rattle.sheet.specs.Rules.{Rule, rule, accepted, of_call, of_step, refusal3, refusal5_at, elevens, reader_order, first_broken, refusal_of, unless}
 use Rattle.sheet.specs.Given.{Unbroken}
 use Rattle.sheet.proofs.Order.{Without, Numbered, without_rule, without-steps, without_elevens, kept_then, broken_first, all_kept, never_given, count_kept}
+use Rattle.sheet.proofs.Unless.{accepts, refuses}
+use Rattle.std.specs.Prelude.{Result, MatchResult}
+use Rattle.std.proofs.lemmas.Result.{MatchResult-at_ok, MatchResult-at_err}
 use Rattle.profile.specs.Profile.{refusal25, twenty_fives, profile_rules, up_to_eight, profile_order, profile_refusal_of}
 
 -- ---- a turn of the loop
@@ -146,3 +149,25 @@ module _ (s : List ℕ) where
           left-to-profile
           ∙ kept_then (profile_rules profile s) the_elevens (without_profile 0 (λ z. omega arith) profile s) (rw e at h)
           ∙ sym (reader-left kept)
+
+  -- an answer of `check`, and whether it is a refusal by another number than 11
+  module _ {A : Type 0} (x : A) (out : Result A Refusal) (o : out ≡ unless (refusal_of s) x) (other : Bool)
+      (said : MatchResult out (λ y. other ≡ false) (λ e. other ≡ not (eqb e.number 11))) where
+    told : is_other (refusal_of s) ≡ other
+    told = by-case (eqb (refusal_of s).number 0) refl
+      where
+        by-case : (b : Bool) → eqb (refusal_of s).number 0 ≡ b → is_other (refusal_of s) ≡ other
+        by-case true z =
+            let no = MatchResult-at_ok (λ (y : A). other ≡ false) (λ (e : Refusal). other ≡ not (eqb e.number 11)) x (o ∙ accepts (refusal_of s) x (eqb-true _ _ z)) said in
+            rw z (sym no)
+        by-case false z =
+            let is = MatchResult-at_err (λ (y : A). other ≡ false) (λ (e : Refusal). other ≡ not (eqb e.number 11)) (refusal_of s) (o ∙ refuses (refusal_of s) x (eqb-false _ _ z)) said in
+            rw z (sym is)
+
+    -- another refusal answers, whatever the profile
+    pub other-answers : (profile : ℕ) → other ≡ true → profile_refusal_of profile s ≡ refusal_of s
+    other-answers profile e = own-answers profile (refusal_of s) refl (told ∙ e)
+
+    -- else every rule from 1 to 8 is kept
+    pub eight_kept : other ≡ false → (first_broken (up_to_eight s)).number ≡ 0
+    eight_kept e = kept-to-eight (refusal_of s) refl (told ∙ e)

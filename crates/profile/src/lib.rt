@@ -11,9 +11,9 @@
 // and by the exported library.
 #![tactic(auto)]
 
-ghost use Rattle.std.specs.Prelude.{◌≡◌, ◌≤◌};
+ghost use Rattle.std.specs.Prelude.{◌≡◌, ◌≤◌, false, not, eqb, MatchResult};
 ghost use Rattle.sheet.specs.Layout.{step_count_of, step_at};
-ghost use Rattle.sheet.specs.Rules.{first_broken};
+ghost use Rattle.sheet.specs.Rules.{first_broken, unless};
 ghost use Rattle.profile.specs.Profile.{helmert_offends, refusal25, twenty_fives, profile_rules, profile_refusal_of};
 
 use bodies::Step;
@@ -39,55 +39,54 @@ pub fn offends(step: Step) -> bool
     match step {
         Step::Helmert(h) => helmert_offends(h),
         Step::Cart(_) => false,
-        Step::Molodensky(_) => true,
-        Step::Permtide(_) => true,
-        Step::Deformation(_) => true,
-        Step::Badekas(_) => true,
+        Step::Molodensky(_) | Step::Permtide(_) | Step::Deformation(_) | Step::Badekas(_) => true,
     }
 }
 
 // The first of n steps that offends.
-fn first_offence(s: &[u8], n: usize) -> Refusal
+fn first_offence(s: &[u8], n: usize) -> Result<(), Refusal>
     requires { n ≤ 16 }
-    ensures { result ≡ first_broken (twenty_fives (step_at s.now) n 0) }
+    ensures { result ≡ unless (first_broken (twenty_fives (step_at s.now) n 0)) tt }
 {
-    let mut i = 0;
-    while i < n {
+    for i in 0..n {
         let step = bodies::read_body(sheet::kind_at(s, i), sheet::body_at(s, i));
         if offends(step) {
-            return Refusal::of_step(25, i);
+            return Err(Refusal::of_step(25, i));
         }
-        i += 1;
     }
-    Refusal::none()
+    Ok(())
 }
 
 // What a profile says of a sheet of n steps.
-fn judge(s: &[u8], n: usize, profile: u32) -> Refusal
+fn judge(s: &[u8], n: usize, profile: u32) -> Result<(), Refusal>
     requires { (n ≤ 16) × (n ≡ step_count_of s.now) }
-    ensures { result ≡ first_broken (profile_rules profile s.now) }
+    ensures { result ≡ unless (first_broken (profile_rules profile s.now)) tt }
 {
-    if profile == NONE {
-        return Refusal::none();
+    match profile {
+        NONE => Ok(()),
+        CHART => first_offence(s, n),
+        _ => Err(Refusal::of_call(25)),
     }
-    if profile == CHART {
-        return first_offence(s, n);
-    }
-    Refusal::of_call(25)
 }
 
-// The first rule that a sheet breaks under a profile. Of the reader's refusals only 11 waits for
-// the profile's.
-pub fn check(s: &[u8], profile: u32) -> Refusal
-    ensures { result ≡ profile_refusal_of profile s.now }
+// Whether the sheet's own refusal comes before the profile's: of the reader's only 11 waits.
+fn comes_first(own: Result<(), Refusal>) -> bool
+    ensures { MatchResult own (λ _. result ≡ false) (λ refusal. result ≡ not (eqb refusal.number 11)) }
+{
+    match own {
+        Ok(()) => false,
+        Err(refusal) => refusal.number != 11,
+    }
+}
+
+// The first rule that a sheet breaks under a profile.
+pub fn check(s: &[u8], profile: u32) -> Result<(), Refusal>
+    ensures { result ≡ unless (profile_refusal_of profile s.now) tt }
 {
     let own = sheet::check(s);
-    if (own.number != 0) & (own.number != 11) {
+    if comes_first(own) {
         return own;
     }
-    let refusal = judge(s, sheet::step_count(s), profile);
-    if refusal.number != 0 {
-        return refusal;
-    }
+    judge(s, sheet::step_count(s), profile)?;
     own
 }

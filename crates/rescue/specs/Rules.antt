@@ -5,7 +5,6 @@ use Rattle.words.specs.Words.{put}
 use Rattle.bodies.specs.Kinds.{length_of}
 use Rattle.sheet.specs.declared.Refusal.{Refusal}
 use Rattle.sheet.specs.Rules.{Rule, rule, of_call, some_from, reader_order, first_broken}
-use Rattle.rescue.specs.declared.Rescued.{Rescued}
 use Rattle.rescue.specs.Rebuilt.{count_word, kind_word, inverted_word, head_length, start_of, rebuilt_of}
 use Rattle.rescue.specs.Changes.{changes_of, list_of}
 
@@ -45,6 +44,11 @@ rescue_order s room list =
 -- the refusal, of damaged bytes and the lengths of room and list
 unfoldable pub rescue_refusal_of : List ℕ → ℕ → ℕ → Refusal
 rescue_refusal_of s room list = first_broken (rescue_order s room list)
+
+-- no refusal and how many words were changed, or a refusal and 0
+pub record Rescued : Type 0 where
+  pub refusal : Refusal
+  pub changed : ℕ
 
 abbrev pub rescued_as : Refusal → ℕ → Rescued
 rescued_as refusal changed = record { refusal = refusal; changed = changed }

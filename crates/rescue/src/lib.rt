@@ -12,21 +12,15 @@
 // so a call takes 4 kB of stack for it. Used by the exported library and the program sheet_rescue.
 #![tactic(auto)]
 
-ghost use Rattle.std.specs.Prelude.{◌≡◌, ◌+◌, ◌*◌, ◌<◌, ◌≤◌, false, ◌++◌, length};
-ghost use Rattle.words.specs.Words.{le32, put};
+ghost use Rattle.std.specs.Prelude.{◌≡◌, ◌+◌, ◌*◌, ◌<◌, ◌≤◌, false, not, eqb, ◌++◌, length};
+ghost use Rattle.words.specs.Words.{word32, le32, put};
 ghost use Rattle.bodies.specs.Kinds.{length_of};
 ghost use Rattle.rescue.specs.Rebuilt.{count_word, kind_word, inverted_word, head_length, start_of, entry_bytes, directory_bytes, rebuilt_of};
-ghost use Rattle.rescue.specs.Changes.{changed_of, change_at, changes_in, list_of};
-ghost use Rattle.rescue.specs.Rules.{entry_broken, refusal19, rescued_as, outcome, rescue_of};
+ghost use Rattle.rescue.specs.Changes.{changed_of, changes_in, list_of};
+ghost use Rattle.sheet.specs.Rules.{unless};
+ghost use Rattle.rescue.specs.Rules.{entry_broken, refusal19, rescue_of};
 
 use sheet::Refusal;
-
-// No refusal and how many words were changed, or a refusal and 0.
-#[derive(Clone, Copy)]
-pub struct Rescued {
-    pub refusal: Refusal,
-    pub changed: usize,
-}
 
 // ----- what is taken as it stands -------------------------------------------------------------
 
@@ -77,20 +71,19 @@ fn is_lost(s: &[u8]) -> bool
     if s.len() < end {
         return true;
     }
-    let mut i = 0;
-    while i < n {
+    for i in 0..n {
         if entry_broken(s, i) {
             return true;
         }
-        end = end + body_length(s, i);
-        i += 1;
+        end += body_length(s, i);
     }
     end != s.len()
 }
 
 // ----- the rebuilt sheet ----------------------------------------------------------------------
 
-// Four words: the header, or an entry of the directory.
+// Four words: the header, or an entry of the directory. sheet_writer has these lines too: a public
+// function asks nothing of its caller, so one for both would test again what both have proved.
 fn put_words(r: &mut [u8], at: usize, a: u32, b: u32, c: u32, d: u32)
     requires { at + 16 ≤ length r.old }
     ensures { r.new ≡ put r.old at (le32 a ++ le32 b ++ le32 c ++ le32 d) }
@@ -122,11 +115,9 @@ fn put_directory(r: &mut [u8], s: &[u8], n: usize)
     ensures { r.new ≡ put r.old 16 (directory_bytes s.now n) }
 {
     let mut start = 16 + 16 * n;
-    let mut i = 0;
-    while i < n {
+    for i in 0..n {
         put_entry(r, s, i, start);
-        start = start + body_length(s, i);
-        i += 1;
+        start += body_length(s, i);
     }
 }
 
@@ -135,11 +126,8 @@ fn copy(room: &mut [u8], at: usize, bytes: &[u8])
     requires { at + length bytes.now ≤ length room.old }
     ensures { room.new ≡ put room.old at bytes.now }
 {
-    let mut i = 0;
-    while i < bytes.len() {
-        room[at + i] = bytes[i];
-        i += 1;
-    }
+    let end = at + bytes.len();
+    room[at..end].copy_from_slice(bytes);
 }
 
 fn rebuild(r: &mut [u8], s: &[u8])
@@ -156,14 +144,11 @@ fn rebuild(r: &mut [u8], s: &[u8])
 
 // ----- the list -------------------------------------------------------------------------------
 
-// 1 where a word differs, else 0.
-fn differs(s: &[u8], r: &[u8], place: usize) -> usize
-    ensures { (result ≡ length (change_at s.now r.now place)) × (result ≤ 1) }
+// Whether a word differs.
+fn differs(s: &[u8], r: &[u8], place: usize) -> bool
+    ensures { result ≡ not (eqb (word32 s.now place) (word32 r.now place)) }
 {
-    if words::read32(s, place) != words::read32(r, place) {
-        return 1;
-    }
-    0
+    words::read32(s, place) != words::read32(r, place)
 }
 
 // How many of the first n words differ.
@@ -172,10 +157,10 @@ fn count_changes(s: &[u8], r: &[u8], n: usize) -> usize
     ensures { (result ≡ length (changes_in s.now r.now n)) × (result ≤ n) }
 {
     let mut changed = 0;
-    let mut i = 0;
-    while i < n {
-        changed = changed + differs(s, r, 4 * i);
-        i += 1;
+    for i in 0..n {
+        if differs(s, r, 4 * i) {
+            changed += 1;
+        }
     }
     changed
 }
@@ -200,8 +185,7 @@ fn list_changes(list: &mut [u32], s: &[u8], r: &[u8], n: usize)
     ensures { list.new ≡ put list.old 0 (list_of (changes_in s.now r.now n)) }
 {
     let mut at = 0;
-    let mut i = 0;
-    while i < n {
+    for i in 0..n {
         let place = 4 * i;
         at = list_change(
             list,
@@ -210,50 +194,37 @@ fn list_changes(list: &mut [u32], s: &[u8], r: &[u8], n: usize)
             words::read32(s, place),
             words::read32(r, place),
         );
-        i += 1;
     }
 }
 
 // ----- the rescue -----------------------------------------------------------------------------
 
-fn refused(refusal: Refusal) -> Rescued
-    ensures { result ≡ rescued_as refusal 0 }
-{
-    Rescued {
-        refusal: refusal,
-        changed: 0,
-    }
-}
-
 // Gives the rebuilt sheet r and its changes, or refuses them.
-fn give(s: &[u8], r: &[u8], room: &mut [u8], list: &mut [u32]) -> Rescued
+fn give(s: &[u8], r: &[u8], room: &mut [u8], list: &mut [u32]) -> Result<usize, Refusal>
     requires { (refusal19 s.now ≡ false) × (r.now ≡ rebuilt_of s.now) }
-    ensures { outcome result room.new list.new ≡ rescue_of s.now room.old list.old }
+    ensures { let o = rescue_of s.now room.old list.old in
+        (result ≡ unless o.answer.refusal o.answer.changed) × ((room.new ≡ o.room) × (list.new ≡ o.list)) }
 {
     let n = 4 + 4 * words::wide(words::read32(s, 8));
     let changed = count_changes(s, r, n);
     if (room.len() < s.len()) | (list.len() < 3 * changed) {
-        return refused(Refusal::of_call(15));
+        return Err(Refusal::of_call(15));
     }
-    let refusal = sheet::check(r);
-    if refusal.number != 0 {
-        return refused(refusal);
-    }
+    sheet::check(r)?;
     copy(room, 0, r);
     list_changes(list, s, r, n);
-    Rescued {
-        refusal: refusal,
-        changed: changed,
-    }
+    Ok(changed)
 }
 
-// Rebuilds the damaged sheet s at the room's start and lists each word changed: its place, the old
-// number and the new one. On refusal room and list hold what they held.
-pub fn rescue(s: &[u8], room: &mut [u8], list: &mut [u32]) -> Rescued
-    ensures { outcome result room.new list.new ≡ rescue_of s.now room.old list.old }
+// Rebuilds the damaged sheet s at the room's start, lists each word changed: its place, the old
+// number and the new one, and answers with how many were changed. On refusal room and list hold
+// what they held.
+pub fn rescue(s: &[u8], room: &mut [u8], list: &mut [u32]) -> Result<usize, Refusal>
+    ensures { let o = rescue_of s.now room.old list.old in
+        (result ≡ unless o.answer.refusal o.answer.changed) × ((room.new ≡ o.room) × (list.new ≡ o.list)) }
 {
     if is_lost(s) {
-        return refused(Refusal::of_call(19));
+        return Err(Refusal::of_call(19));
     }
     let mut rebuilt = [0u8; 4240];
     rebuild(&mut rebuilt, s);

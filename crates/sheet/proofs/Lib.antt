@@ -1,5 +1,6 @@
 -- What the proofs of this crate share, and the laws that callers cite.
 pub mod Order
+pub mod Unless
 pub mod Entries
 pub mod Examples
 pub mod Each

@@ -2,12 +2,12 @@
 -- when the rule of that number is broken. The order in which they are asked stands in
 -- `reader_order`; an answer is the first that is broken. A record's rules and the writer's order
 -- stand in sheet_writer.
-use Rattle.std.specs.Prelude.{ℕ, zero, suc, ◌+◌, List, [], ◌∷◌, ◌++◌, Bool, false, not, cond, ◌&&◌, ◌||◌, eqb, ltb, length}
+use Rattle.std.specs.Prelude.{ℕ, zero, suc, ◌+◌, List, [], ◌∷◌, ◌++◌, Bool, false, not, cond, ◌&&◌, ◌||◌, eqb, ltb, length, Result, Ok, Err}
 use Rattle.bodies.specs.declared.Step.{Step}
 use Rattle.bodies.specs.Kinds.{length_of}
 use Rattle.bodies.specs.Rules.{body_in_rule, lacks_convention, lacks_epoch, lacks_duration}
 use Rattle.sheet.specs.declared.Refusal.{Refusal}
-use Rattle.sheet.specs.declared.Reading.{Reading}
+use Rattle.sheet.specs.declared.Sheet.{Sheet}
 use Rattle.sheet.specs.Layout.{form_of, total_length_of, step_count_of, directory_offset_of, kind_at, inverted_at, offset_at, length_at, directory_end, body_at, step_at, record_of, blank_sheet}
 
 -- ---- the sheet as a whole
@@ -149,6 +149,14 @@ first_broken (r ∷ rules) = cond r.broken r.answer (first_broken rules)
 unfoldable pub refusal_of : List ℕ → Refusal
 refusal_of s = first_broken (reader_order s)
 
+-- what a function answers: its value, or the refusal where that has a number other than 0
+unfoldable pub unless : {A : Type 0} → Refusal → A → Result A Refusal
+unless r x = cond (eqb r.number 0) (Ok x) (Err r)
+
 -- the record, or the refusal with a blank sheet
+pub record Reading : Type 0 where
+  pub refusal : Refusal
+  pub sheet : Sheet
+
 unfoldable pub reading_of : List ℕ → Reading
 reading_of s = record { refusal = refusal_of s; sheet = cond (eqb (refusal_of s).number 0) (record_of s) blank_sheet }

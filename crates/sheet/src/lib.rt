@@ -12,7 +12,7 @@
 ghost use Rattle.std.specs.Prelude.{◌≡◌, ◌+◌, ◌*◌, ◌<◌, ◌≤◌, length, take, drop};
 ghost use Rattle.words.specs.Words.{word32};
 ghost use Rattle.sheet.specs.Layout.{step_count_of, entry_offset, directory_end, kind_at, inverted_at, offset_at, length_at, body_at, step_at, blank_entry, blank_sheet, entry_at, record_of};
-ghost use Rattle.sheet.specs.Rules.{refusal1, refusal3, refusal4, refusal5_at, end_before, place_broken, of_call, of_index, rules_of_step, five_to_eight, elevens, accepted, first_broken, refusal_of, reading_of};
+ghost use Rattle.sheet.specs.Rules.{refusal1, refusal3, refusal4, refusal5_at, end_before, place_broken, of_call, of_index, rules_of_step, five_to_eight, elevens, accepted, first_broken, refusal_of, unless};
 
 use bodies::Step;
 
@@ -32,18 +32,12 @@ pub struct Sheet {
     pub entries: [Entry; 16],
 }
 
-// A refusal's number and its step, from 1; step 0 is the call as a whole, and number 0 is no
-// refusal.
-#[derive(Clone, Copy)]
+// A refusal's number and its step, from 1; step 0 is the call as a whole. A rule keeps its number:
+// documents 01 and 02, the C interface and every theorem speak of it by that number.
+#[derive(Clone, Copy, PartialEq, Eq, Debug)]
 pub struct Refusal {
     pub number: u32,
     pub step: u32,
-}
-
-#[derive(Clone, Copy)]
-pub struct Reading {
-    pub refusal: Refusal,
-    pub sheet: Sheet,
 }
 
 impl Entry {
@@ -74,7 +68,8 @@ impl Sheet {
 }
 
 impl Refusal {
-    // No refusal.
+    // No refusal: number 0, as the definitions and the C interface write it. A function that may
+    // refuse answers with a `Result` instead.
     pub fn none() -> Self
         ensures { result ≡ accepted }
     {
@@ -263,84 +258,71 @@ fn directory_broken(s: &[u8], n: usize) -> bool
     if s.len() < end {
         return true;
     }
-    let mut i = 0;
-    while i < n {
+    for i in 0..n {
         if place_broken(s, i, end) {
             return true;
         }
         end = end_at(s, i);
-        i += 1;
     }
     end != words::wide(words::read32(s, 4))
 }
 
 // Rules 5 to 8 of the step at index i of a sheet.
-fn check_body(s: &[u8], i: usize) -> Refusal
+fn check_body(s: &[u8], i: usize) -> Result<(), Refusal>
     requires { i < 16 }
-    ensures { result ≡ first_broken (rules_of_step i (refusal5_at s.now i) (step_at s.now i)) }
+    ensures { result ≡ unless (first_broken (rules_of_step i (refusal5_at s.now i) (step_at s.now i))) tt }
 {
-    let number = bodies::lowest_broken(kind_at(s, i), body_at(s, i));
-    if number == 0 {
-        return Refusal::none();
+    match bodies::lowest_broken(kind_at(s, i), body_at(s, i)) {
+        Some(number) => Err(Refusal::of_step(number, i)),
+        None => Ok(()),
     }
-    Refusal::of_step(number, i)
 }
 
 // Step by step 5 to 8.
-fn check_bodies(s: &[u8], n: usize) -> Refusal
+fn check_bodies(s: &[u8], n: usize) -> Result<(), Refusal>
     requires { n ≤ 16 }
-    ensures { result ≡ first_broken (five_to_eight (refusal5_at s.now) (step_at s.now) n 0) }
+    ensures { result ≡ unless (first_broken (five_to_eight (refusal5_at s.now) (step_at s.now) n 0)) tt }
 {
-    let mut i = 0;
-    while i < n {
-        let refusal = check_body(s, i);
-        if refusal.number != 0 {
-            return refusal;
-        }
-        i += 1;
+    for i in 0..n {
+        check_body(s, i)?;
     }
-    Refusal::none()
+    Ok(())
 }
 
 // Rule 11: a second deformation step.
-fn check_kinds(s: &[u8], n: usize) -> Refusal
+fn check_kinds(s: &[u8], n: usize) -> Result<(), Refusal>
     requires { n ≤ 16 }
-    ensures { result ≡ first_broken (elevens (kind_at s.now) n 0) }
+    ensures { result ≡ unless (first_broken (elevens (kind_at s.now) n 0)) tt }
 {
     let mut before = false;
-    let mut i = 0;
-    while i < n {
+    for i in 0..n {
         let deformation = kind_at(s, i) == 5;
         if deformation & before {
-            return Refusal::of_step(11, i);
+            return Err(Refusal::of_step(11, i));
         }
-        before = before | deformation;
-        i += 1;
+        before |= deformation;
     }
-    Refusal::none()
+    Ok(())
 }
 
 // The first rule that a sheet breaks, in the document's order.
-pub fn check(s: &[u8]) -> Refusal
-    ensures { result ≡ refusal_of s.now }
+pub fn check(s: &[u8]) -> Result<(), Refusal>
+    ensures { result ≡ unless (refusal_of s.now) tt }
 {
     if length_broken(s) {
-        return Refusal::of_call(1);
+        return Err(Refusal::of_call(1));
     }
     if words::read32(s, 0) != 1 {
-        return Refusal::of_call(2);
+        return Err(Refusal::of_call(2));
     }
     let n = step_count(s);
     if count_broken(n) {
-        return Refusal::of_call(3);
+        return Err(Refusal::of_call(3));
     }
     if directory_broken(s, n) {
-        return Refusal::of_call(4);
+        return Err(Refusal::of_call(4));
     }
-    let refusal = check_bodies(s, n);
-    if refusal.number != 0 {
-        return refusal;
-    }
+    check_bodies(s, n)?;
     check_kinds(s, n)
 }
 
@@ -352,11 +334,8 @@ fn record(s: &[u8], n: usize) -> Sheet
 {
     let blank = Entry::blank();
     let mut entries = [blank; 16];
-    let mut i = 0;
-    while i < n {
-        let entry = entry_at(s, i);
-        entries[i] = entry;
-        i += 1;
+    for i in 0..n {
+        entries[i] = entry_at(s, i);
     }
     Sheet {
         count: words::read32(s, 8),
@@ -364,21 +343,10 @@ fn record(s: &[u8], n: usize) -> Sheet
     }
 }
 
-// The record, or the refusal with a blank sheet.
-pub fn read(s: &[u8]) -> Reading
-    ensures { result ≡ reading_of s.now }
+// The record, or the refusal.
+pub fn read(s: &[u8]) -> Result<Sheet, Refusal>
+    ensures { result ≡ unless (refusal_of s.now) (record_of s.now) }
 {
-    let refusal = check(s);
-    if refusal.number == 0 {
-        let sheet = record(s, step_count(s));
-        return Reading {
-            refusal: refusal,
-            sheet: sheet,
-        };
-    }
-    let sheet = Sheet::blank();
-    Reading {
-        refusal: refusal,
-        sheet: sheet,
-    }
+    check(s)?;
+    Ok(record(s, step_count(s)))
 }

@@ -14,7 +14,7 @@ ghost use Rattle.words.specs.Words.{le32, put};
 ghost use Rattle.body_writer.specs.Write.{bytes_of};
 ghost use Rattle.sheet.specs.Layout.{entry_offset, directory_end, entry_of, step_in, kind_in};
 ghost use Rattle.sheet_writer.specs.Bytes.{length_in, body_start, sheet_length, place_bytes, directory_bytes, bodies_bytes, sheet_bytes_of};
-ghost use Rattle.sheet.specs.Rules.{some_from, rules_of_step, five_to_eight, elevens, first_broken};
+ghost use Rattle.sheet.specs.Rules.{some_from, rules_of_step, five_to_eight, elevens, first_broken, unless};
 ghost use Rattle.sheet_writer.specs.Rules.{record_refusal5, inverted_broken_in, writer_refusal_of, room_after_of};
 
 use bodies::Step;
@@ -23,23 +23,23 @@ use sheet::{Entry, HEADER, Refusal, Sheet};
 // ----- the rules of a record ---------------------------------------------------------------------
 
 // Rules 5 to 8 of one step, `five` being whether it breaks 5.
-fn check_step(i: usize, five: bool, step: Step) -> Refusal
+fn check_step(i: usize, five: bool, step: Step) -> Result<(), Refusal>
     requires { i < 16 }
-    ensures { result ≡ first_broken (rules_of_step i five step) }
+    ensures { result ≡ unless (first_broken (rules_of_step i five step)) tt }
 {
     if five {
-        return Refusal::of_step(5, i);
+        return Err(Refusal::of_step(5, i));
     }
     if bodies::lacks_convention(step) {
-        return Refusal::of_step(6, i);
+        return Err(Refusal::of_step(6, i));
     }
     if bodies::lacks_epoch(step) {
-        return Refusal::of_step(7, i);
+        return Err(Refusal::of_step(7, i));
     }
     if bodies::lacks_duration(step) {
-        return Refusal::of_step(8, i);
+        return Err(Refusal::of_step(8, i));
     }
-    Refusal::none()
+    Ok(())
 }
 
 // The entry at index i.
@@ -55,68 +55,57 @@ fn inverted_broken(sheet: Sheet, n: usize) -> bool
     requires { n ≤ 16 }
     ensures { result ≡ some_from (inverted_broken_in sheet) n 0 }
 {
-    let mut i = 0;
-    while i < n {
-        let entry = entry_in(sheet, i);
-        if 1 < entry.inverted {
+    for i in 0..n {
+        if 1 < entry_in(sheet, i).inverted {
             return true;
         }
-        i += 1;
     }
     false
 }
 
 // Rules 5 to 8 of the step at index i of a record.
-fn check_entry(sheet: Sheet, i: usize) -> Refusal
+fn check_entry(sheet: Sheet, i: usize) -> Result<(), Refusal>
     requires { i < 16 }
-    ensures { result ≡ first_broken (rules_of_step i (record_refusal5 sheet i) (step_in sheet i)) }
+    ensures { result ≡ unless (first_broken (rules_of_step i (record_refusal5 sheet i) (step_in sheet i))) tt }
 {
-    let entry = entry_in(sheet, i);
-    let step = entry.step;
+    let step = entry_in(sheet, i).step;
     check_step(i, !bodies::step_in_rule(step), step)
 }
 
 // Step by step 5 to 8.
-fn check_entries(sheet: Sheet, n: usize) -> Refusal
+fn check_entries(sheet: Sheet, n: usize) -> Result<(), Refusal>
     requires { n ≤ 16 }
-    ensures { result ≡ first_broken (five_to_eight (record_refusal5 sheet) (step_in sheet) n 0) }
+    ensures { result ≡ unless (first_broken (five_to_eight (record_refusal5 sheet) (step_in sheet) n 0)) tt }
 {
-    let mut i = 0;
-    while i < n {
-        let refusal = check_entry(sheet, i);
-        if refusal.number != 0 {
-            return refusal;
-        }
-        i += 1;
+    for i in 0..n {
+        check_entry(sheet, i)?;
     }
-    Refusal::none()
+    Ok(())
 }
 
 fn kind_in(sheet: Sheet, i: usize) -> u32
     requires { i < 16 }
     ensures { result ≡ kind_in sheet i }
 {
-    let entry = entry_in(sheet, i);
-    let step = entry.step;
-    bodies::kind_of(step)
+    bodies::kind_of(entry_in(sheet, i).step)
 }
 
-// Rule 11 of a record: a second deformation step.
-fn check_steps(sheet: Sheet, n: usize) -> Refusal
+// Rule 11 of a record: a second deformation step. The same walk over bytes is `check_kinds` of
+// sheet: one function for both would take the kind as a closure, and its clauses are longer than
+// the loop.
+fn check_steps(sheet: Sheet, n: usize) -> Result<(), Refusal>
     requires { n ≤ 16 }
-    ensures { result ≡ first_broken (elevens (kind_in sheet) n 0) }
+    ensures { result ≡ unless (first_broken (elevens (kind_in sheet) n 0)) tt }
 {
     let mut before = false;
-    let mut i = 0;
-    while i < n {
+    for i in 0..n {
         let deformation = kind_in(sheet, i) == 5;
         if deformation & before {
-            return Refusal::of_step(11, i);
+            return Err(Refusal::of_step(11, i));
         }
-        before = before | deformation;
-        i += 1;
+        before |= deformation;
     }
-    Refusal::none()
+    Ok(())
 }
 
 // The length of the body of the step at index i.
@@ -133,42 +122,35 @@ fn sheet_length(sheet: Sheet, n: usize) -> usize
     ensures { (result ≡ sheet_length sheet) × (result ≤ 4240) }
 {
     let mut end = sheet::directory_end(sheet.count);
-    let mut i = 0;
-    while i < n {
-        end = end + length_in(sheet, i);
-        i += 1;
+    for i in 0..n {
+        end += length_in(sheet, i);
     }
     end
 }
 
 // The first rule that a record breaks, in the writer's order.
-pub fn check_record(sheet: Sheet, room: usize) -> Refusal
-    ensures { result ≡ writer_refusal_of sheet room }
+pub fn check_record(sheet: Sheet, room: usize) -> Result<(), Refusal>
+    ensures { result ≡ unless (writer_refusal_of sheet room) tt }
 {
     let n = words::wide(sheet.count);
     if sheet::count_broken(n) {
-        return Refusal::of_call(3);
+        return Err(Refusal::of_call(3));
     }
     if inverted_broken(sheet, n) {
-        return Refusal::of_call(4);
+        return Err(Refusal::of_call(4));
     }
-    let refusal = check_entries(sheet, n);
-    if refusal.number != 0 {
-        return refusal;
-    }
-    let second = check_steps(sheet, n);
-    if second.number != 0 {
-        return second;
-    }
+    check_entries(sheet, n)?;
+    check_steps(sheet, n)?;
     if room < sheet_length(sheet, n) {
-        return Refusal::of_call(15);
+        return Err(Refusal::of_call(15));
     }
-    Refusal::none()
+    Ok(())
 }
 
 // ----- the writer ------------------------------------------------------------------------------
 
-// Four words: the header, or a place of the directory.
+// Four words: the header, or a place of the directory. rescue has these lines too: a public function
+// asks nothing of its caller, so one for both would test again what both have proved.
 fn put_words(room: &mut [u8], at: usize, a: u32, b: u32, c: u32, d: u32)
     requires { at + 16 ≤ length room.old }
     ensures { room.new ≡ put room.old at (le32 a ++ le32 b ++ le32 c ++ le32 d) }
@@ -201,11 +183,9 @@ fn put_directory(room: &mut [u8], sheet: Sheet, n: usize)
     ensures { room.new ≡ put room.old 16 (directory_bytes sheet n) }
 {
     let mut start = sheet::directory_end(sheet.count);
-    let mut i = 0;
-    while i < n {
+    for i in 0..n {
         put_place(room, sheet, i, start);
-        start = start + length_in(sheet, i);
-        i += 1;
+        start += length_in(sheet, i);
     }
 }
 
@@ -213,9 +193,7 @@ fn put_body(room: &mut [u8], sheet: Sheet, i: usize, start: usize)
     requires { (i < 16) × (start + length_in sheet i ≤ length room.old) }
     ensures { room.new ≡ put room.old start (bytes_of (step_in sheet i)) }
 {
-    let entry = entry_in(sheet, i);
-    let step = entry.step;
-    body_writer::write_body(room, start, step);
+    body_writer::write_body(room, start, entry_in(sheet, i).step);
 }
 
 fn put_bodies(room: &mut [u8], sheet: Sheet, n: usize)
@@ -223,11 +201,9 @@ fn put_bodies(room: &mut [u8], sheet: Sheet, n: usize)
     ensures { room.new ≡ put room.old (directory_end n) (bodies_bytes sheet n) }
 {
     let mut start = sheet::directory_end(sheet.count);
-    let mut i = 0;
-    while i < n {
+    for i in 0..n {
         put_body(room, sheet, i, start);
-        start = start + length_in(sheet, i);
-        i += 1;
+        start += length_in(sheet, i);
     }
 }
 
@@ -244,13 +220,10 @@ fn put_sheet(room: &mut [u8], sheet: Sheet)
 
 // Writes the sheet's bytes at the room's start and nothing after them. On refusal the room holds
 // what it held.
-pub fn write(sheet: Sheet, room: &mut [u8]) -> Refusal
-    ensures { (result ≡ writer_refusal_of sheet (length room.old)) × (room.new ≡ room_after_of sheet room.old) }
+pub fn write(sheet: Sheet, room: &mut [u8]) -> Result<(), Refusal>
+    ensures { (result ≡ unless (writer_refusal_of sheet (length room.old)) tt) × (room.new ≡ room_after_of sheet room.old) }
 {
-    let refusal = check_record(sheet, room.len());
-    if refusal.number != 0 {
-        return refusal;
-    }
+    check_record(sheet, room.len())?;
     put_sheet(room, sheet);
-    refusal
+    Ok(())
 }

@@ -12,6 +12,8 @@ use lib.Seq.{get_or-append-add, get_or-take, get_or-drop, take_at, drop-drop, dr
 use lib.Ieee.{Float, nan, inf, fin, binary64, of_bits, to_bits, fits, is_nan, of_fields}
 use lib.Ieee.Bits.{of_bits-to_bits, to_bits-lt, to_bits-of_bits}
 use borrow.Author.Tests.{le-leb, lt-leb, eqb-true}
+use Rattle.std.specs.Int.{to_le_bytes, w32}
+use Rattle.std.proofs.Math.Nat.{div-div-eq-div-mul}
 use Rattle.words.specs.Words.{Bytes, word32, word64, number_at, one_nan_at, le32, le64, le_number, put, put_of}
 
 -- past the end a byte reads as 0
@@ -40,6 +42,11 @@ length-le64 n = refl
 pub length-le_number : (x : Float) → length (le_number x) ≡ 8
 unfolding le_number
 length-le_number x = length-le64 (to_bits binary64 x)
+
+-- the bytes that std writes of a word are these
+pub to_le_bytes-is : (n : ℕ) → to_le_bytes w32 n ≡ le32 n
+unfolding le32
+to_le_bytes-is n = rw (div-div-eq-div-mul n 256 256, div-div-eq-div-mul n (256 * 256) 256)
 
 -- ---- sizes
 

@@ -12,6 +12,8 @@ ghost use Rattle.words.specs.Words.{word32, word64, number_at, one_nan_at, le32,
 
 // ----- the same number in a wider type -----------------------------------------------------
 
+// `From` goes neither from `u32` to `usize` nor from `usize` to `u64`, and says no bound: callers'
+// proofs lean on the one here.
 pub fn wide(x: u32) -> usize
     ensures { (result ≡ x) × (result < 4294967296) }
 {
@@ -21,7 +23,7 @@ pub fn wide(x: u32) -> usize
 pub fn wide64(x: u32) -> u64
     ensures { (result ≡ x) × (result < 4294967296) }
 {
-    x as u64
+    u64::from(x)
 }
 
 pub fn long(x: usize) -> u64
@@ -30,21 +32,15 @@ pub fn long(x: usize) -> u64
     x as u64
 }
 
-fn of_byte(x: u8) -> u32
-    ensures { (result ≡ x) × (result < 256) }
-{
-    x as u32
-}
-
 // ----- reading ---------------------------------------------------------------------------
 
 // The byte k places after `at`.
-fn byte(s: &[u8], at: usize, k: usize) -> u32
-    ensures { (result ≡ get_or s.now (at + k) 0) × (result < 256) }
+fn byte(s: &[u8], at: usize, k: usize) -> u8
+    ensures { result ≡ get_or s.now (at + k) 0 }
 {
     if at < s.len() {
         if k < s.len() - at {
-            return of_byte(s[at + k]);
+            return s[at + k];
         }
     }
     0
@@ -55,8 +51,12 @@ fn word(s: &[u8], at: usize, k: usize) -> u32
     requires { k ≤ 4 }
     ensures { result ≡ word32 s.now (at + k) }
 {
-    byte(s, at, k)
-        + 256 * (byte(s, at, k + 1) + 256 * (byte(s, at, k + 2) + 256 * byte(s, at, k + 3)))
+    u32::from_le_bytes([
+        byte(s, at, k),
+        byte(s, at, k + 1),
+        byte(s, at, k + 2),
+        byte(s, at, k + 3),
+    ])
 }
 
 pub fn read32(s: &[u8], at: usize) -> u32
@@ -95,10 +95,8 @@ pub fn put32(room: &mut [u8], at: usize, n: u32)
 {
     if at <= room.len() {
         if 4 <= room.len() - at {
-            room[at] = (n % 256) as u8;
-            room[at + 1] = (n / 256 % 256) as u8;
-            room[at + 2] = (n / 256 / 256 % 256) as u8;
-            room[at + 3] = (n / 256 / 256 / 256 % 256) as u8;
+            let end = at + 4;
+            room[at..end].copy_from_slice(&n.to_le_bytes());
         }
     }
 }

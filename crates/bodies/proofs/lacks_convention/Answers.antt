@@ -1,5 +1,5 @@
--- One case for each variant. Calls are replaced by what they ensure; the definition is left.
--- Assumes nothing.
+-- One case for each kind that the rule asks something of, and one for the others. Assumes nothing.
+use mathlib.Core.Logic.{inl, inr}
 use Rattle.bodies.specs.Rules.{lacks_convention}
 use Rattle.bodies.proofs.lacks_convention.Goals as goal
 
@@ -7,22 +7,10 @@ pub returns-in-Helmert : goal.returns-in-Helmert
 unfolding lacks_convention
 returns-in-Helmert c = rw (c.lacks_convention.ensures, c.in-Helmert.is)
 
-pub returns-in-Cart : goal.returns-in-Cart
-unfolding lacks_convention
-returns-in-Cart c = rw c.in-Cart.is
-
-pub returns-in-Molodensky : goal.returns-in-Molodensky
-unfolding lacks_convention
-returns-in-Molodensky c = rw c.in-Molodensky.is
-
-pub returns-in-Permtide : goal.returns-in-Permtide
-unfolding lacks_convention
-returns-in-Permtide c = rw c.in-Permtide.is
-
-pub returns-in-Deformation : goal.returns-in-Deformation
-unfolding lacks_convention
-returns-in-Deformation c = rw c.in-Deformation.is
-
 pub returns-in-Badekas : goal.returns-in-Badekas
 unfolding lacks_convention
 returns-in-Badekas c = rw (c.lacks_convention-in-Badekas.ensures, c.in-Badekas.is)
+
+pub returns-in-Cart : goal.returns-in-Cart
+unfolding lacks_convention
+returns-in-Cart c = elim c.in-Cart.is [ inl w ↦ rw w.1 | inr u ↦ elim u [ inl w ↦ rw w.1 | inr v ↦ elim v [ inl w ↦ rw w.1 | inr w ↦ rw w.1 ] ] ]

@@ -1,5 +1,5 @@
--- One case for each variant. Calls are replaced by what they ensure; the definition is left.
--- Assumes nothing.
+-- One case for the kind that the rule asks something of, and one for the others. Assumes nothing.
+use mathlib.Core.Logic.{inl, inr}
 use Rattle.bodies.specs.Rules.{lacks_epoch}
 use Rattle.bodies.proofs.lacks_epoch.Goals as goal
 
@@ -9,20 +9,4 @@ returns-in-Helmert c = rw (c.lacks_epoch.ensures, c.in-Helmert.is)
 
 pub returns-in-Cart : goal.returns-in-Cart
 unfolding lacks_epoch
-returns-in-Cart c = rw c.in-Cart.is
-
-pub returns-in-Molodensky : goal.returns-in-Molodensky
-unfolding lacks_epoch
-returns-in-Molodensky c = rw c.in-Molodensky.is
-
-pub returns-in-Permtide : goal.returns-in-Permtide
-unfolding lacks_epoch
-returns-in-Permtide c = rw c.in-Permtide.is
-
-pub returns-in-Deformation : goal.returns-in-Deformation
-unfolding lacks_epoch
-returns-in-Deformation c = rw c.in-Deformation.is
-
-pub returns-in-Badekas : goal.returns-in-Badekas
-unfolding lacks_epoch
-returns-in-Badekas c = rw c.in-Badekas.is
+returns-in-Cart c = elim c.in-Cart.is [ inl w ↦ rw w.1 | inr t ↦ elim t [ inl w ↦ rw w.1 | inr u ↦ elim u [ inl w ↦ rw w.1 | inr v ↦ elim v [ inl w ↦ rw w.1 | inr w ↦ rw w.1 ] ] ] ]

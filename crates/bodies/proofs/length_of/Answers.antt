@@ -1,41 +1,34 @@
--- One case for each way through the tests. The test's outcome picks the definition's case.
--- Assumes nothing.
-use Rattle.bodies.specs.Kinds.{length_of}
+-- One case for each kind, and one for any other number. Assumes nothing.
+use native.Mathlib.Omega.{arith}
 use borrow.Author.Tests.{ne_eqb}
+use Rattle.bodies.specs.Kinds.{length_of}
 use Rattle.bodies.proofs.length_of.Goals as goal
 
-pub returns-then-kind-eq1 : goal.returns-then-kind-eq1
+pub returns-in-1 : goal.returns-in-1
 unfolding length_of
-returns-then-kind-eq1 c = rw c.if-kind-eq1.true
+returns-in-1 c = rw c.in-1.is
 
-pub returns-then-kind-eq2 : goal.returns-then-kind-eq2
+pub returns-in-2 : goal.returns-in-2
 unfolding length_of
-returns-then-kind-eq2 c = rw c.if-kind-eq2.true
+returns-in-2 c = rw c.in-2.is
 
-pub returns-then-kind-eq3 : goal.returns-then-kind-eq3
+pub returns-in-3 : goal.returns-in-3
 unfolding length_of
-returns-then-kind-eq3 c = rw c.if-kind-eq3.true
+returns-in-3 c = rw c.in-3.is
 
-pub returns-then-kind-eq4 : goal.returns-then-kind-eq4
+pub returns-in-4 : goal.returns-in-4
 unfolding length_of
-returns-then-kind-eq4 c = rw c.if-kind-eq4.true
+returns-in-4 c = rw c.in-4.is
 
-pub returns-then-kind-eq5 : goal.returns-then-kind-eq5
+pub returns-in-5 : goal.returns-in-5
 unfolding length_of
-returns-then-kind-eq5 c = rw c.if-kind-eq5.true
+returns-in-5 c = rw c.in-5.is
 
-pub returns-then-kind-eq6 : goal.returns-then-kind-eq6
+pub returns-in-6 : goal.returns-in-6
 unfolding length_of
-returns-then-kind-eq6 c = rw c.if-kind-eq6.true
+returns-in-6 c = rw c.in-6.is
 
-pub returns : goal.returns
+pub returns-in_default : goal.returns-in_default
 unfolding length_of
-returns c =
-    rw (
-      ne_eqb _ 1 c.if-kind-eq1.false,
-      ne_eqb _ 2 c.if-kind-eq2.false,
-      ne_eqb _ 3 c.if-kind-eq3.false,
-      ne_eqb _ 4 c.if-kind-eq4.false,
-      ne_eqb _ 5 c.if-kind-eq5.false,
-      ne_eqb _ 6 c.if-kind-eq6.false,
-    )
+returns-in_default c = let k = c.args.kind in
+    rw (ne_eqb k 1 (λ e. omega (arith, e)), ne_eqb k 2 (λ e. omega (arith, e)), ne_eqb k 3 (λ e. omega (arith, e)), ne_eqb k 4 (λ e. omega (arith, e)), ne_eqb k 5 (λ e. omega (arith, e)), ne_eqb k 6 (λ e. omega (arith, e)))

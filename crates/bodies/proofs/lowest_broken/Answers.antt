@@ -1,35 +1,34 @@
--- One case for each way through the tests. Each by `no_kind_lowest`, from what the calls ensure.
--- Assumes nothing.
-use mathlib.Core.Path.{sym}
+-- One case for each kind, and one for any other number, by `no_kind_lowest`. Assumes nothing.
+use native.Mathlib.Omega.{arith}
+use mathlib.Core.Path.{◌≡◌}
 use borrow.Author.Tests.{ne_eqb}
-use Rattle.bodies.proofs.Laws.{no_kind_lowest}
+use Rattle.bodies.specs.Rules.{lowest_broken, some_rule}
+use Rattle.bodies.proofs.Laws.{lowest_helmert, lowest_cart, lowest_molodensky, lowest_permtide, lowest_deformation, lowest_badekas, no_kind_lowest}
 use Rattle.bodies.proofs.lowest_broken.Goals as goal
 
-pub returns-then-kind-eq1 : goal.returns-then-kind-eq1
-returns-then-kind-eq1 c = rw c.if-kind-eq1.true c.broken_helmert.ensures
+pub returns-in-1 : goal.returns-in-1
+returns-in-1 c = rw (c.in-1.is, lowest_helmert) c.lowest.ensures
 
-pub returns-then-kind-eq2 : goal.returns-then-kind-eq2
-returns-then-kind-eq2 c = rw c.if-kind-eq2.true c.broken_cart.ensures
+pub returns-in-2 : goal.returns-in-2
+returns-in-2 c = rw (c.in-2.is, lowest_cart) c.lowest-in-2.ensures
 
-pub returns-then-kind-eq3 : goal.returns-then-kind-eq3
-returns-then-kind-eq3 c = rw c.if-kind-eq3.true c.broken_molodensky.ensures
+pub returns-in-3 : goal.returns-in-3
+returns-in-3 c = rw (c.in-3.is, lowest_molodensky) c.lowest-in-3.ensures
 
-pub returns-then-kind-eq4 : goal.returns-then-kind-eq4
-returns-then-kind-eq4 c = rw c.if-kind-eq4.true c.broken_permtide.ensures
+pub returns-in-4 : goal.returns-in-4
+returns-in-4 c = rw (c.in-4.is, lowest_permtide) c.lowest-in-4.ensures
 
-pub returns-then-kind-eq5 : goal.returns-then-kind-eq5
-returns-then-kind-eq5 c = rw c.if-kind-eq5.true c.broken_deformation.ensures
+pub returns-in-5 : goal.returns-in-5
+returns-in-5 c = rw (c.in-5.is, lowest_deformation) c.lowest-in-5.ensures
 
-pub returns-then-kind-eq6 : goal.returns-then-kind-eq6
-returns-then-kind-eq6 c = rw c.if-kind-eq6.true c.broken_badekas.ensures
+pub returns-in-6 : goal.returns-in-6
+returns-in-6 c = rw (c.in-6.is, lowest_badekas) c.lowest-in-6.ensures
 
-pub returns : goal.returns
-returns c =
-    sym
-    (no_kind_lowest _ _
-    (ne_eqb _ 1 c.if-kind-eq1.false)
-    (ne_eqb _ 2 c.if-kind-eq2.false)
-    (ne_eqb _ 3 c.if-kind-eq3.false)
-    (ne_eqb _ 4 c.if-kind-eq4.false)
-    (ne_eqb _ 5 c.if-kind-eq5.false)
-    (ne_eqb _ 6 c.if-kind-eq6.false))
+pub returns-in_default : goal.returns-in_default
+unfolding some_rule
+returns-in_default c =
+    let k = c.args.kind in
+    let b = c.args.b.now in
+    let five : lowest_broken k b ≡ 5 =
+    no_kind_lowest k b (ne_eqb k 1 (λ e. omega (arith, e))) (ne_eqb k 2 (λ e. omega (arith, e))) (ne_eqb k 3 (λ e. omega (arith, e))) (ne_eqb k 4 (λ e. omega (arith, e))) (ne_eqb k 5 (λ e. omega (arith, e))) (ne_eqb k 6 (λ e. omega (arith, e))) in
+    rw five

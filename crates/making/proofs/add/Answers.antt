@@ -1,19 +1,27 @@
--- One case for each way through the tests. Each by `few_standing`, from what the calls ensure.
--- Assumes nothing.
-use mathlib.Core.Path.{◌∙◌}
+-- What stands in the room and is refused is handed on, and the room is not touched; else the record
+-- has at most sixteen steps (`few_standing`), and the writer answers. Assumes nothing.
+use mathlib.Core.Path.{refl, sym, ◌∙◌}
 use borrow.Author.Tests.{eq-eqb, ne_eqb}
-use Rattle.making.specs.Adding.{added_of}
+use Rattle.sheet.proofs.Unless.{refuses, else_any, passed, passed_value, failed, hands_on}
+use Rattle.making.specs.Adding.{written_as, added_of}
 use Rattle.making.proofs.Few.{few_standing}
 use Rattle.making.proofs.add.Goals as goal
 
-pub returns-then-own-ne0 : goal.returns-then-own-ne0
+pub returns-in_err-sheet : goal.returns-in_err-sheet
 unfolding added_of
-returns-then-own-ne0 c = rw (← c.standing-found.ensures, ne_eqb _ _ c.if-own-ne0.true)
+returns-in_err-sheet c =
+    let o = c.standing.ensures in
+    let err = c.in_err-sheet.was in
+    let some = failed _ _ o err in
+    rw (ne_eqb _ _ some) (hands_on _ _ o err c.from_residual.ensures.1 ∙ sym (refuses _ _ some), refl)
 
 pub with_step-requires : goal.with_step-requires
-with_step-requires c = rw c.standing-found.ensures (few_standing _ _)
+with_step-requires c = rw (passed_value _ _ c.standing.ensures c.in_ok-sheet.was) (few_standing _ _)
 
 pub returns : goal.returns
-unfolding added_of
+unfolding added_of written_as
 returns c =
-    c.written.ensures ∙ rw (c.with_step.ensures, ← c.standing-found.ensures, eq-eqb _ _ c.if-own-ne0.false)
+    let o = c.standing.ensures in
+    let ok = c.in_ok-sheet.was in
+    let w = c.written.ensures in
+    rw (eq-eqb _ _ (passed _ _ o ok), ← passed_value _ _ o ok, ← c.with_step.ensures) (w.0 ∙ sym (else_any _ _ _), w.1)

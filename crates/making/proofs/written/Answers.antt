@@ -1,17 +1,16 @@
--- One case for each way through the tests. Calls are replaced by what they ensure; the definition
--- is left. Assumes nothing.
-use borrow.Author.Tests.{eq-eqb, ne_eqb}
-use Rattle.making.specs.Adding.{written_as}
+-- What the writer refuses is handed on; else the length is read from the room it left. Assumes
+-- nothing.
+use mathlib.Core.Path.{sym, ◌∙◌}
+use Rattle.sheet.proofs.Unless.{accepts, refuses, passed, failed, hands_on}
 use Rattle.making.proofs.written.Goals as goal
 
-pub returns-then-refusal-ne0 : goal.returns-then-refusal-ne0
-unfolding written_as
-returns-then-refusal-ne0 c =
-    let w = c.write-refusal.ensures in
-    rw (w.1, ← w.0, ne_eqb _ _ c.if-refusal-ne0.true)
+pub returns-in_err-write : goal.returns-in_err-write
+returns-in_err-write c =
+    let o = c.write.ensures.0 in
+    let err = c.in_err-write.was in
+    (hands_on _ _ o err c.from_residual.ensures.1 ∙ sym (refuses _ _ (failed _ _ o err)), c.write.ensures.1)
 
 pub returns : goal.returns
-unfolding written_as
 returns c =
-    let w = c.write-refusal.ensures in
-    rw (c.wide.ensures.0, c.read32.ensures, w.1, ← w.0, eq-eqb _ _ c.if-refusal-ne0.false)
+    let w = c.write.ensures in
+    (rw (c.wide.ensures.0, c.read32.ensures, w.1) (sym (accepts _ _ (passed _ _ w.0 c.in_ok-write.was))), w.1)

@@ -1,23 +1,30 @@
--- One case for each way through the tests: one of 1 to 8 answers (`own-answers`), or all are kept
--- (`kept-to-eight`) and the profile answers (`profile-answers`), or the reader by 11 or not at all
+-- One case for each way through the tests: one of 1 to 8 answers (`other-answers`), or all are kept
+-- (`eight_kept`) and the profile answers (`profile-answers`), or the reader by 11 or not at all
 -- (`reader-answers`). Assumes nothing.
-use mathlib.Core.Path.{sym, ◌∙◌}
-use Rattle.profile.proofs.Judging.{own-answers, kept-to-eight, kept_count, profile-answers, reader-answers}
+use mathlib.Core.Path.{refl, sym, ◌∙◌}
+use Rattle.sheet.proofs.Unless.{refuses, passed, failed, hands_on}
+use Rattle.profile.proofs.Judging.{other-answers, eight_kept, kept_count, profile-answers, reader-answers}
 use Rattle.profile.proofs.check.Goals as goal
 
-pub returns-then-own : goal.returns-then-own
-returns-then-own c = sym (own-answers _ _ _ c.check-own.ensures c.if-own.true)
+pub returns-then-comes_first : goal.returns-then-comes_first
+returns-then-comes_first c =
+    rw (other-answers c.args.s.now tt _ c.check-own.ensures _ c.comes_first.ensures c.args.profile c.if-comes_first.true) c.check-own.ensures
 
-pub judge-refusal-requires : goal.judge-refusal-requires
-judge-refusal-requires c = let count = c.step_count.ensures.0 in
-    let kept = kept-to-eight _ _ c.check-own.ensures c.if-own.false in
+pub judge-requires : goal.judge-requires
+judge-requires c =
+    let count = c.step_count.ensures.0 in
+    let kept = eight_kept c.args.s.now tt _ c.check-own.ensures _ c.comes_first.ensures c.if-comes_first.false in
     (rw count (kept_count _ kept), count)
 
-pub returns-then-refusal-ne0 : goal.returns-then-refusal-ne0
-returns-then-refusal-ne0 c = let kept = kept-to-eight _ _ c.check-own.ensures c.if-own.false in
-    sym (profile-answers _ _ kept _ c.judge-refusal.ensures c.if-refusal-ne0.true)
+pub returns-in_err-judge : goal.returns-in_err-judge
+returns-in_err-judge c =
+    let kept = eight_kept c.args.s.now tt _ c.check-own.ensures _ c.comes_first.ensures c.if-comes_first.false in
+    let o = c.judge.ensures in
+    let err = c.in_err-judge.was in
+    let some = failed _ _ o err in
+    rw (profile-answers _ _ kept _ refl some) (hands_on _ _ o err c.from_residual.ensures.1 ∙ sym (refuses _ tt some))
 
 pub returns : goal.returns
-returns c = let own = c.check-own.ensures in
-    let kept = kept-to-eight _ _ own c.if-own.false in
-    own ∙ sym (reader-answers _ _ kept _ c.judge-refusal.ensures c.if-refusal-ne0.false)
+returns c =
+    let kept = eight_kept c.args.s.now tt _ c.check-own.ensures _ c.comes_first.ensures c.if-comes_first.false in
+    rw (reader-answers _ _ kept _ refl (passed _ _ c.judge.ensures c.in_ok-judge.was)) c.check-own.ensures

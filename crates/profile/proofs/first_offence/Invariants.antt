@@ -1,7 +1,7 @@
 -- Invariant: the first offence among the n steps is the first among the steps from i on
 -- (`twenty_fives`), so the steps before i are let through. A turn at a step that offends returns its
 -- refusal (`offence-off`); any other goes on (`offence-on`). With no step left nothing is refused
--- (`offence-end`). The measure is n - i. Assumes nothing.
+-- (`offence-end`). Assumes nothing.
 use mathlib.Core.Path.{◌≡◌}
 use Prim.Native.Nat.{◌-◌, ◌≤◌}
 use Rattle.sheet.specs.Layout.{step_at}
@@ -11,6 +11,3 @@ use Rattle.profile.proofs.first_offence.Given as goal
 
 abbrev pub invariant-loop-i : goal.invariant-loop-i
 invariant-loop-i l = (l.i ≤ l.n) × (first_broken (twenty_fives (step_at l.s) l.n 0) ≡ first_broken (twenty_fives (step_at l.s) (l.n - l.i) l.i))
-
-abbrev pub decreases-loop-i : goal.decreases-loop-i
-decreases-loop-i l = l.n - l.i

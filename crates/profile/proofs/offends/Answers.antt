@@ -1,5 +1,6 @@
--- One case for each variant. Calls are replaced by what they ensure; the definition is left.
--- Assumes nothing.
+-- One case for Helmert, one for cart and one for the others. Calls are replaced by what they ensure;
+-- the definition is left. Assumes nothing.
+use mathlib.Core.Logic.{inl, inr}
 use Rattle.profile.specs.Profile.{refusal25}
 use Rattle.profile.proofs.offends.Goals as goal
 
@@ -13,16 +14,4 @@ returns-in-Cart c = rw c.in-Cart.is
 
 pub returns-in-Molodensky : goal.returns-in-Molodensky
 unfolding refusal25
-returns-in-Molodensky c = rw c.in-Molodensky.is
-
-pub returns-in-Permtide : goal.returns-in-Permtide
-unfolding refusal25
-returns-in-Permtide c = rw c.in-Permtide.is
-
-pub returns-in-Deformation : goal.returns-in-Deformation
-unfolding refusal25
-returns-in-Deformation c = rw c.in-Deformation.is
-
-pub returns-in-Badekas : goal.returns-in-Badekas
-unfolding refusal25
-returns-in-Badekas c = rw c.in-Badekas.is
+returns-in-Molodensky c = elim c.in-Molodensky.is [ inl w ↦ rw w.1 | inr u ↦ elim u [ inl w ↦ rw w.1 | inr v ↦ elim v [ inl w ↦ rw w.1 | inr w ↦ rw w.1 ] ] ]

@@ -2,16 +2,16 @@
 -- calls ensure. Room and list hold what is put there because the second test was kept. Assumes
 -- nothing.
 use native.Mathlib.Omega.{arith}
-use mathlib.Core.Path.{◌≡◌, sym, ap, ◌∙◌}
+use mathlib.Core.Path.{◌≡◌, refl, sym, ap, ◌∙◌}
 use mathlib.Core.Bool.{true, false, ◌||◌}
 use Prim.Native.Nat.{ℕ, ◌+◌, ◌*◌, ◌≤◌}
 use borrow.Author.Tests.{ltb-false}
 use lib.Dec.{ltb}
 use lib.ListN.{length}
 use Rattle.words.specs.Words.{put}
-use Rattle.sheet.specs.declared.Refusal.{Refusal}
-use Rattle.sheet.specs.Rules.{refusal_of}
+use Rattle.sheet.specs.Rules.{unless}
 use Rattle.sheet.proofs.Order.{neither}
+use Rattle.sheet.proofs.Unless.{accepts, refuses, passed, failed, hands_on}
 use Rattle.rescue.specs.Rebuilt.{count_word, rebuilt_of}
 use Rattle.rescue.specs.Changes.{changes_in, changes_of, list_of}
 use Rattle.rescue.specs.Rules.{refusal15}
@@ -27,7 +27,7 @@ count_changes-changed-requires c =
     omega (arith, c.wide.ensures.0 ∙ c.read32.ensures, ok.few-steps)
 
 pub returns-then-room-s : goal.returns-then-room-s
-unfolding refusal15
+unfolding refusal15 unless
 returns-then-room-s c =
     let a = c.args in
     let s = a.s.now in
@@ -37,11 +37,11 @@ returns-then-room-s c =
     let all : changes_in s a.r.now (4 + 4 * c.wide.result) ≡ changes_of s = changes_are s a.r.now (4 + 4 * c.wide.result) c.requires.1 (ap (λ (c : ℕ). 4 + 4 * c) count) in
     let same : c.count_changes-changed.result ≡ length (changes_of s) = c.count_changes-changed.ensures.0 ∙ ap length all in
     let short : refusal15 s (length room) (length list) ≡ true = ap (λ (c : ℕ). ltb (length room) (length s) || ltb (length list) (3 * c)) (sym same) ∙ c.if-room-s.true in
-    rw (c.refused.ensures, c.of_call.ensures) (sym (gives-15 s room list c.requires.0 short))
+    rw (gives-15 s room list c.requires.0 short, c.of_call.ensures) (refl, (refl, refl))
 
-pub returns-then-refusal-ne0 : goal.returns-then-refusal-ne0
+pub returns-in_err-check : goal.returns-in_err-check
 unfolding refusal15
-returns-then-refusal-ne0 c =
+returns-in_err-check c =
     let a = c.args in
     let s = a.s.now in
     let room = a.room.now in
@@ -50,9 +50,10 @@ returns-then-refusal-ne0 c =
     let all : changes_in s a.r.now (4 + 4 * c.wide.result) ≡ changes_of s = changes_are s a.r.now (4 + 4 * c.wide.result) c.requires.1 (ap (λ (c : ℕ). 4 + 4 * c) count) in
     let same : c.count_changes-changed.result ≡ length (changes_of s) = c.count_changes-changed.ensures.0 ∙ ap length all in
     let fits : refusal15 s (length room) (length list) ≡ false = ap (λ (c : ℕ). ltb (length room) (length s) || ltb (length list) (3 * c)) (sym same) ∙ c.if-room-s.false in
-    let read : c.check-refusal.result ≡ refusal_of (rebuilt_of s) = c.check-refusal.ensures ∙ ap refusal_of c.requires.1 in
-    let number : (refusal_of (rebuilt_of s)).number ≡ 0 → ⊥ = λ e. c.if-refusal-ne0.true (ap (λ (x : Refusal). x.number) read ∙ e) in
-    rw (c.refused-then-refusal-ne0.ensures, read) (sym (gives-reader s room list c.requires.0 fits number))
+    let o = rw c.requires.1 at c.check.ensures in
+    let err = c.in_err-check.was in
+    let some = failed _ _ o err in
+    rw (gives-reader s room list c.requires.0 fits some) (hands_on _ _ o err c.from_residual.ensures.1 ∙ sym (refuses _ _ some), (refl, refl))
 
 pub copy-requires : goal.copy-requires
 copy-requires c =
@@ -85,8 +86,7 @@ returns c =
     let all : changes_in s a.r.now (4 + 4 * c.wide.result) ≡ changes_of s = changes_are s a.r.now (4 + 4 * c.wide.result) c.requires.1 (ap (λ (c : ℕ). 4 + 4 * c) count) in
     let same : c.count_changes-changed.result ≡ length (changes_of s) = c.count_changes-changed.ensures.0 ∙ ap length all in
     let fits : refusal15 s (length room) (length list) ≡ false = ap (λ (c : ℕ). ltb (length room) (length s) || ltb (length list) (3 * c)) (sym same) ∙ c.if-room-s.false in
-    let read : c.check-refusal.result ≡ refusal_of (rebuilt_of s) = c.check-refusal.ensures ∙ ap refusal_of c.requires.1 in
-    let number : (refusal_of (rebuilt_of s)).number ≡ 0 = ap (λ (x : Refusal). x.number) (sym read) ∙ c.if-refusal-ne0.false in
+    let none = passed _ _ (rw c.requires.1 at c.check.ensures) c.in_ok-check.was in
     let sheet : c.copy.new.room ≡ put room 0 (rebuilt_of s) = c.copy.ensures ∙ ap (put room 0) c.requires.1 in
     let changes : c.list_changes.new.list ≡ put list 0 (list_of (changes_of s)) = c.list_changes.ensures ∙ ap (λ l. put list 0 (list_of l)) all in
-    rw (sheet, changes, read, same) (sym (gives-sheet s room list c.requires.0 fits number))
+    rw (gives-sheet s room list c.requires.0 fits none) (rw same (sym (accepts _ _ none)), (sheet, changes))

@@ -1,13 +1,14 @@
 -- Rule 19 first (`gives-19`). Where it is kept the sheet has at most 4,240 bytes (`can_be_rebuilt`), so
 -- the rebuilt sheet is the array's first bytes (`put_stands`), and `give` answers. Assumes nothing.
 use native.Mathlib.Omega.{arith}
-use mathlib.Core.Path.{◌≡◌, sym, ap, ◌∙◌}
+use mathlib.Core.Path.{◌≡◌, refl, sym, ap, ◌∙◌}
 use mathlib.Core.Bool.{true, false}
 use Prim.Native.Nat.{ℕ, ◌+◌, ◌≤◌}
 use mathlib.Core.List.{List}
 use lib.ListN.{length, take, replicate, length-replicate}
 use Rattle.words.proofs.Laws.{length-put}
 use lib.Seq.{length-take-le}
+use Rattle.sheet.specs.Rules.{unless}
 use Rattle.rescue.specs.Rebuilt.{rebuilt_of}
 use Rattle.rescue.specs.Rules.{refusal19}
 use Rattle.rescue.proofs.Rebuildable.{can_be_rebuilt}
@@ -16,10 +17,11 @@ use Rattle.rescue.proofs.Giving.{gives-19}
 use Rattle.rescue.proofs.rescue.Goals as goal
 
 pub returns-then-is_lost : goal.returns-then-is_lost
+unfolding unless
 returns-then-is_lost c =
     let a = c.args in
     let lost : refusal19 a.s.now ≡ true = sym c.is_lost.ensures ∙ c.if-is_lost.true in
-    rw (c.refused.ensures, c.of_call.ensures) (sym (gives-19 a.s.now a.room.now a.list.now lost))
+    rw (gives-19 a.s.now a.room.now a.list.now lost, c.of_call.ensures) (refl, (refl, refl))
 
 pub rebuild-requires : goal.rebuild-requires
 rebuild-requires c =

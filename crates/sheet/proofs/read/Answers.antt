@@ -1,19 +1,20 @@
--- One case for each way through the tests. Each by `accepted_count`, from what the calls ensure.
--- Assumes nothing.
-use borrow.Author.Tests.{eq-eqb, ne_eqb}
-use Rattle.sheet.specs.Rules.{reading_of}
+-- What `check` refuses is handed on; of a sheet that it accepts the step count is in rule
+-- (`accepted_count`), and the record is read. Assumes nothing.
+use mathlib.Core.Path.{sym, ◌∙◌}
 use Rattle.sheet.proofs.Order.{accepted_count}
+use Rattle.sheet.proofs.Unless.{accepts, refuses, passed, failed, hands_on}
 use Rattle.sheet.proofs.read.Goals as goal
 
-pub record-sheet-requires : goal.record-sheet-requires
-record-sheet-requires c = let s = c.args.s.now in
-    let k = accepted_count s (rw c.check-refusal.ensures at c.if-refusal-eq0.true) in
+pub record-requires : goal.record-requires
+record-requires c = let s = c.args.s.now in
+    let k = accepted_count s (passed _ _ c.check.ensures c.in_ok-check.was) in
     (rw c.step_count.ensures.0 k, c.step_count.ensures.0)
 
-pub returns-then-refusal-eq0 : goal.returns-then-refusal-eq0
-unfolding reading_of
-returns-then-refusal-eq0 c = rw (c.record-sheet.ensures, ← c.check-refusal.ensures, eq-eqb _ _ c.if-refusal-eq0.true)
+pub returns-in_err-check : goal.returns-in_err-check
+returns-in_err-check c =
+    let o = c.check.ensures in
+    let err = c.in_err-check.was in
+    hands_on _ _ o err c.from_residual.ensures.1 ∙ sym (refuses _ _ (failed _ _ o err))
 
 pub returns : goal.returns
-unfolding reading_of
-returns c = rw (c.blank-sheet.ensures, ← c.check-refusal.ensures, ne_eqb _ _ c.if-refusal-eq0.false)
+returns c = rw c.record.ensures (sym (accepts _ _ (passed _ _ c.check.ensures c.in_ok-check.was)))

@@ -9,7 +9,7 @@ unfolding entries_from
 loop-i-init c = (omega arith, rw c.blank-blank.ensures)
 
 pub loop-i-preserved : goal.loop-i-preserved
-loop-i-preserved c = (omega arith, rw (c.loop-i.invariant.1, c.entry_at-entry.ensures) (filled_next _ _ (omega arith)))
+loop-i-preserved c = (omega arith, rw (c.loop-i.invariant.1, c.entry_at.ensures) (filled_next _ _ (omega arith)))
 
 pub returns : goal.returns
 unfolding record_of

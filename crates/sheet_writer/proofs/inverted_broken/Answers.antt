@@ -11,16 +11,16 @@ use Rattle.sheet_writer.proofs.inverted_broken.Goals as goal
 pub loop-i-init : goal.loop-i-init
 loop-i-init c = (omega arith, rw sub-zero)
 
-pub returns-then-entry-gt1 : goal.returns-then-entry-gt1
-returns-then-entry-gt1 c = let a = c.args in
+pub returns-then-entry_in-gt1 : goal.returns-then-entry_in-gt1
+returns-then-entry_in-gt1 c = let a = c.args in
     let left : a.n - c.loop-i.i ≡ suc (a.n - (c.loop-i.i + 1)) = omega arith in
-    let at : inverted_broken_in a.sheet c.loop-i.i ≡ true = rw (← c.entry_in-entry.ensures) (lt-ltb _ _ c.if-entry-gt1.true) in
+    let at : inverted_broken_in a.sheet c.loop-i.i ≡ true = rw (← c.entry_in.ensures) (lt-ltb _ _ c.if-entry_in-gt1.true) in
     sym (c.loop-i.invariant.1 ∙ some-off _ _ _ _ left at)
 
 pub loop-i-preserved : goal.loop-i-preserved
 loop-i-preserved c = let a = c.args in
     let left : a.n - c.loop-i.i ≡ suc (a.n - (c.loop-i.i + 1)) = omega arith in
-    let at : inverted_broken_in a.sheet c.loop-i.i ≡ false = rw (← c.entry_in-entry.ensures) (le-ltb _ _ c.if-entry-gt1.false) in
+    let at : inverted_broken_in a.sheet c.loop-i.i ≡ false = rw (← c.entry_in.ensures) (le-ltb _ _ c.if-entry_in-gt1.false) in
     (omega arith, c.loop-i.invariant.1 ∙ some-on _ _ _ _ left at)
 
 pub returns : goal.returns

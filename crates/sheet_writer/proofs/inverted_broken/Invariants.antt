@@ -1,7 +1,7 @@
 -- Invariant: some of the n inverted words is out of rule if and only if one from i on is
 -- (`some_from`, `inverted_broken_in`), so those before i are in rule. A turn that finds one above 1
 -- returns true (`some-off`); any other goes on (`some-on`). With no step left none is out of rule
--- (`some_end`). The measure is n - i. Assumes nothing.
+-- (`some_end`). Assumes nothing.
 use mathlib.Core.Path.{◌≡◌}
 use Prim.Native.Nat.{◌-◌, ◌≤◌}
 use Rattle.sheet_writer.specs.Rules.{inverted_broken_in}
@@ -10,6 +10,3 @@ use Rattle.sheet_writer.proofs.inverted_broken.Given as goal
 
 abbrev pub invariant-loop-i : goal.invariant-loop-i
 invariant-loop-i l = (l.i ≤ l.n) × (some_from (inverted_broken_in l.sheet) l.n 0 ≡ some_from (inverted_broken_in l.sheet) (l.n - l.i) l.i)
-
-abbrev pub decreases-loop-i : goal.decreases-loop-i
-decreases-loop-i l = l.n - l.i

@@ -2,4 +2,4 @@
 use Rattle.sheet_writer.proofs.kind_in.Goals as goal
 
 pub returns : goal.returns
-returns c = rw (c.kind_of.ensures, c.entry_in-entry.ensures)
+returns c = rw (c.kind_of.ensures, c.entry_in.ensures)

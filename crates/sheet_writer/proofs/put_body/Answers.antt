@@ -13,4 +13,4 @@ pub returns : goal.returns
 returns c =
     let a = c.args in
     let fits : a.start + length (bytes_of (step_in a.sheet a.i)) ≤ length a.room.now = rw bytes-length c.requires.1 in
-    rw c.entry_in-entry.ensures at c.write_body.ensures ∙ put-fits _ _ _ fits
+    rw c.entry_in.ensures at c.write_body.ensures ∙ put-fits _ _ _ fits

@@ -1,23 +1,16 @@
--- One case for each return. Each by `put-fits`, `put_too_long` and `put_four`. Assumes nothing.
+-- The word's bytes (`to_le_bytes-is`) copied into the part that is lent are a put (`put-part`); where
+-- they do not fit nothing is (`put_too_long`). Assumes nothing.
 use native.Mathlib.Omega.{arith}
-use lib.ListN.{length-set}
-use Rattle.words.specs.Words.{le32}
 use mathlib.Core.Path.{sym, ◌∙◌}
-use Rattle.words.proofs.Laws.{put-fits, put_too_long, put_four}
+use Rattle.words.specs.Words.{le32}
+use Rattle.words.proofs.Laws.{to_le_bytes-is, length-le32, put-part, put_too_long}
 use Rattle.words.proofs.put32.Goals as goal
 
-pub bounds-room-at-then-room-at-ge4 : goal.bounds-room-at-then-room-at-ge4
-bounds-room-at-then-room-at-ge4 c = simp length-set (omega arith)
-
-pub bounds-room-at-then-room-at-ge4-2 : goal.bounds-room-at-then-room-at-ge4-2
-bounds-room-at-then-room-at-ge4-2 c = simp length-set (omega arith)
-
-pub bounds-room-at-then-room-at-ge4-3 : goal.bounds-room-at-then-room-at-ge4-3
-bounds-room-at-then-room-at-ge4-3 c = simp length-set (omega arith)
-
 pub returns-then-room-at-ge4 : goal.returns-then-room-at-ge4
-unfolding le32
-returns-then-room-at-ge4 c = put_four _ _ _ _ _ _ (omega arith) ∙ sym (put-fits _ _ _ (omega arith))
+returns-then-room-at-ge4 c =
+    let a = c.args in
+    let copied = c.copy_from_slice.ensures.after ∙ c.to_le_bytes.ensures ∙ to_le_bytes-is a.n in
+    put-part a.room.now a.at 4 (le32 a.n) copied (length-le32 a.n) (omega arith)
 
 pub returns-else-room-at-ge4 : goal.returns-else-room-at-ge4
 unfolding le32

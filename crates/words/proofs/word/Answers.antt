@@ -1,4 +1,4 @@
--- By arithmetic on the bounds at hand. Assumes nothing.
+-- By arithmetic on what each byte is worth. Assumes nothing.
 use native.Mathlib.Omega.{arith}
 use native.Mathlib.Nat.{add_assoc}
 use Rattle.words.specs.Words.{word32}

@@ -4,7 +4,7 @@ use mathlib.Core.Path.{ap}
 use lib.ListN.{length-take}
 use lib.Seq.{take_all}
 use Rattle.bodies.specs.Read.{badekas_of}
-use Rattle.bodies.proofs.badekas_fields.Goals as goal
+use Rattle.bodies.proofs.BadekasBody.fields.Goals as goal
 
 pub slice_bounds-body-end : goal.slice_bounds-body-end
 slice_bounds-body-end c = simp length-take (omega arith)
