@@ -110,13 +110,13 @@ fn put_refused(room: &mut [u8], at: usize, number: u32, step: u32) -> usize
 pub fn answer(s: &[u8], sheet: &mut [u8], list: &mut [u32], room: &mut [u8]) -> usize
     ensures { text room.new result ≡ appended (text room.old 0) (rescue_text s.now (length sheet.old) (length list.old)) }
 {
-    let rescued = rescue::rescue(s, sheet, list);
-    let refusal = rescued.refusal;
-    if refusal.number != 0 {
-        return put_refused(room, 0, refusal.number, refusal.step);
+    match rescue::rescue(s, sheet, list) {
+        Ok(changed) => {
+            let n = s.len();
+            put_rescued(room, 0, list, changed, &sheet[..n])
+        }
+        Err(refusal) => put_refused(room, 0, refusal.number, refusal.step),
     }
-    let n = s.len();
-    put_rescued(room, 0, list, rescued.changed, &sheet[..n])
 }
 
 // Rescues the damaged sheet s and answers how long the mended sheet is; refused, 0.
@@ -124,10 +124,8 @@ pub fn mend(s: &[u8], sheet: &mut [u8], list: &mut [u32]) -> usize
     ensures { (result ≡ cond (eqb (rescue_refusal_of s.now (length sheet.old) (length list.old)).number 0) (length s.now) 0)
         × ((result ≤ length sheet.new) × (sheet.new ≡ (rescue_of s.now sheet.old list.old).room)) }
 {
-    let rescued = rescue::rescue(s, sheet, list);
-    let refusal = rescued.refusal;
-    if refusal.number != 0 {
-        return 0;
+    match rescue::rescue(s, sheet, list) {
+        Ok(_) => s.len(),
+        Err(_) => 0,
     }
-    s.len()
 }

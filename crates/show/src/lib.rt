@@ -191,9 +191,8 @@ fn put_refused(room: &mut [u8], at: usize, s: &[u8], number: u32, step: u32) -> 
 pub fn put_sheet(room: &mut [u8], at: usize, s: &[u8]) -> usize
     ensures { text room.new result ≡ appended (text room.old at) (show_text s.now) }
 {
-    let refusal = sheet::check(s);
-    if refusal.number == 0 {
-        return put_accepted(room, at, s);
+    match sheet::check(s) {
+        Ok(()) => put_accepted(room, at, s),
+        Err(refusal) => put_refused(room, at, s, refusal.number, refusal.step),
     }
-    put_refused(room, at, s, refusal.number, refusal.step)
 }
