@@ -18,7 +18,6 @@ use Rattle.tuple.specs.declared.Tuple.{Tuple}
 use Rattle.tuple.specs.Sums.{nan_tuple}
 use Rattle.helmert.specs.declared.State.{State}
 use Rattle.bodies.specs.declared.Step.{Step}
-use Rattle.bodies.specs.declared.Step.TheVariants.{Cart, Permtide, Deformation, Molodensky, Badekas, Helmert}
 use Rattle.lists.specs.Flat.{four_of, numbers_of}
 use Rattle.lists.specs.Run.{Turns, ran_of, count_of}
 use Rattle.sheet.specs.declared.Entry.{Entry}
@@ -27,20 +26,21 @@ use Rattle.sheet.specs.Layout.{step_count_of, kind_at, entry_at}
 use Rattle.sheet.specs.Rules.{accepted, of_call, first_broken, has_deformation, refusal_of}
 use Rattle.sheet.proofs.Order.{not_zero, accepted_count}
 use Rattle.plans.specs.Lent.{lent_of}
-use Rattle.chain.specs.declared.Answer.{Answer}
 use Rattle.tally.specs.declared.Tally.{Tally}
 use Rattle.tally.specs.Tallies.{no_tally}
 use Rattle.plans.specs.Passes.{Pass, meets, tally_of}
 use Rattle.chain.specs.Chain.{turns_of, met_of, pass_of, state_of, step_list_of, tuples_counted_of, tuples_met_of, step_tally_of, chain_forward_of, chain_inverse_of, chain_of, places_of, entries_of}
-use Rattle.chain.specs.Rules.{refusal9, refusal10, shift_refusal_of, outcome, refused_answer, ran_outcome, outcome_of, shift_of}
+use Rattle.chain.specs.Rules.{Answer, refusal9, refusal10, shift_refusal_of, outcome, refused_answer, ran_outcome, outcome_of, shift_of}
 use Rattle.chain.proofs.Laws.{Forward, Backward, forward_start, forward-again, forward-end, backward_start, backward-again, backward-end}
-use Rattle.thin.specs.declared.Plan.{Plan}
-use Rattle.thin.specs.declared.Carried.{Carried}
+use Rattle.plans.specs.declared.Plan.{Plan}
+use Rattle.plans.specs.declared.Standing.{Standing}
+use Rattle.plans.specs.Plans.{plan_of, plan_turns_of, plan_met_of, plan_pass_of}
+use Rattle.chain.proofs.Windows.{plan_turns, plan_met}
 use Rattle.thin.specs.declared.Turned.{Turned}
 use Rattle.thin.specs.declared.Todo.{Todo}
 use Rattle.thin.specs.Tuples.{tuples_of, counted_among, tuples_tally_of, flat_of}
-use Rattle.thin.specs.Plans.{plan_of, plan_turns_of, plan_met_of, plan_pass_of, starts_of, tallied, turn_of}
-use Rattle.thin.specs.Sheets.{step_index_of, todo_of, thin_refusal_of, steps_of, noted_of}
+use Rattle.thin.specs.Plans.{tallied, turn_of}
+use Rattle.thin.specs.Sheets.{step_index_of, todo_of, thin_refusal_of, steps_of}
 
 -- ---- the same numbers as a flat list
 
@@ -77,47 +77,15 @@ flat_injective us ws e = sym (tuples_in_flat us) ∙ ap tuples_in e ∙ tuples_i
 
 -- ---- a plan makes of every tuple what its step makes of it
 
-pub plan_turns : (velocities : List Float) (marks : List ℕ) (inverse : Bool) (step : Step) → plan_turns_of velocities marks (plan_of inverse step) ≡ turns_of inverse (lent_of velocities marks []) step
-unfolding plan_of
-plan_turns velocities marks true (Cart r) = refl
-plan_turns velocities marks false (Cart r) = refl
-plan_turns velocities marks true (Permtide r) = refl
-plan_turns velocities marks false (Permtide r) = refl
-plan_turns velocities marks inverse (Deformation r) = refl
-plan_turns velocities marks inverse (Molodensky r) = refl
-plan_turns velocities marks inverse (Helmert h) = refl
-plan_turns velocities marks inverse (Badekas r) = refl
-
-pub plan_met : (velocities : List Float) (marks : List ℕ) (inverse : Bool) (step : Step) → plan_met_of marks (plan_of inverse step) ≡ met_of inverse (lent_of velocities marks []) step
-unfolding plan_of
-plan_met velocities marks true (Cart r) = refl
-plan_met velocities marks false (Cart r) = refl
-plan_met velocities marks true (Permtide r) = refl
-plan_met velocities marks false (Permtide r) = refl
-plan_met velocities marks inverse (Deformation r) = refl
-plan_met velocities marks inverse (Molodensky r) = refl
-plan_met velocities marks inverse (Helmert h) = refl
-plan_met velocities marks inverse (Badekas r) = refl
-
-pub plan_pass : (velocities : List Float) (marks : List ℕ) (inverse : Bool) (step : Step) → plan_pass_of velocities marks (plan_of inverse step) ≡ pass_of inverse (lent_of velocities marks []) step
+pub plan_pass : (velocities : List Float) (marks : List ℕ) (inverse : Bool) (step : Step) → plan_pass_of (lent_of velocities marks []) (plan_of inverse step) ≡ pass_of inverse (lent_of velocities marks []) step
 plan_pass velocities marks inverse step =
-    let et = plan_turns velocities marks inverse step in
-    let em = plan_met velocities marks inverse step in
+    let lent = lent_of velocities marks [] in
+    let et = plan_turns lent inverse step in
+    let em = plan_met inverse lent step in
     λ j. record { turns = et j; met = em j }
 
-pub plan_starts : (inverse : Bool) (step : Step) → starts_of (plan_of inverse step) ≡ state_of step
-unfolding plan_of
-plan_starts true (Cart r) = refl
-plan_starts false (Cart r) = refl
-plan_starts true (Permtide r) = refl
-plan_starts false (Permtide r) = refl
-plan_starts inverse (Deformation r) = refl
-plan_starts inverse (Molodensky r) = refl
-plan_starts inverse (Helmert h) = refl
-plan_starts inverse (Badekas r) = refl
-
-pub turn_is : (velocities : List Float) (marks : List ℕ) (plan : Plan) (k : ℕ) (at : Carried) (u : Tuple)
-    → turn_of velocities marks plan k at u ≡ tallied at (plan_turns_of velocities marks plan k at.state u) (plan_met_of marks plan k at.state u)
+pub turn_is : (velocities : List Float) (marks : List ℕ) (plan : Plan) (k : ℕ) (at : Standing) (u : Tuple)
+    → turn_of velocities marks plan k at u ≡ tallied at (plan_turns_of (lent_of velocities marks []) plan k at.state u) (plan_met_of (lent_of velocities marks []) plan k at.state u)
 unfolding turn_of
 turn_is velocities marks plan k at u = refl
 
@@ -125,7 +93,7 @@ turn_is velocities marks plan k at u = refl
 
 -- the invariant at index i: what stands before it and what the run makes from there on are the run
 -- of the whole list, and so are the tallies
-pub record Walked (p : Pass) (start : State) (ys : List Tuple) (i : ℕ) (at : Carried) (zs : List Tuple) : Type 0 where
+pub record Walked (p : Pass) (start : State) (ys : List Tuple) (i : ℕ) (at : Standing) (zs : List Tuple) : Type 0 where
   pub within : i ≤ length ys
   pub long : length zs ≡ length ys
   pub run : take i zs ++ tuples_of p.turns i at.state (drop i zs) ≡ tuples_of p.turns 0 start ys
@@ -144,28 +112,30 @@ walk_start p start ys =
       few = (omega arith, omega arith);
     }
 
-pub walk_again : {p : Pass} {start : State} {ys : List Tuple} {i : ℕ} {at : Carried} {zs : List Tuple} {r : Turned} → i < length zs
+pub walk_again : {p : Pass} {start : State} {ys : List Tuple} {i : ℕ} {at : Standing} {zs : List Tuple} {r : Turned} → i < length ys
     → r ≡ tallied at (p.turns i at.state (get_or zs i nan_tuple)) (p.met i at.state (get_or zs i nan_tuple))
     → Walked p start ys i at zs → Walked p start ys (i + 1) r.carried (set zs i r.tuple)
 walk_again {p} {start} {ys} {i} {at} {zs} {r} h e now =
     let u = get_or zs i nan_tuple in
+    let room : i < length zs = rw now.long h in
     let after : drop (suc i) (set zs i r.tuple) ≡ drop (suc i) zs = drop-set-lt (suc i) zs i r.tuple (omega arith) in
     record {
-      within = omega (arith, h, now.long);
+      within = omega (arith, h);
       long = length-set zs i r.tuple ∙ now.long;
-      run = rw (add-one, take-suc-set zs i r.tuple h, after, e, append_assoc) (rw (drop-cons zs i nan_tuple h) at now.run);
-      counted = rw (add-one, after, e, add_assoc at.tally.count) (rw (drop-cons zs i nan_tuple h) at now.counted);
-      met = rw (add-one, after, e, add_assoc at.tally.met) (rw (drop-cons zs i nan_tuple h) at now.met);
+      run = rw (add-one, take-suc-set zs i r.tuple room, after, e, append_assoc) (rw (drop-cons zs i nan_tuple room) at now.run);
+      counted = rw (add-one, after, e, add_assoc at.tally.count) (rw (drop-cons zs i nan_tuple room) at now.counted);
+      met = rw (add-one, after, e, add_assoc at.tally.met) (rw (drop-cons zs i nan_tuple room) at now.met);
       few = rw e (omega (arith, at_most_one (p.turns i at.state u).counted, now.few.0), omega (arith, at_most_one (p.met i at.state u), now.few.1));
     }
 
-pub walk_end : {p : Pass} {start : State} {ys : List Tuple} {i : ℕ} {at : Carried} {zs : List Tuple} → length zs ≤ i → Walked p start ys i at zs
+pub walk_end : {p : Pass} {start : State} {ys : List Tuple} {i : ℕ} {at : Standing} {zs : List Tuple} → length ys ≤ i → Walked p start ys i at zs
     → (zs ≡ tuples_of p.turns 0 start ys) × (at.tally ≡ tuples_tally_of p 0 start ys)
 walk_end {p} {start} {ys} {i} {at} {zs} h now =
-    let none : drop i zs ≡ [] = drop_of_length-le zs h in
+    let past : length zs ≤ i = rw now.long h in
+    let none : drop i zs ≡ [] = drop_of_length-le zs past in
     let ec : at.tally.count ≡ counted_among p.turns 0 start ys = rw (none, add-zero at.tally.count) at now.counted in
     let em : at.tally.met ≡ counted_among (meets p) 0 start ys = rw (none, add-zero at.tally.met) at now.met in
-    (rw (take_all i zs h, none, append-nil) at now.run, λ j. record { count = ec j; met = em j })
+    (rw (take_all i zs past, none, append-nil) at now.run, λ j. record { count = ec j; met = em j })
 
 -- ---- a sheet's steps over the records: the flat entry's laws, of the same numbers
 
@@ -332,6 +302,15 @@ pub record Going (inverse : Bool) (s : List ℕ) (velocities : List Float) (mark
   pub long : length zs ≡ length ys
   pub ahead : Ahead inverse velocities marks (entry_at s) n (flat_of ys) i (flat_of zs) answer.tallies
 
+-- the answer of a call with some tallies so far
+abbrev pub answering : Refusal → List Tally → Answer
+answering refusal tallies = record { refusal = refusal; tallies = tallies }
+
+-- a call that is not refused runs every step
+pub all_steps : (s : List ℕ) (refusal : Refusal) (n : ℕ) → refusal.number ≡ 0 → n ≡ step_count_of s → n ≡ steps_of s refusal
+unfolding steps_of
+all_steps s refusal n none e = rw (e, eq-eqb refusal.number 0 none)
+
 pub going_few : (s : List ℕ) (velocities : List Float) (marks : List ℕ) (ys : List Tuple) (refusal : Refusal) (n : ℕ) → refusal ≡ thin_refusal_of s (length ys) velocities marks → n ≡ steps_of s refusal → n ≤ 16
 going_few s velocities marks ys refusal n er en = rw (en, er) (steps-few s (length ys) velocities marks)
 
@@ -346,8 +325,7 @@ module _ (inverse : Bool) (s : List ℕ) (velocities : List Float) (marks : List
 
   pub going-again : (i : ℕ) (zs zs' : List Tuple) (answer answer' : Answer) (todo : Todo) (tally : Tally) → i < n → todo ≡ todo_of inverse s n i → length zs' ≡ length zs
       → (zs' ≡ tuples_of (turns_of todo.inverse (lent_of velocities marks []) todo.step) 0 (state_of todo.step) zs) × (tally ≡ tuples_tally_of (pass_of todo.inverse (lent_of velocities marks []) todo.step) 0 (state_of todo.step) zs)
-      → answer' ≡ noted_of answer todo.place tally → Going inverse s velocities marks ys refusal n i zs answer → Going inverse s velocities marks ys refusal n (i + 1) zs' answer'
-  unfolding noted_of
+      → answer' ≡ record { refusal = answer.refusal; tallies = set answer.tallies todo.place tally } → Going inverse s velocities marks ys refusal n i zs answer → Going inverse s velocities marks ys refusal n (i + 1) zs' answer'
   going-again i zs zs' answer answer' todo tally h et el ran ea now =
       let el' = todo-list inverse s velocities marks n i todo zs zs' tally et ran.0 ran.1 in
       let ec = todo-tally inverse s velocities marks n i todo zs zs' tally et ran.0 ran.1 in

@@ -1,12 +1,10 @@
 -- What the loop over a sheet's steps goes by: the rules, how many steps are run, which comes next
--- and in which direction, and where its tally stands.
-use Rattle.std.specs.Prelude.{ℕ, ◌*◌, ◌-◌, Bool, cond, List, eqb, set, replicate, Float}
+-- and in which direction.
+use Rattle.std.specs.Prelude.{ℕ, ◌*◌, ◌-◌, Bool, cond, List, eqb, replicate, Float}
 use Rattle.std.specs.Float.{nan}
 use Rattle.sheet.specs.declared.Refusal.{Refusal}
 use Rattle.sheet.specs.Layout.{step_count_of, kind_at, entry_at}
 use Rattle.sheet.specs.Rules.{has_deformation, refusal_of}
-use Rattle.tally.specs.declared.Tally.{Tally}
-use Rattle.chain.specs.declared.Answer.{Answer}
 use Rattle.chain.specs.Chain.{reversed_of}
 use Rattle.chain.specs.Rules.{shift_refusal_of}
 use Rattle.thin.specs.declared.Todo.{Todo}
@@ -30,7 +28,3 @@ unfoldable pub todo_of : Bool → List ℕ → ℕ → ℕ → Todo
 todo_of inverse s n i =
     let entry = entry_at s (step_index_of inverse n i) in
     record { place = step_index_of inverse n i; inverse = reversed_of inverse entry; step = entry.step }
-
--- a step's tally in its place
-unfoldable pub noted_of : Answer → ℕ → Tally → Answer
-noted_of answer place tally = record { refusal = answer.refusal; tallies = set answer.tallies place tally }

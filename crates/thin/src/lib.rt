@@ -9,154 +9,60 @@
 // every input: the list and the tally of `run_step` are the step's own definition from tuple to
 // tuple, and what `shift` answers and leaves are, number for number, what `chain::shift` answers
 // and leaves on the same numbers as a flat list (proofs/Flat.antt). No rounding but the steps' own.
-// Each of the two loops has one invariant (`Walked`, `Going`); a further kind of step is a case of
-// Plan, with a line each in `plan_of`, `start_of` and `turn`. For callers who hold their fixes as
-// records.
+// Each of the two loops has one invariant (`Walked`, `Going`). The step is made ready as the chain's
+// loops have it (`plans::Plan`), and a further kind of step is a case in `turn`. For callers who hold
+// their fixes as records.
 #![tactic(auto)]
 
 ghost use Rattle.std.specs.Prelude.{◌≡◌, true, false, ◌<◌};
-ghost use Rattle.helmert.specs.Turns.{no_state};
-ghost use Rattle.chain.specs.Rules.{refused_answer, outcome, shift_of};
+ghost use Rattle.sheet.specs.Rules.{unless};
+ghost use Rattle.chain.specs.Rules.{handed_out, shift_of};
 ghost use Rattle.thin.specs.Tuples.{step_tuples_of, step_tuples_tally_of, flat_of};
-ghost use Rattle.thin.specs.Plans.{plan_of, starts_of, begin_of, tallied, turn_of};
-ghost use Rattle.thin.specs.Sheets.{step_index_of, todo_of, thin_refusal_of, steps_of, noted_of};
+ghost use Rattle.thin.specs.Plans.{begin_of, tallied, turn_of};
+ghost use Rattle.thin.specs.Sheets.{step_index_of, todo_of, thin_refusal_of};
 
 use blocks::one_if;
 use bodies::Step;
-use cart::Inverse;
-use chain::Answer;
-use deformation::Motion;
-use ellipsoid::Ellipsoid;
-use helmert::{Shift, State};
-use molodensky::Moped;
-use permtide::Tide;
-use rotation::Vec3;
+use helmert::State;
+use plans::{Plan, Standing};
 use sheet::Refusal;
 use tally::Tally;
 use tuple::Tuple;
 
-// A step made ready: what depends on the record alone is worked out once a list.
-#[derive(Clone, Copy)]
-pub enum Plan {
-    CartForward(Ellipsoid),
-    CartInverse(Inverse),
-    PermtideForward(Tide),
-    PermtideInverse(Tide),
-    MolodenskyEither(Moped, bool),
-    DeformationEither(Motion, bool),
-    HelmertEither(Shift, bool),
-}
-
-// What a loop carries from one tuple to the next: Helmert's state, how many tuples counted and how
-// many met an angle out of reach.
-#[derive(Clone, Copy)]
-pub struct Carried {
-    pub state: State,
-    pub tally: Tally,
-}
-
+// One tuple further: where the step stands after it, and what the tuple became.
 #[derive(Clone, Copy)]
 pub struct Turned {
-    pub carried: Carried,
+    pub carried: Standing,
     pub tuple: Tuple,
-}
-
-// ----- a step made ready -----------------------------------------------------------------
-
-fn plan_of(inverse: bool, step: Step) -> Plan
-    ensures { result ≡ plan_of inverse step }
-{
-    match step {
-        Step::Cart(r) => {
-            let ellps = Ellipsoid::named(r.ellipsoid);
-            if inverse {
-                return Plan::CartInverse(Inverse::new(ellps));
-            }
-            return Plan::CartForward(ellps);
-        }
-        Step::Permtide(r) => {
-            let op = Tide::new(r);
-            if inverse {
-                return Plan::PermtideInverse(op);
-            }
-            return Plan::PermtideForward(op);
-        }
-        Step::Deformation(r) => {
-            return Plan::DeformationEither(Motion::new(r), r.directed(inverse));
-        }
-        Step::Molodensky(r) => {
-            return Plan::MolodenskyEither(Moped::new(r), inverse);
-        }
-        Step::Helmert(h) => {
-            return Plan::HelmertEither(helmert::prepare(h), inverse);
-        }
-        Step::Badekas(r) => {
-            return Plan::HelmertEither(badekas::prepare(r), inverse);
-        }
-    }
-}
-
-// No state: NaN and zeros, which no step but Helmert's reads.
-fn no_state() -> State
-    ensures { result ≡ no_state }
-{
-    State {
-        last: 0.0 / 0.0,
-        t: Vec3 {
-            x: 0.0,
-            y: 0.0,
-            z: 0.0,
-        },
-    }
-}
-
-fn start_of(plan: Plan) -> State
-    ensures { result ≡ starts_of plan }
-{
-    match plan {
-        Plan::CartForward(_) => no_state(),
-        Plan::CartInverse(_) => no_state(),
-        Plan::PermtideForward(_) => no_state(),
-        Plan::PermtideInverse(_) => no_state(),
-        Plan::MolodenskyEither(_, _) => no_state(),
-        Plan::DeformationEither(_, _) => no_state(),
-        Plan::HelmertEither(shift, _) => helmert::start(shift),
-    }
-}
-
-fn begin(plan: Plan) -> Carried
-    ensures { result ≡ begin_of plan }
-{
-    let state = start_of(plan);
-    let tally = tally::none();
-    Carried {
-        state: state,
-        tally: tally,
-    }
 }
 
 // ----- one tuple -------------------------------------------------------------------------
 
-fn carried_on(at: Carried, state: State, tuple: Tuple, counted: bool, met: bool) -> Turned
-    requires { (at.tally.count < 18446744073709551615) × (at.tally.met < 18446744073709551615) }
-    ensures { result ≡ tallied at (record { state = state; tuple = tuple; counted = counted }) met }
+// Where a plan stands at the start of a list.
+fn begin(plan: Plan) -> Standing
+    ensures { result ≡ begin_of plan }
 {
-    let before = at.tally;
-    let tally = Tally {
-        count: before.count + one_if(counted),
-        met: before.met + one_if(met),
-    };
-    let carried = Carried {
-        state: state,
-        tally: tally,
-    };
-    Turned {
-        carried: carried,
-        tuple: tuple,
+    Standing {
+        state: plans::start(plan),
+        tally: tally::none(),
     }
 }
 
-fn turn(plan: Plan, at: Carried, k: usize, u: Tuple, velocities: &[f64], marks: &[u8]) -> Turned
+fn carried_on(at: Standing, state: State, tuple: Tuple, counted: bool, met: bool) -> Turned
+    requires { (at.tally.count < 18446744073709551615) × (at.tally.met < 18446744073709551615) }
+    ensures { result ≡ tallied at (record { state = state; tuple = tuple; counted = counted }) met }
+{
+    let tally = Tally {
+        count: at.tally.count + one_if(counted),
+        met: at.tally.met + one_if(met),
+    };
+    Turned {
+        carried: Standing { state, tally },
+        tuple,
+    }
+}
+
+fn turn(plan: Plan, at: Standing, k: usize, u: Tuple, velocities: &[f64], marks: &[u8]) -> Turned
     requires { (at.tally.count < 18446744073709551615) × (at.tally.met < 18446744073709551615) }
     ensures { result ≡ turn_of velocities.now marks.now plan k at u }
 {
@@ -164,46 +70,46 @@ fn turn(plan: Plan, at: Carried, k: usize, u: Tuple, velocities: &[f64], marks: 
     match plan {
         Plan::CartForward(ellps) => {
             let r = cart::cart_fwd(ellps, u);
-            return carried_on(at, state, r.tuple, r.counted, reach::place_out(u.x, u.y));
+            carried_on(at, state, r.tuple, r.counted, reach::place_out(u.x, u.y))
         }
         Plan::CartInverse(c) => {
             let r = cart::cart_inv(c, u);
-            return carried_on(at, state, r.tuple, r.counted, false); // it takes no sine
+            carried_on(at, state, r.tuple, r.counted, false) // it takes no sine
         }
-        Plan::PermtideForward(op) => {
-            let v = permtide::fwd(op, u);
-            return carried_on(at, state, v, true, reach::out_of_reach(u.y));
-        }
-        Plan::PermtideInverse(op) => {
-            let v = permtide::inv(op, u);
-            return carried_on(at, state, v, true, reach::out_of_reach(u.y));
+        Plan::PermtideEither(op, inverse) => {
+            let v = if inverse {
+                permtide::inv(op, u)
+            } else {
+                permtide::fwd(op, u)
+            };
+            carried_on(at, state, v, true, reach::out_of_reach(u.y))
         }
         Plan::MolodenskyEither(op, inverse) => {
             let v = molodensky::common(op, inverse, u);
-            return carried_on(
+            carried_on(
                 at,
                 state,
                 v,
                 true,
                 reach::offsets_out(op.abridged, u.x, u.y),
-            );
+            )
         }
         Plan::DeformationEither(op, inverse) => {
             let v = turns::velocity_at(velocities, k);
             let mark = turns::mark_at(marks, k);
             let r = deformation::common(op, inverse, v, mark, u);
-            return carried_on(at, state, r.tuple, r.counted, reach::moved_met(op, mark, u));
+            carried_on(at, state, r.tuple, r.counted, reach::moved_met(op, mark, u))
         }
         Plan::HelmertEither(shift, inverse) => {
             let r = helmert::step(shift, inverse, state, u);
             let counted = helmert::counted(shift, u);
-            return carried_on(
+            carried_on(
                 at,
                 r.state,
                 r.tuple,
                 counted,
                 reach::helmert_met(shift, state, u),
-            );
+            )
         }
     }
 }
@@ -222,14 +128,12 @@ pub fn run_step(
     ensures { (list.new ≡ step_tuples_of inverse velocities.now marks.now step list.old)
         × (result ≡ step_tuples_tally_of inverse velocities.now marks.now step list.old) }
 {
-    let plan = plan_of(inverse, step);
+    let plan = plans::plan_of_step(inverse, step);
     let mut at = begin(plan);
-    let mut i = 0;
-    while i < list.len() {
+    for i in 0..list.len() {
         let r = turn(plan, at, i, list[i], velocities, marks);
         list[i] = r.tuple;
         at = r.carried;
-        i += 1;
     }
     at.tally
 }
@@ -259,85 +163,45 @@ fn next_step(inverse: bool, s: &[u8], n: usize, i: usize) -> Todo
 {
     let place = place_of(inverse, n, i);
     let entry = sheet::entry_at(s, place);
-    let step = entry.step;
-    let reversed = chain::reversed(inverse, entry);
     Todo {
-        place: place,
-        inverse: reversed,
-        step: step,
+        place,
+        inverse: chain::reversed(inverse, entry),
+        step: entry.step,
     }
 }
 
 // The rules in document 01's order: the sheet's own, then 9, then 10.
-fn refusal_of(s: &[u8], tuples: usize, velocities: &[f64], marks: &[u8]) -> Refusal
-    ensures { result ≡ thin_refusal_of s.now tuples velocities.now marks.now }
+fn judge(s: &[u8], tuples: usize, velocities: &[f64], marks: &[u8]) -> Result<(), Refusal>
+    ensures { result ≡ unless (thin_refusal_of s.now tuples velocities.now marks.now) tt }
 {
-    let own = sheet::check(s);
-    if own.number != 0 {
-        return own;
-    }
+    sheet::check(s)?;
     if 2048 < tuples {
-        return Refusal::of_call(9);
+        return Err(Refusal::of_call(9));
     }
     if chain::lent_broken(chain::has_deformation(s), 4 * tuples, velocities, marks) {
-        return Refusal::of_call(10);
+        return Err(Refusal::of_call(10));
     }
-    Refusal::none()
+    Ok(())
 }
 
-// How many steps are run: none of a refused call.
-fn steps_of(s: &[u8], refusal: Refusal) -> usize
-    ensures { result ≡ steps_of s.now refusal }
-{
-    if refusal.number == 0 {
-        return sheet::step_count(s);
-    }
-    0
-}
-
-// No tallies yet.
-fn answer_of(refusal: Refusal) -> Answer
-    ensures { result ≡ refused_answer refusal }
-{
-    let tallies = [tally::none(); 16];
-    Answer {
-        refusal: refusal,
-        tallies: tallies,
-    }
-}
-
-fn noted(answer: Answer, place: usize, tally: Tally) -> Answer
-    requires { place < 16 }
-    ensures { result ≡ noted_of answer place tally }
-{
-    let mut tallies = answer.tallies;
-    let refusal = answer.refusal;
-    tallies[place] = tally;
-    Answer {
-        refusal: refusal,
-        tallies: tallies,
-    }
-}
-
-// A sheet's bytes over a list of tuples.
+// A sheet's bytes over a list of tuples: each step's tally in the sheet's order, and zeros in the
+// other places; or the refusal.
 pub fn shift(
     inverse: bool,
     s: &[u8],
     list: &mut [Tuple],
     velocities: &[f64],
     marks: &[u8],
-) -> Answer
-    ensures { outcome result (flat_of list.new) ≡ shift_of inverse s.now (flat_of list.old) velocities.now marks.now }
+) -> Result<[Tally; 16], Refusal>
+    ensures { (result ≡ handed_out (shift_of inverse s.now (flat_of list.old) velocities.now marks.now).answer)
+        × (flat_of list.new ≡ (shift_of inverse s.now (flat_of list.old) velocities.now marks.now).list) }
 {
-    let refusal = refusal_of(s, list.len(), velocities, marks);
-    let n = steps_of(s, refusal);
-    let mut answer = answer_of(refusal);
-    let mut i = 0;
-    while i < n {
+    judge(s, list.len(), velocities, marks)?;
+    let n = sheet::step_count(s);
+    let mut tallies = [tally::none(); 16];
+    for i in 0..n {
         let e = next_step(inverse, s, n, i);
-        let tally = run_step(list, e.inverse, e.step, velocities, marks);
-        answer = noted(answer, e.place, tally);
-        i += 1;
+        tallies[e.place] = run_step(list, e.inverse, e.step, velocities, marks);
     }
-    answer
+    Ok(tallies)
 }

@@ -2,4 +2,4 @@
 use Rattle.thin.proofs.begin.Goals as goal
 
 pub returns : goal.returns
-returns c = rw (c.none-tally.ensures, c.start_of-state.ensures)
+returns c = rw (c.none.ensures, c.start.ensures)

@@ -4,4 +4,4 @@ use Rattle.thin.proofs.next_step.Goals as goal
 
 pub returns : goal.returns
 unfolding todo_of
-returns c = rw (c.reversed-reversed.ensures, c.entry_at-entry.ensures, c.place_of-place.ensures)
+returns c = rw (c.reversed.ensures, c.entry_at-entry.ensures, c.place_of-place.ensures)

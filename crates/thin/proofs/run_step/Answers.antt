@@ -1,7 +1,10 @@
 use mathlib.Core.Path.{ap, ◌∙◌}
 use Rattle.thin.specs.Tuples.{tuples_of, tuples_tally_of}
-use Rattle.thin.specs.Plans.{plan_pass_of, starts_of}
-use Rattle.thin.proofs.Laws.{plan_pass, plan_starts, turn_is, walk_start, walk_again, walk_end}
+use mathlib.Core.List.{[]}
+use Rattle.plans.specs.Lent.{lent_of}
+use Rattle.plans.specs.Plans.{plan_pass_of, plan_start_of}
+use Rattle.chain.proofs.Windows.{plan_start}
+use Rattle.thin.proofs.Laws.{plan_pass, turn_is, walk_start, walk_again, walk_end}
 use Rattle.thin.proofs.run_step.Goals as goal
 
 pub loop-i-init : goal.loop-i-init
@@ -18,6 +21,6 @@ returns c =
     let v = a.velocities.now in
     let m = a.marks.now in
     let end = walk_end c.loop-i-test.false c.loop-i.invariant in
-    let same = ap (plan_pass_of v m) c.plan_of-plan.ensures ∙ plan_pass v m a.inverse a.step in
-    let from_start = ap starts_of c.plan_of-plan.ensures ∙ plan_starts a.inverse a.step in
+    let same = ap (plan_pass_of (lent_of v m [])) c.plan_of_step-plan.ensures ∙ plan_pass v m a.inverse a.step in
+    let from_start = ap plan_start_of c.plan_of_step-plan.ensures ∙ plan_start a.inverse a.step in
     (end.0 ∙ (λ j. tuples_of (same j).turns 0 (from_start j) a.list.now), end.1 ∙ (λ j. tuples_tally_of (same j) 0 (from_start j) a.list.now))

@@ -2,6 +2,7 @@
 -- Assumes nothing.
 use Rattle.thin.specs.Plans.{turn_of}
 use Rattle.thin.proofs.turn.Goals as goal
+use Rattle.thin.proofs.turn.Goals.{then-inverse, else-inverse}
 
 pub returns-in-CartForward : goal.returns-in-CartForward
 unfolding turn_of
@@ -11,13 +12,13 @@ pub returns-in-CartInverse : goal.returns-in-CartInverse
 unfolding turn_of
 returns-in-CartInverse c = rw (c.in-CartInverse.is, c.carried_on-in-CartInverse.ensures, c.cart_inv-r.ensures)
 
-pub returns-in-PermtideForward : goal.returns-in-PermtideForward
+pub returns-after-inverse : goal.returns-after-inverse
 unfolding turn_of
-returns-in-PermtideForward c = rw (c.in-PermtideForward.is, c.carried_on-in-PermtideForward.ensures, c.out_of_reach.ensures, c.fwd-v.ensures)
-
-pub returns-in-PermtideInverse : goal.returns-in-PermtideInverse
-unfolding turn_of
-returns-in-PermtideInverse c = rw (c.in-PermtideInverse.is, c.carried_on-in-PermtideInverse.ensures, c.out_of_reach-in-PermtideInverse.ensures, c.inv-v.ensures)
+returns-after-inverse c =
+    elim c.if-inverse.branch [
+      | then-inverse w ↦ rw (c.in-PermtideEither.is, c.carried_on-in-PermtideEither.ensures, c.out_of_reach.ensures, w.v-is, w.inv-v.ensures, w.if-inverse.true)
+      | else-inverse w ↦ rw (c.in-PermtideEither.is, c.carried_on-in-PermtideEither.ensures, c.out_of_reach.ensures, w.v-is, w.fwd-v.ensures, w.if-inverse.false)
+    ]
 
 pub returns-in-MolodenskyEither : goal.returns-in-MolodenskyEither
 unfolding turn_of
