@@ -5,21 +5,23 @@ use mathlib.Core.Path.{◌≡◌, sym, ap, ◌∙◌}
 use mathlib.Core.Bool.{Bool}
 use mathlib.Core.List.{List, []}
 use lib.Ieee.{Float}
+use Rattle.std.specs.Prelude.{Result}
 use Rattle.tuple.specs.declared.Tuple.{Tuple}
 use Rattle.cart.specs.declared.Cart.{Cart}
 use Rattle.helmert.specs.declared.Helmert.{Helmert}
 use Rattle.helmert.specs.Modes.{prepare_of, start_of}
 use Rattle.bodies.specs.declared.Step.TheVariants.{Cart as cart_step, Helmert as helmert_step}
 use Rattle.sheet.specs.declared.Entry.{Entry}
+use Rattle.sheet.specs.declared.Refusal.{Refusal}
+use Rattle.tally.specs.declared.Tally.{Tally}
 use Rattle.lists.specs.Run.{ran_of}
 use Rattle.helmert.specs.Turns.{no_state, helmert_turns}
 use Rattle.turns.specs.Turns.{cart_turns}
 use Rattle.plans.specs.Lent.{lent_of}
-use Rattle.chain.specs.declared.Answer.{Answer}
 use Rattle.reach.specs.Met.{cart_met, helmert_met}
 use Rattle.plans.specs.Passes.{tally_of}
 use Rattle.chain.specs.Chain.{reversed_of, pass_of, state_of, step_list_of, tuples_counted_of, tuples_met_of, step_tally_of}
-use Rattle.chain.specs.Rules.{Outcome, outcome}
+use Rattle.chain.specs.Rules.{Answer, Outcome, outcome, handed_out}
 use Rattle.thin.specs.Tuples.{flat_of, step_tuples_of, step_tuples_tally_of}
 use Rattle.thin.proofs.Laws.{flat_tuples, flat_tally, flat_injective}
 
@@ -54,3 +56,7 @@ module _ (inverse : Bool) (velocities : List Float) (marks : List ℕ) (us : Lis
 pub one_outcome : (answer answer' : Answer) (us us' : List Tuple) (given : Outcome) → outcome answer (flat_of us) ≡ given → outcome answer' (flat_of us') ≡ given → (answer ≡ answer') × (us ≡ us')
 one_outcome answer answer' us us' given e e' =
     (ap (λ (r : Outcome). r.answer) (e ∙ sym e'), flat_injective us us' (ap (λ (r : Outcome). r.list) (e ∙ sym e')))
+
+pub one_handed_out : (result result' : Result (List Tally) Refusal) (us us' : List Tuple) (given : Outcome)
+    → (result ≡ handed_out given.answer) × (flat_of us ≡ given.list) → (result' ≡ handed_out given.answer) × (flat_of us' ≡ given.list) → (result ≡ result') × (us ≡ us')
+one_handed_out result result' us us' given e e' = (e.0 ∙ sym e'.0, flat_injective us us' (e.1 ∙ sym e'.1))

@@ -26,12 +26,11 @@ use Rattle.sheet.specs.Layout.{step_count_of, kind_at, entry_at}
 use Rattle.sheet.specs.Rules.{accepted, of_call, first_broken, has_deformation, refusal_of}
 use Rattle.sheet.proofs.Order.{not_zero, accepted_count}
 use Rattle.plans.specs.Lent.{lent_of}
-use Rattle.chain.specs.declared.Answer.{Answer}
 use Rattle.tally.specs.declared.Tally.{Tally}
 use Rattle.tally.specs.Tallies.{no_tally}
 use Rattle.plans.specs.Passes.{Pass, meets, tally_of}
 use Rattle.chain.specs.Chain.{turns_of, met_of, pass_of, state_of, step_list_of, tuples_counted_of, tuples_met_of, step_tally_of, chain_forward_of, chain_inverse_of, chain_of, places_of, entries_of}
-use Rattle.chain.specs.Rules.{refusal9, refusal10, shift_refusal_of, outcome, refused_answer, ran_outcome, outcome_of, shift_of}
+use Rattle.chain.specs.Rules.{Answer, refusal9, refusal10, shift_refusal_of, outcome, refused_answer, ran_outcome, outcome_of, shift_of}
 use Rattle.chain.proofs.Laws.{Forward, Backward, forward_start, forward-again, forward-end, backward_start, backward-again, backward-end}
 use Rattle.plans.specs.declared.Plan.{Plan}
 use Rattle.plans.specs.declared.Standing.{Standing}
@@ -302,6 +301,15 @@ pub record Going (inverse : Bool) (s : List ℕ) (velocities : List Float) (mark
   pub told : answer.refusal ≡ refusal
   pub long : length zs ≡ length ys
   pub ahead : Ahead inverse velocities marks (entry_at s) n (flat_of ys) i (flat_of zs) answer.tallies
+
+-- the answer of a call with some tallies so far
+abbrev pub answering : Refusal → List Tally → Answer
+answering refusal tallies = record { refusal = refusal; tallies = tallies }
+
+-- a call that is not refused runs every step
+pub all_steps : (s : List ℕ) (refusal : Refusal) (n : ℕ) → refusal.number ≡ 0 → n ≡ step_count_of s → n ≡ steps_of s refusal
+unfolding steps_of
+all_steps s refusal n none e = rw (e, eq-eqb refusal.number 0 none)
 
 pub going_few : (s : List ℕ) (velocities : List Float) (marks : List ℕ) (ys : List Tuple) (refusal : Refusal) (n : ℕ) → refusal ≡ thin_refusal_of s (length ys) velocities marks → n ≡ steps_of s refusal → n ≤ 16
 going_few s velocities marks ys refusal n er en = rw (en, er) (steps-few s (length ys) velocities marks)

@@ -15,14 +15,14 @@
 #![tactic(auto)]
 
 ghost use Rattle.std.specs.Prelude.{◌≡◌, true, false, ◌<◌};
-ghost use Rattle.chain.specs.Rules.{refused_answer, outcome, shift_of};
+ghost use Rattle.sheet.specs.Rules.{unless};
+ghost use Rattle.chain.specs.Rules.{handed_out, shift_of};
 ghost use Rattle.thin.specs.Tuples.{step_tuples_of, step_tuples_tally_of, flat_of};
 ghost use Rattle.thin.specs.Plans.{begin_of, tallied, turn_of};
-ghost use Rattle.thin.specs.Sheets.{step_index_of, todo_of, thin_refusal_of, steps_of};
+ghost use Rattle.thin.specs.Sheets.{step_index_of, todo_of, thin_refusal_of};
 
 use blocks::one_if;
 use bodies::Step;
-use chain::Answer;
 use helmert::State;
 use plans::{Plan, Standing};
 use sheet::Refusal;
@@ -171,59 +171,37 @@ fn next_step(inverse: bool, s: &[u8], n: usize, i: usize) -> Todo
 }
 
 // The rules in document 01's order: the sheet's own, then 9, then 10.
-fn refusal_of(s: &[u8], tuples: usize, velocities: &[f64], marks: &[u8]) -> Refusal
-    ensures { result ≡ thin_refusal_of s.now tuples velocities.now marks.now }
+fn judge(s: &[u8], tuples: usize, velocities: &[f64], marks: &[u8]) -> Result<(), Refusal>
+    ensures { result ≡ unless (thin_refusal_of s.now tuples velocities.now marks.now) tt }
 {
-    let own = sheet::check(s);
-    if own.number != 0 {
-        return own;
-    }
+    sheet::check(s)?;
     if 2048 < tuples {
-        return Refusal::of_call(9);
+        return Err(Refusal::of_call(9));
     }
     if chain::lent_broken(chain::has_deformation(s), 4 * tuples, velocities, marks) {
-        return Refusal::of_call(10);
+        return Err(Refusal::of_call(10));
     }
-    Refusal::none()
+    Ok(())
 }
 
-// How many steps are run: none of a refused call.
-fn steps_of(s: &[u8], refusal: Refusal) -> usize
-    ensures { result ≡ steps_of s.now refusal }
-{
-    if refusal.number == 0 {
-        sheet::step_count(s)
-    } else {
-        0
-    }
-}
-
-// No tallies yet.
-fn answer_of(refusal: Refusal) -> Answer
-    ensures { result ≡ refused_answer refusal }
-{
-    Answer {
-        refusal,
-        tallies: [tally::none(); 16],
-    }
-}
-
-// A sheet's bytes over a list of tuples.
+// A sheet's bytes over a list of tuples: each step's tally in the sheet's order, and zeros in the
+// other places; or the refusal.
 pub fn shift(
     inverse: bool,
     s: &[u8],
     list: &mut [Tuple],
     velocities: &[f64],
     marks: &[u8],
-) -> Answer
-    ensures { outcome result (flat_of list.new) ≡ shift_of inverse s.now (flat_of list.old) velocities.now marks.now }
+) -> Result<[Tally; 16], Refusal>
+    ensures { (result ≡ handed_out (shift_of inverse s.now (flat_of list.old) velocities.now marks.now).answer)
+        × (flat_of list.new ≡ (shift_of inverse s.now (flat_of list.old) velocities.now marks.now).list) }
 {
-    let refusal = refusal_of(s, list.len(), velocities, marks);
-    let n = steps_of(s, refusal);
-    let mut answer = answer_of(refusal);
+    judge(s, list.len(), velocities, marks)?;
+    let n = sheet::step_count(s);
+    let mut tallies = [tally::none(); 16];
     for i in 0..n {
         let e = next_step(inverse, s, n, i);
-        answer.tallies[e.place] = run_step(list, e.inverse, e.step, velocities, marks);
+        tallies[e.place] = run_step(list, e.inverse, e.step, velocities, marks);
     }
-    answer
+    Ok(tallies)
 }
