@@ -10,14 +10,18 @@ use lib.Dec.{eqb, ltb}
 use lib.ListN.{length, take, drop, length-drop}
 use lib.Seq.{take_all}
 use lib.Ieee.{Float}
-use borrow.Author.Tests.{ltb-false, eqb-true, eqb-false, not-false, lt-ltb, le-ltb}
+use borrow.Author.Tests.{ltb-false, eq-eqb, ne_eqb, eqb-true, eqb-false, not-false, lt-ltb, le-ltb}
+use Rattle.std.specs.Prelude.{Result, Ok, Err}
 use Rattle.sheet.specs.declared.Entry.{Entry}
+use Rattle.sheet.specs.declared.Refusal.{Refusal}
 use Rattle.sheet.specs.Layout.{step_count_of, kind_at, entry_at}
 use Rattle.sheet.specs.Rules.{refusal_of, has_deformation}
 use Rattle.sheet.proofs.Order.{neither, accepted_count}
+use Rattle.sheet.proofs.Unless.{at_ok, at_err}
+use Rattle.tally.specs.declared.Tally.{Tally}
 use Rattle.plans.specs.Lent.{Lent, lent_of}
 use Rattle.chain.specs.Chain.{chain_forward_of, chain_inverse_of, chain_of, entries_of, step_list_of}
-use Rattle.chain.specs.Rules.{Outcome, shift_of, outcome_of, shift_refusal_of, refusal9}
+use Rattle.chain.specs.Rules.{Outcome, handed_out, shift_of, outcome_of, shift_refusal_of, refusal9}
 use Rattle.chain.proofs.Laws.{step_length}
 use Rattle.chain.specs.Grid.{shift_grid_of, grid_outcome_of, grid_refusal_of}
 use Rattle.chain.proofs.Outcome.{refused-own}
@@ -98,6 +102,18 @@ pub two_parts : (b : List ℕ) (h : Head) (m w : ℕ) → h ≡ head_of b → m 
 unfolding grid_answer_of
 two_parts b h m w eh em ew there =
     rw (left_from_lem b (m + w), ends_at b h m w eh em ew, le-ltb (length b) (end_at (head_of b)) (subst (λ (n : ℕ). n ≤ length b) (ends_at b h m w eh em ew) there))
+
+-- ---- what is told of what a call hands out
+
+module _ (o : Outcome) {out : Result (List Tally) Refusal} (is : out ≡ handed_out o.answer) where
+  pub told-run : {tallies : List Tally} {l : List Float} {steps step_count : ℕ} {counts mets : List ℕ} → out ≡ Ok tallies → l ≡ o.list → steps ≡ step_count
+      → counts ≡ counts_of tallies → mets ≡ mets_of tallies → ran_text steps counts mets l ≡ told_of step_count o
+  unfolding told_of
+  told-run ok e f g h = let a = at_ok _ _ _ (sym is ∙ ok) in rw (eq-eqb _ 0 a.0, a.1, e, f, g, h)
+
+  pub told-refused : {refusal : Refusal} (steps : ℕ) → out ≡ Err refusal → refused_text refusal.number refusal.step ≡ told_of steps o
+  unfolding told_of
+  told-refused steps err = let a = at_err _ _ _ (sym is ∙ err) in rw (ne_eqb _ 0 a.0, a.1)
 
 -- ---- how long a text is, and where it stands
 

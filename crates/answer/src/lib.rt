@@ -10,11 +10,12 @@
 ghost use Rattle.std.specs.Prelude.{◌≡◌, ◌*◌, ◌≤◌, length};
 ghost use Rattle.text.specs.Text.{text, appended};
 ghost use Rattle.job.specs.Job.{head_of, marks_at};
-ghost use Rattle.chain.specs.Rules.{outcome};
+ghost use Rattle.chain.specs.Rules.{handed_out};
 ghost use Rattle.answer.specs.Answer.{is_lent, grid_in, lent_shift_of, shift_text, lent_job_text, lent_answer_of, answer_of, grid_answer_of};
 
-use chain::Answer;
 use job::Head;
+use sheet::Refusal;
+use tally::Tally;
 
 // A sheet over a list, with the grid where one is lent.
 fn shift(
@@ -24,8 +25,9 @@ fn shift(
     list: &mut [f64],
     velocities: &[f64],
     marks: &[u8],
-) -> Answer
-    ensures { outcome result list.new ≡ lent_shift_of (is_lent grid.entry) (grid_in grid.entry) inverse s.now list.old velocities.now marks.now }
+) -> Result<[Tally; 16], Refusal>
+    ensures { (result ≡ handed_out (lent_shift_of (is_lent grid.entry) (grid_in grid.entry) inverse s.now list.old velocities.now marks.now).answer)
+        × (list.new ≡ (lent_shift_of (is_lent grid.entry) (grid_in grid.entry) inverse s.now list.old velocities.now marks.now).list) }
 {
     match grid {
         Some(grid) => chain::shift_grid(inverse, s, list, velocities, marks, grid),
@@ -45,15 +47,14 @@ fn told(
 ) -> usize
     ensures { text room.new result ≡ appended (text room.old 0) (shift_text (is_lent grid.entry) (grid_in grid.entry) inverse s.now list.old velocities.now marks.now) }
 {
-    let said = shift(grid, inverse, s, list, velocities, marks);
-    let refusal = said.refusal;
-    if refusal.number != 0 {
-        return report::refused(room, 0, refusal.number, refusal.step);
+    match shift(grid, inverse, s, list, velocities, marks) {
+        Ok(tallies) => {
+            let counts = tally::counts(tallies);
+            let mets = tally::mets(tallies);
+            report::ran(room, 0, sheet::step_count(s), &counts, &mets, list)
+        }
+        Err(refusal) => report::refused(room, 0, refusal.number, refusal.step),
     }
-    let tallies = said.tallies;
-    let counts = tally::counts(tallies);
-    let mets = tally::mets(tallies);
-    report::ran(room, 0, sheet::step_count(s), &counts, &mets, list)
 }
 
 // A job's sheet over its list, in lists as long as its words say.

@@ -5,8 +5,7 @@ use Rattle.floats.specs.Binary64.{bits}
 use Rattle.sheet.specs.Layout.{kind_at, inverted_at}
 use Rattle.job.specs.Job.{head_of, refusal16, sheet_of, tuples_of, velocities_of, marks_of}
 use Rattle.closure_report.specs.Report.{empty_report}
-use Rattle.closure_run.specs.declared.Closed.{Closed}
-use Rattle.closure_run.specs.Closure.{closure_of}
+use Rattle.closure_run.specs.Closure.{Closed, closure_of}
 use Rattle.closure_page.specs.Page.{page_text, refused_text, takes_angles, profile_asked}
 
 -- what is told of a closure: the page, or the refusal

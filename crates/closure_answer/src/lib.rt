@@ -28,14 +28,13 @@ fn told(
     ensures { text room.new result ≡ appended (text room.old 0) (closure_text profile s.now list.now back.old velocities.now marks.now) }
 {
     let none = closure_report::empty();
-    let said = closure_run::closure(none, profile, s, list, back, velocities, marks);
-    let refusal = said.refusal;
-    if refusal.number != 0 {
-        return closure_page::put_refused(room, 0, refusal.number, refusal.step);
+    match closure_run::closure(none, profile, s, list, back, velocities, marks) {
+        Ok(report) => {
+            let angles = closure_page::takes_angles(sheet::kind_at(s, 0), sheet::inverted_at(s, 0));
+            closure_page::put_page(room, 0, angles, report)
+        }
+        Err(refusal) => closure_page::put_refused(room, 0, refusal.number, refusal.step),
     }
-    let angles = closure_page::takes_angles(sheet::kind_at(s, 0), sheet::inverted_at(s, 0));
-    let report = said.report;
-    closure_page::put_page(room, 0, angles, report)
 }
 
 // A job's sheet over its list, in lists as long as its words say. The like of it in `answer` lends

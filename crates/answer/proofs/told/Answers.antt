@@ -1,13 +1,11 @@
--- One case for each way through the tests. Calls are replaced by what they ensure; the definition
--- is left. Assumes nothing.
-use borrow.Author.Tests.{eq-eqb, ne_eqb}
-use Rattle.answer.specs.Answer.{told_of}
+-- A run or a refusal, by which variant the shift gave (`told-run`, `told-refused`). Assumes nothing.
+use mathlib.Core.Path.{ap, ◌∙◌}
+use Rattle.text.specs.Text.{appended}
+use Rattle.answer.proofs.Laws.{told-run, told-refused}
 use Rattle.answer.proofs.told.Goals as goal
 
-pub returns-then-refusal-ne0 : goal.returns-then-refusal-ne0
-unfolding told_of
-returns-then-refusal-ne0 c = rw (← c.shift-said.ensures, ne_eqb _ _ c.if-refusal-ne0.true) c.refused.ensures
+pub returns-in-Ok : goal.returns-in-Ok
+returns-in-Ok c = c.ran.ensures ∙ ap (appended _) (told-run _ c.shift.ensures.0 c.in-Ok.is c.shift.ensures.1 c.step_count.ensures.0 c.counts-counts.ensures c.mets-mets.ensures)
 
-pub returns : goal.returns
-unfolding told_of
-returns c = rw (← c.shift-said.ensures, eq-eqb _ _ c.if-refusal-ne0.false, ← c.counts-counts.ensures, ← c.mets-mets.ensures, ← c.step_count.ensures.0) c.ran.ensures
+pub returns-in-Err : goal.returns-in-Err
+returns-in-Err c = c.refused.ensures ∙ ap (appended _) (told-refused _ c.shift.ensures.0 _ c.in-Err.is)
