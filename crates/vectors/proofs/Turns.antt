@@ -1,10 +1,18 @@
--- What the loops of `vectors` owe from one turn to the next, and what a record's layout says.
+-- What the loops of `vectors` owe from one turn to the next, what a record's layout says, and that a
+-- call's Result holds all of its answer.
 -- Assumes nothing.
-use Rattle.std.proofs.Common.{◌≡◌, ℕ, zero, suc, ◌+◌, ◌-◌, ◌*◌, ◌≤◌, Bool, true, false, ◌&&◌, T, eqb, leb, List, [], ◌∷◌, ◌++◌, length, take, drop, sym, refl, ap, subst, add-one, arith, eqb-true, leb-true}
+use Rattle.std.proofs.Common.{◌≡◌, ◌∙◌, ℕ, zero, suc, ◌+◌, ◌-◌, ◌*◌, ◌≤◌, Bool, true, false, ◌&&◌, T, eqb, leb, List, [], ◌∷◌, ◌++◌, length, take, drop, sym, refl, ap, subst, add-one, arith, eqb-true, leb-true}
 use lib.Ieee.{Float}
+use borrow.Author.Tests.{eqb-false}
 use Rattle.words.specs.Words.{word32, number_at}
-use Rattle.chain.specs.Rules.{shift_of}
-use Rattle.vectors.specs.Replay.{differ, differing_of, numbers_of, sheet_length, tuple_count, velocity_count, velocities_at, marks_at, laid_out, shifted_of}
+use Rattle.sheet.specs.declared.Entry.{Entry}
+use Rattle.sheet.specs.declared.Refusal.{Refusal}
+use Rattle.sheet.specs.Layout.{step_count_of, kind_at, entry_at}
+use Rattle.sheet.specs.Rules.{has_deformation, refusal_of}
+use Rattle.chain.specs.Chain.{entries_of}
+use Rattle.chain.specs.Rules.{shift_refusal_of, outcome, handed_out, outcome_of, shift_of}
+use Rattle.chain.proofs.Outcome.{hands_out_a_refusal, hands_out_tallies, refused-by, run-by}
+use Rattle.vectors.specs.Replay.{differ, differing_of, numbers_of, sheet_length, tuple_count, velocity_count, velocities_at, marks_at, laid_out, shifted_of, answer_in}
 
 -- one place more
 pub differing_next : (found told : ℕ → ℕ) (i : ℕ) → differing_of found told (i + 1) ≡ differing_of found told i + differ (found i) (told i)
@@ -60,3 +68,30 @@ lent job {direction} {sheet} {tuples} {velocities} {marks} d s t v m =
     let before : 16 + sheet + 8 * tuples ≡ velocities_at job = omega arith in
     let the-marks : marks_at job + marks - marks_at job ≡ velocity_count job = omega arith in
     rw (d, the-sheet, from, the-marks, before, s, t, v)
+
+-- ---- what the chain hands out is its answer
+
+by_outcome : (own : Refusal) (deforms inverse : Bool) (es : List Entry) (l velocities : List Float) (marks : List ℕ)
+    → let o = outcome_of own deforms inverse es l velocities marks in outcome (answer_in (handed_out o.answer)) o.list ≡ o
+by_outcome own deforms inverse es l velocities marks = by _ refl
+  where
+    r : Refusal
+    r = shift_refusal_of own deforms l velocities marks
+
+    by : (b : Bool) → eqb r.number 0 ≡ b
+        → let o = outcome_of own deforms inverse es l velocities marks in outcome (answer_in (handed_out o.answer)) o.list ≡ o
+    by true e = rw (run-by own deforms inverse es l velocities marks r refl (eqb-true _ _ e), hands_out_tallies)
+    by false e =
+        let h = eqb-false _ _ e in
+        rw (refused-by own deforms inverse es l velocities marks r refl h, hands_out_a_refusal r h)
+
+by_call : (inverse : Bool) (s : List ℕ) (l velocities : List Float) (marks : List ℕ)
+    → let o = shift_of inverse s l velocities marks in outcome (answer_in (handed_out o.answer)) o.list ≡ o
+unfolding shift_of
+by_call inverse s l velocities marks =
+    by_outcome (refusal_of s) (has_deformation (kind_at s) (step_count_of s)) inverse (entries_of (entry_at s) (step_count_of s) 0) l velocities marks
+
+-- so a call that makes of a list what a job asks for hands the job's answer out
+pub handed_out_by : (job : List ℕ) (inverse : Bool) (s : List ℕ) (l velocities : List Float) (marks : List ℕ)
+    → let o = shift_of inverse s l velocities marks in o ≡ shifted_of job → outcome (answer_in (handed_out o.answer)) o.list ≡ shifted_of job
+handed_out_by job inverse s l velocities marks e = by_call inverse s l velocities marks ∙ e

@@ -1,13 +1,15 @@
 -- A record of the fixed answers, told beside what the library's definitions make of its job.
 -- README.md has the layout of both files.
-use Rattle.std.specs.Prelude.{ℕ, zero, suc, ◌+◌, ◌*◌, Bool, cond, ◌&&◌, List, [], ◌∷◌, length, take, drop, ◌==◌, nat_le, slice_index, slice_index_or, to_bits, Float}
+use Rattle.std.specs.Prelude.{ℕ, Result, Ok, Err, zero, suc, ◌+◌, ◌*◌, Bool, cond, ◌&&◌, List, [], ◌∷◌, length, take, drop, ◌==◌, nat_le, slice_index, slice_index_or, to_bits, Float}
 use Rattle.std.specs.Float.{nan, binary64}
 use Rattle.words.specs.Words.{word32, word64, number_at}
 use Rattle.tuple.specs.declared.Tuple.{Tuple}
 use Rattle.ellipsoid.specs.Figure.{named_of}
 use Rattle.geocart.specs.Geocart.{geographic_of}
+use Rattle.sheet.specs.declared.Refusal.{Refusal}
+use Rattle.tally.specs.declared.Tally.{Tally}
 use Rattle.tally.specs.Tallies.{counts_of}
-use Rattle.chain.specs.Rules.{Outcome, shift_of}
+use Rattle.chain.specs.Rules.{Answer, Outcome, refused_answer, ran_answer, shift_of}
 
 -- ---- words told and words found
 
@@ -73,6 +75,11 @@ shifted_of job =
     (numbers_of job (tuples_at job) (4 * tuple_count job))
     (numbers_of job (velocities_at job) (3 * velocity_count job))
     (take (velocity_count job) (drop (marks_at job) job))
+
+-- the answer that a function hands out: beside tallies no refusal, beside a refusal zeros
+abbrev pub answer_in : Result (List Tally) Refusal → Answer
+answer_in (Ok tallies) = ran_answer tallies
+answer_in (Err refusal) = refused_answer refusal
 
 -- in how many words an outcome differs from the answer told: the refusal, its step, the counts, the
 -- list

@@ -7,10 +7,11 @@
 ghost use Rattle.std.specs.Prelude.{◌≡◌, ◌+◌, ◌*◌, ◌<◌, ◌≤◌, length};
 ghost use Rattle.words.specs.Words.{word32};
 ghost use Rattle.chain.specs.Rules.{outcome};
-ghost use Rattle.vectors.specs.Replay.{differ, differing_counts, differing_numbers, numbers_of, sheet_length, tuple_count, velocity_count, marks_at, laid_out, shifted_of, compared_of, replay_of, geographic_differing_of};
+ghost use Rattle.vectors.specs.Replay.{differ, differing_counts, differing_numbers, numbers_of, sheet_length, tuple_count, velocity_count, marks_at, laid_out, shifted_of, answer_in, compared_of, replay_of, geographic_differing_of};
 
-use chain::Answer;
 use ellipsoid::Ellipsoid;
+use sheet::Refusal;
+use tally::Tally;
 use tuple::Tuple;
 
 // The sheet's, the tuples' and the velocities' lengths as the job's head tells them.
@@ -85,12 +86,11 @@ fn laid_out(job: &[u8], told: &[u8]) -> bool
         & (told.len() == 72 + 32 * tuples)
 }
 
-fn compared(told: &[u8], answer: Answer, list: &[f64]) -> usize
+// The refusal, its step, the counts and the list.
+fn compared_words(told: &[u8], refusal: Refusal, tallies: [Tally; 16], list: &[f64]) -> usize
     requires { length list.now ≤ 96 }
-    ensures { result ≡ compared_of told.now (outcome answer list.now) }
+    ensures { result ≡ compared_of told.now (outcome (record { refusal = refusal; tallies = tallies }) list.now) }
 {
-    let refusal = answer.refusal;
-    let tallies = answer.tallies;
     let counts = tally::counts(tallies);
     differing(
         words::wide64(refusal.number),
@@ -100,6 +100,17 @@ fn compared(told: &[u8], answer: Answer, list: &[f64]) -> usize
         words::wide64(words::read32(told, 4)),
     ) + differing_counts(told, 8, &counts)
         + differing_numbers(told, 72, list)
+}
+
+// The file tells zeros where the chain has no refusal to tell, or no tallies.
+fn compared(told: &[u8], answer: Result<[Tally; 16], Refusal>, list: &[f64]) -> usize
+    requires { length list.now ≤ 96 }
+    ensures { result ≡ compared_of told.now (outcome (answer_in answer) list.now) }
+{
+    match answer {
+        Ok(tallies) => compared_words(told, Refusal::none(), tallies, list),
+        Err(refusal) => compared_words(told, refusal, [tally::none(); 16], list),
+    }
 }
 
 // The job over lent lists of its own lengths.

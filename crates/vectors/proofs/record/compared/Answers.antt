@@ -1,7 +1,10 @@
--- Calls are replaced by what they ensure; the definition is left. Assumes nothing.
-use Rattle.vectors.specs.Replay.{compared_of}
+-- Either way `answer_in` is the answer that is compared: with no refusal, or with no tallies.
+-- Assumes nothing.
+use Rattle.std.proofs.Common.{◌∙◌}
 use Rattle.vectors.proofs.record.compared.Goals as goal
 
-pub returns : goal.returns
-unfolding compared_of
-returns c = rw (c.differing_numbers.ensures.0, c.differing_counts.ensures.0, c.differing-2.ensures.0, c.wide64-4.ensures.0, c.read32-2.ensures, c.wide64-3.ensures.0, c.differing.ensures.0, c.wide64-2.ensures.0, c.read32.ensures, c.wide64.ensures.0, c.counts-counts.ensures)
+pub returns-in-Ok : goal.returns-in-Ok
+returns-in-Ok c = c.compared_words.ensures ∙ rw (c.in-Ok.is, c.none.ensures)
+
+pub returns-in-Err : goal.returns-in-Err
+returns-in-Err c = c.compared_words-in-Err.ensures ∙ rw (c.in-Err.is, c.none-in-Err.ensures)

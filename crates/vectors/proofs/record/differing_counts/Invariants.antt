@@ -1,6 +1,6 @@
 -- Invariant: n is the number of the first i counts that differ from the words told (`differing_of`),
 -- and so at most i. Assumes nothing.
-use Rattle.std.proofs.Common.{◌≡◌, ℕ, ◌+◌, ◌-◌, ◌*◌, ◌≤◌, get_or}
+use Rattle.std.proofs.Common.{◌≡◌, ℕ, ◌+◌, ◌*◌, ◌≤◌, get_or}
 use Rattle.words.specs.Words.{word32}
 use Rattle.vectors.specs.Replay.{differing_of}
 use Rattle.vectors.proofs.record.differing_counts.Given as goal

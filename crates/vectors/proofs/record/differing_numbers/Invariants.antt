@@ -1,6 +1,6 @@
 -- Invariant: n is the number of the list's first i numbers whose bits differ from the words told
 -- (`differing_of`), and so at most i. Assumes nothing.
-use Rattle.std.proofs.Common.{◌≡◌, ℕ, ◌+◌, ◌-◌, ◌*◌, ◌≤◌, length, get_or}
+use Rattle.std.proofs.Common.{◌≡◌, ℕ, ◌+◌, ◌*◌, ◌≤◌, length, get_or}
 use lib.Ieee.{nan, binary64, to_bits}
 use Rattle.words.specs.Words.{word64}
 use Rattle.vectors.specs.Replay.{differing_of}

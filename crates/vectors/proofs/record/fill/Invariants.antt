@@ -1,6 +1,6 @@
 -- Invariant: the first i numbers of the list are those that the bytes hold from `at` on
 -- (`numbers_of`), and the list keeps its length. Assumes nothing.
-use Rattle.std.proofs.Common.{◌≡◌, ◌-◌, ◌≤◌, length, take}
+use Rattle.std.proofs.Common.{◌≡◌, ◌≤◌, length, take}
 use Rattle.vectors.specs.Replay.{numbers_of}
 use Rattle.vectors.proofs.record.fill.Given as goal
 
