@@ -27,8 +27,11 @@ pub extern "C" fn sillfeather_add_badekas(
         ≡ made_of (added_of room.old len.old inverted (Step.Badekas (badekas_of flags convention numbers.now))) }
 {
     let step = Step::Badekas(arrays::badekas_of(flags, convention, numbers));
-    let added = making::add(room, *len as usize, inverted, step);
-    let refusal = added.refusal;
-    *len = added.length as u64;
-    codes::code(refusal)
+    match making::add(room, *len as usize, inverted, step) {
+        Ok(length) => {
+            *len = length as u64;
+            0
+        }
+        Err(refusal) => codes::code(refusal),
+    }
 }

@@ -16,7 +16,7 @@ ghost use Rattle.closure_entries.specs.Told.{closure_told, closure_in_c, closure
 pub extern "C" fn sillfeather_check_profile(s: &[u8], profile: u32) -> u32
     ensures { result ≡ code_of (profile_refusal_of profile s.now) }
 {
-    codes::code(profile::check(s, profile))
+    codes::answer(profile::check(s, profile))
 }
 
 // Runs a sheet forward and then inverse over a list, and adds it to a report.
@@ -34,14 +34,13 @@ pub extern "C" fn sillfeather_closure(
         ≡ closure_in_c report.old profile s.now list.now room.old velocities.now marks.now }
 {
     let before = closure_report::of_numbers(report);
-    let answer = closure_run::closure(before, profile, s, list, room, velocities, marks);
-    let refusal = answer.refusal;
-    if refusal.number != 0 {
-        return codes::code(refusal);
+    match closure_run::closure(before, profile, s, list, room, velocities, marks) {
+        Ok(after) => {
+            *report = closure_report::numbers(after);
+            0
+        }
+        Err(refusal) => codes::code(refusal),
     }
-    let after = answer.report;
-    *report = closure_report::numbers(after);
-    codes::code(refusal)
 }
 
 // The same with a velocity grid: velocities and marks are empty.
@@ -60,12 +59,11 @@ pub extern "C" fn sillfeather_closure_grid(
         ≡ closure_grid_in_c report.old profile s.now list.now room.old velocities.now marks.now grid.now }
 {
     let before = closure_report::of_numbers(report);
-    let answer = closure_run::closure_grid(before, profile, s, list, room, velocities, marks, grid);
-    let refusal = answer.refusal;
-    if refusal.number != 0 {
-        return codes::code(refusal);
+    match closure_run::closure_grid(before, profile, s, list, room, velocities, marks, grid) {
+        Ok(after) => {
+            *report = closure_report::numbers(after); // with the list
+            0
+        }
+        Err(refusal) => codes::code(refusal),
     }
-    let after = answer.report;
-    *report = closure_report::numbers(after); // with the list
-    codes::code(refusal)
 }

@@ -1,2 +1,3 @@
 -- The laws of `codes`.
 pub mod Counts
+pub mod Clear

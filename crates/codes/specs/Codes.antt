@@ -1,11 +1,16 @@
 -- How an answer is handed to C: a refusal as one word, a direction as a number, counts as 32 bits
 -- each.
-use Rattle.std.specs.Prelude.{ℕ, ◌+◌, ◌*◌, ◌%◌, ◌<◌, Bool, not, List, [], ◌∷◌, eqb, get_or}
+use Rattle.std.specs.Prelude.{ℕ, Result, Ok, Err, ◌+◌, ◌*◌, ◌%◌, ◌<◌, Bool, not, List, [], ◌∷◌, eqb, get_or}
 use Rattle.sheet.specs.declared.Refusal.{Refusal}
 
 -- 0 is done; otherwise the refusal's number plus 65536 times the step
 abbrev pub code_of : Refusal → ℕ
 code_of r = r.number % 65536 + r.step % 65536 * 65536
+
+-- the same of what a call answered: 0 where it is done
+abbrev pub code_in : Result Unit Refusal → ℕ
+code_in (Ok done) = 0
+code_in (Err r) = code_of r
 
 -- 0 is forward, anything else inverse
 abbrev pub is_inverse : ℕ → Bool

@@ -6,7 +6,7 @@
 #![tactic(auto)]
 
 ghost use Rattle.std.specs.Prelude.{◌≡◌};
-ghost use Rattle.codes.specs.Codes.{code_of, narrow_of};
+ghost use Rattle.codes.specs.Codes.{code_of, code_in, narrow_of};
 
 use sheet::Refusal;
 
@@ -15,6 +15,16 @@ pub fn code(r: Refusal) -> u32
     ensures { result ≡ code_of r }
 {
     r.number % 65536 + r.step % 65536 * 65536
+}
+
+// What a call that hands out no value answers, as one word.
+pub fn answer(done: Result<(), Refusal>) -> u32
+    ensures { result ≡ code_in done }
+{
+    match done {
+        Ok(()) => 0,
+        Err(refusal) => code(refusal),
+    }
 }
 
 // Counts as C gets them, the lower 32 bits of each.

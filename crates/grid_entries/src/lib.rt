@@ -41,10 +41,16 @@ pub extern "C" fn sillfeather_shift_grid(
     ensures { grid_told result counts.new met.new list.new
         ≡ grid_told_of (shift_grid_of (is_inverse inverse) s.now list.old velocities.now marks.now grid.now) }
 {
-    let answer = chain::shift_grid(inverse != 0, s, list, velocities, marks, grid);
-    let refusal = answer.refusal;
-    let tallies = answer.tallies;
-    *counts = codes::narrow(tally::counts(tallies));
-    *met = codes::narrow(tally::mets(tallies));
-    codes::code(refusal)
+    match chain::shift_grid(inverse != 0, s, list, velocities, marks, grid) {
+        Ok(tallies) => {
+            *counts = codes::narrow(tally::counts(tallies));
+            *met = codes::narrow(tally::mets(tallies));
+            0
+        }
+        Err(refusal) => {
+            *counts = [0; 16];
+            *met = [0; 16];
+            codes::code(refusal)
+        }
+    }
 }

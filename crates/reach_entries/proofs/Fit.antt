@@ -1,27 +1,35 @@
--- The numbers of a shift, flat or over columns, fit 32 bits, so that handing them over cuts nothing.
--- Columns of one length tell what the flat list tells, and other columns are refused with zeros.
--- Assumes nothing.
+-- What a shift, flat or over columns, hands to C. Its numbers fit 32 bits, so that handing them over
+-- cuts nothing: columns of one length tell what the flat list tells, and other columns are refused
+-- with zeros. Run, the word is 0, and refused, the numbers are zeros (`Fair`). Working definition,
+-- which no promise cites: `Fair`. Assumes nothing.
 use Prim.Native.Nat.{ℕ, zero, suc, ◌≤◌}
 use native.Mathlib.Omega.{arith}
 use mathlib.Core.Path.{◌≡◌, refl, sym, ap, subst}
-use mathlib.Core.Bool.{Bool, true, false}
-use mathlib.Core.List.{List}
+use mathlib.Core.Bool.{Bool, true, false, cond}
+use mathlib.Core.List.{List, []}
 use lib.Dec.{eqb}
 use lib.ListN.{length, get_or, replicate}
 use lib.Ieee.{Float}
+use Rattle.std.specs.Prelude.{Result, Ok, Err}
 use borrow.Author.Tests.{eqb-true, eqb-false}
 use Rattle.tally.specs.declared.Tally.{Tally}
 use Rattle.tally.specs.Tallies.{no_tally, each_of, counts_of, mets_of}
 use Rattle.tally.proofs.Laws.{each_at}
 use Rattle.sheet.specs.declared.Refusal.{Refusal}
-use Rattle.sheet.specs.Rules.{refusal_of, of_call}
+use Rattle.sheet.specs.Layout.{step_count_of, kind_at, entry_at}
+use Rattle.sheet.specs.Rules.{refusal_of, of_call, has_deformation}
+use Rattle.sheet.proofs.Unless.{passed_value, failed}
 use Rattle.columns.specs.Columns.{Columns, Level, flat_of}
-use Rattle.chain.specs.declared.Answer.{Answer}
-use Rattle.chain.specs.Rules.{Outcome, refused_answer, shift_of}
-use Rattle.chain.specs.Columns.{refusal9_columns, ColumnsOutcome, columns_outcome, shift_columns_of}
+use Rattle.plans.specs.Lent.{lent_of}
+use Rattle.chain.specs.Chain.{Run, chain_of, entries_of}
+use Rattle.chain.specs.Rules.{Answer, Outcome, outcome, handed_out, refused_answer, ran_outcome, outcome_of, shift_refusal_of, shift_of}
+use Rattle.chain.specs.Columns.{refusal9_columns, columns_refusal_of, ColumnsOutcome, columns_outcome, ran_columns, columns_outcome_of, shift_columns_of}
 use Rattle.chain.proofs.Counts.{Small as SmallTally, shift_tells_few}
 use Rattle.chain.proofs.Columns.{nine_kept, columns-refused-own, columns-refused-9, columns-give-the-flat-answer}
-use Rattle.codes.specs.Codes.{Small}
+use Rattle.codes.specs.Codes.{Small, code_of, narrow_of}
+use Rattle.codes.proofs.Clear.{Clear, done, refused}
+use Rattle.codes.proofs.Counts.{narrow_small}
+use Rattle.reach_entries.specs.Codes.{shift_told, shift_told_of, columns_told, columns_told_of}
 
 -- one number of each tally
 small_each : (number : Tally → ℕ) → number no_tally ≡ 0 → (tallies : List Tally) → ((i : ℕ) → number (get_or tallies i no_tally) ≤ 2048) → Small (each_of number tallies)
@@ -34,12 +42,41 @@ Fits tallies = Small (counts_of tallies) × Small (mets_of tallies)
 both_fit : (tallies : List Tally) → ((i : ℕ) → SmallTally (get_or tallies i no_tally)) → Fits tallies
 both_fit tallies few = (small_each (λ (a : Tally). a.count) refl tallies (λ i. (few i).0), small_each (λ (a : Tally). a.met) refl tallies (λ i. (few i).1))
 
+-- ---- run or refused
+
+record Fair (a : Answer) : Type 0 where
+  clear : Clear a.refusal
+  zeros : (a.refusal.number ≡ 0 → ⊥) → a.tallies ≡ replicate 16 no_tally
+
+flat-test : (b : Bool) (r : Refusal) (run : Run) (l : List Float) → eqb r.number 0 ≡ b → Fair (cond b (ran_outcome run) (outcome (refused_answer r) l)).answer
+flat-test true r run l e = record { clear = λ z. refl; zeros = λ h. absurd (h refl) }
+flat-test false r run l e = record { clear = λ z. absurd (eqb-false _ _ e z); zeros = λ h. refl }
+
+columns-test : (b : Bool) (r : Refusal) (run : Run) (c : Columns) → eqb r.number 0 ≡ b → Fair (cond b (ran_columns run) (columns_outcome (refused_answer r) c)).answer
+columns-test true r run c e = record { clear = λ z. refl; zeros = λ h. absurd (h refl) }
+columns-test false r run c e = record { clear = λ z. absurd (eqb-false _ _ e z); zeros = λ h. refl }
+
 -- ---- a flat list
 
-pub shift_fits : (o : Outcome) (inverse : Bool) (s : List ℕ) (l velocities : List Float) (marks : List ℕ)
-    → o ≡ shift_of inverse s l velocities marks → Fits o.answer.tallies
-shift_fits o inverse s l velocities marks e =
-    subst (λ (x : Outcome). Fits x.answer.tallies) (sym e) (both_fit _ (shift_tells_few inverse s l velocities marks))
+module _ (inverse : Bool) (s : List ℕ) (l velocities : List Float) (marks : List ℕ) where
+  abbrev flat : Outcome
+  flat = shift_of inverse s l velocities marks
+
+  flat-fits : Fits flat.answer.tallies
+  flat-fits = both_fit _ (shift_tells_few inverse s l velocities marks)
+
+  flat-fair : Fair flat.answer
+  unfolding shift_of outcome_of
+  flat-fair = flat-test (eqb (shift_refusal_of (refusal_of s) (has_deformation (kind_at s) (step_count_of s)) l velocities marks).number 0)
+      (shift_refusal_of (refusal_of s) (has_deformation (kind_at s) (step_count_of s)) l velocities marks)
+      (chain_of inverse (lent_of velocities marks []) (entries_of (entry_at s) (step_count_of s) 0) l) l refl
+
+  module _ {out : Result (List Tally) Refusal} {after : List Float} (e : (out ≡ handed_out flat.answer) × (after ≡ flat.list)) where
+    pub ran-told : {tallies : List Tally} → out ≡ Ok tallies → shift_told 0 (narrow_of (counts_of tallies)) (narrow_of (mets_of tallies)) after ≡ shift_told_of flat
+    ran-told ok = rw (passed_value _ _ e.0 ok, e.1, narrow_small _ flat-fits.0, narrow_small _ flat-fits.1, done _ _ flat-fair.clear e.0 ok)
+
+    pub refused-told : {r : Refusal} → out ≡ Err r → shift_told (code_of r) (replicate 16 0) (replicate 16 0) after ≡ shift_told_of flat
+    refused-told err = rw (refused _ _ e.0 err, e.1, flat-fair.zeros (failed _ _ e.0 err))
 
 -- ---- columns
 
@@ -71,7 +108,18 @@ module _ (inverse : Bool) (s : List ℕ) (c : Columns) (velocities : List Float)
   few : (i : ℕ) → SmallTally (get_or told.answer.tallies i no_tally)
   few = by-test _ _ refl refl
 
-pub columns-fit : (o : ColumnsOutcome) (inverse : Bool) (s : List ℕ) (c : Columns) (velocities : List Float) (marks : List ℕ)
-    → o ≡ shift_columns_of inverse s c velocities marks → Fits o.answer.tallies
-columns-fit o inverse s c velocities marks e =
-    subst (λ (x : ColumnsOutcome). Fits x.answer.tallies) (sym e) (both_fit _ (few inverse s c velocities marks))
+  columns-fits : Fits told.answer.tallies
+  columns-fits = both_fit _ few
+
+  columns-fair : Fair told.answer
+  unfolding shift_columns_of columns_outcome_of
+  columns-fair = columns-test (eqb (columns_refusal_of (refusal_of s) (has_deformation (kind_at s) (step_count_of s)) c velocities marks).number 0)
+      (columns_refusal_of (refusal_of s) (has_deformation (kind_at s) (step_count_of s)) c velocities marks)
+      (chain_of inverse (lent_of velocities marks []) (entries_of (entry_at s) (step_count_of s) 0) (flat_of c.x c.y c.z c.t)) c refl
+
+  module _ {out : Result (List Tally) Refusal} {after : Columns} (e : (out ≡ handed_out told.answer) × (after ≡ told.columns)) where
+    pub columns-ran-told : {tallies : List Tally} → out ≡ Ok tallies → columns_told 0 (narrow_of (counts_of tallies)) (narrow_of (mets_of tallies)) after ≡ columns_told_of told
+    columns-ran-told ok = rw (passed_value _ _ e.0 ok, e.1, narrow_small _ columns-fits.0, narrow_small _ columns-fits.1, done _ _ columns-fair.clear e.0 ok)
+
+    pub columns-refused-told : {r : Refusal} → out ≡ Err r → columns_told (code_of r) (replicate 16 0) (replicate 16 0) after ≡ columns_told_of told
+    columns-refused-told err = rw (refused _ _ e.0 err, e.1, columns-fair.zeros (failed _ _ e.0 err))

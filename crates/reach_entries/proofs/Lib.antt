@@ -1,2 +1,3 @@
 -- What the proofs of `reach_entries` share.
 pub mod Fit
+pub mod Keeping

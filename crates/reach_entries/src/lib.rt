@@ -58,12 +58,18 @@ pub extern "C" fn sillfeather_shift_reach(
     ensures { shift_told result counts.new met.new list.new
         ≡ shift_told_of (shift_of (is_inverse inverse) s.now list.old velocities.now marks.now) }
 {
-    let answer = chain::shift(inverse != 0, s, list, velocities, marks);
-    let refusal = answer.refusal;
-    let tallies = answer.tallies;
-    *counts = codes::narrow(tally::counts(tallies));
-    *met = codes::narrow(tally::mets(tallies));
-    codes::code(refusal)
+    match chain::shift(inverse != 0, s, list, velocities, marks) {
+        Ok(tallies) => {
+            *counts = codes::narrow(tally::counts(tallies));
+            *met = codes::narrow(tally::mets(tallies));
+            0
+        }
+        Err(refusal) => {
+            *counts = [0; 16];
+            *met = [0; 16];
+            codes::code(refusal)
+        }
+    }
 }
 
 // A sheet over four columns, in place: forward where inverse is 0, else inverse.
@@ -83,12 +89,18 @@ pub extern "C" fn sillfeather_shift_columns(
     ensures { columns_told result counts.new met.new (columns x.new y.new z.new t.new)
         ≡ columns_told_of (shift_columns_of (is_inverse inverse) s.now (columns x.old y.old z.old t.old) velocities.now marks.now) }
 {
-    let answer = chain::shift_columns(inverse != 0, s, x, y, z, t, velocities, marks);
-    let refusal = answer.refusal;
-    let tallies = answer.tallies;
-    *counts = codes::narrow(tally::counts(tallies));
-    *met = codes::narrow(tally::mets(tallies));
-    codes::code(refusal)
+    match chain::shift_columns(inverse != 0, s, x, y, z, t, velocities, marks) {
+        Ok(tallies) => {
+            *counts = codes::narrow(tally::counts(tallies));
+            *met = codes::narrow(tally::mets(tallies));
+            0
+        }
+        Err(refusal) => {
+            *counts = [0; 16];
+            *met = [0; 16];
+            codes::code(refusal)
+        }
+    }
 }
 
 // ----- the kept run ----------------------------------------------------------------------------
@@ -110,12 +122,18 @@ pub extern "C" fn sillfeather_keep_reach(
         × (kept_of list.now results.new track.new
         ≡ keep_of (is_inverse inverse) s.now (kept_of list.now results.old track.old)) }
 {
-    let told = kept_reach::keep_reach(inverse != 0, s, list, results, track);
-    let refusal = told.refusal;
-    let tally = told.tally;
-    *counted = tally.count as u64;
-    *met = tally.met as u64;
-    codes::code(refusal)
+    match kept_reach::keep_reach(inverse != 0, s, list, results, track) {
+        Ok(tally) => {
+            *counted = tally.count as u64;
+            *met = tally.met as u64;
+            0
+        }
+        Err(refusal) => {
+            *counted = 0;
+            *met = 0;
+            codes::code(refusal)
+        }
+    }
 }
 
 // Corrects one fix, as sillfeather_correct. `met` gets how many of the fixes that were redone met
@@ -136,20 +154,19 @@ pub extern "C" fn sillfeather_correct_reach(
         ≡ correct_told_of (correct_of (is_inverse inverse) s.now (kept_of list.old results.old track.old) index (tuple_of fix.now)))
         × (met.new ≡ stretch_met_of (is_inverse inverse) s.now (kept_of list.old results.old track.old) index (tuple_of fix.now)) }
 {
-    let told = kept_reach::correct_reach(
-        inverse != 0,
-        s,
-        list,
-        results,
-        track,
-        index,
-        arrays::tuple_of(fix),
-    );
-    let corrected = told.corrected;
-    let refusal = corrected.refusal;
-    *redone = corrected.redone;
-    *met = told.met;
-    codes::code(refusal)
+    let fix = arrays::tuple_of(fix);
+    match kept_reach::correct_reach(inverse != 0, s, list, results, track, index, fix) {
+        Ok(fixes) => {
+            *redone = fixes.redone;
+            *met = fixes.met;
+            0
+        }
+        Err(refusal) => {
+            *redone = 0;
+            *met = 0;
+            codes::code(refusal)
+        }
+    }
 }
 
 // ----- the kept run over columns ---------------------------------------------------------------
@@ -182,7 +199,7 @@ pub extern "C" fn sillfeather_keep_columns(
         (columns rx.old ry.old rz.old rt.old)
         (columns kx.old ky.old kz.old kt.old))) }
 {
-    codes::code(kept_columns::keep(inverse != 0, s, x, y, z, t, rx, ry, rz, rt, kx, ky, kz, kt))
+    codes::answer(kept_columns::keep(inverse != 0, s, x, y, z, t, rx, ry, rz, rt, kx, ky, kz, kt))
 }
 
 // The same, telling as sillfeather_keep_reach does.
@@ -221,27 +238,18 @@ pub extern "C" fn sillfeather_keep_columns_reach(
         (columns rx.old ry.old rz.old rt.old)
         (columns kx.old ky.old kz.old kt.old))) }
 {
-    let told = kept_columns_reach::keep_reach(
-        inverse != 0,
-        s,
-        x,
-        y,
-        z,
-        t,
-        rx,
-        ry,
-        rz,
-        rt,
-        kx,
-        ky,
-        kz,
-        kt,
-    );
-    let refusal = told.refusal;
-    let rows = told.tally;
-    *counted = rows.count as u64;
-    *met = rows.met as u64;
-    codes::code(refusal)
+    match kept_columns_reach::keep_reach(inverse != 0, s, x, y, z, t, rx, ry, rz, rt, kx, ky, kz, kt) {
+        Ok(rows) => {
+            *counted = rows.count as u64;
+            *met = rows.met as u64;
+            0
+        }
+        Err(refusal) => {
+            *counted = 0;
+            *met = 0;
+            codes::code(refusal)
+        }
+    }
 }
 
 // Corrects one fix of a kept run over columns; `redone` gets how many fixes were, 0 on refusal.
@@ -272,27 +280,17 @@ pub extern "C" fn sillfeather_correct_columns(
         (columns rx.old ry.old rz.old rt.old)
         (columns kx.old ky.old kz.old kt.old)) index (tuple_of fix.now)) }
 {
-    let answer = kept_columns::correct(
-        inverse != 0,
-        s,
-        x,
-        y,
-        z,
-        t,
-        rx,
-        ry,
-        rz,
-        rt,
-        kx,
-        ky,
-        kz,
-        kt,
-        index,
-        arrays::tuple_of(fix),
-    );
-    let refusal = answer.refusal;
-    *redone = answer.redone;
-    codes::code(refusal)
+    let fix = arrays::tuple_of(fix);
+    match kept_columns::correct(inverse != 0, s, x, y, z, t, rx, ry, rz, rt, kx, ky, kz, kt, index, fix) {
+        Ok(count) => {
+            *redone = count;
+            0
+        }
+        Err(refusal) => {
+            *redone = 0;
+            codes::code(refusal)
+        }
+    }
 }
 
 // The same, telling as sillfeather_correct_reach does.
@@ -327,27 +325,17 @@ pub extern "C" fn sillfeather_correct_columns_reach(
         (columns rx.old ry.old rz.old rt.old)
         (columns kx.old ky.old kz.old kt.old)) index (tuple_of fix.now)) }
 {
-    let answer = kept_columns_reach::correct_reach(
-        inverse != 0,
-        s,
-        x,
-        y,
-        z,
-        t,
-        rx,
-        ry,
-        rz,
-        rt,
-        kx,
-        ky,
-        kz,
-        kt,
-        index,
-        arrays::tuple_of(fix),
-    );
-    let rows = answer.corrected;
-    let refusal = rows.refusal;
-    *redone = rows.redone;
-    *met = answer.met;
-    codes::code(refusal)
+    let fix = arrays::tuple_of(fix);
+    match kept_columns_reach::correct_reach(inverse != 0, s, x, y, z, t, rx, ry, rz, rt, kx, ky, kz, kt, index, fix) {
+        Ok(rows) => {
+            *redone = rows.redone;
+            *met = rows.met;
+            0
+        }
+        Err(refusal) => {
+            *redone = 0;
+            *met = 0;
+            codes::code(refusal)
+        }
+    }
 }

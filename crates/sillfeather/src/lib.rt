@@ -80,7 +80,7 @@ pub extern "C" fn sillfeather_hypot(x: f64, y: f64) -> f64
 pub extern "C" fn sillfeather_check(s: &[u8]) -> u32
     ensures { result ≡ code_of (refusal_of s.now) }
 {
-    codes::code(sheet::check(s))
+    codes::answer(sheet::check(s))
 }
 
 // A sheet over a list, in place: forward where inverse is 0, else inverse. `counts` gets each
@@ -96,11 +96,16 @@ pub extern "C" fn sillfeather_shift(
 ) -> u32
     ensures { handed result counts.new list.new ≡ handed_of (shift_of (is_inverse inverse) s.now list.old velocities.now marks.now) }
 {
-    let answer = chain::shift(inverse != 0, s, list, velocities, marks);
-    let refusal = answer.refusal;
-    let tallies = answer.tallies;
-    *counts = codes::narrow(tally::counts(tallies));
-    codes::code(refusal)
+    match chain::shift(inverse != 0, s, list, velocities, marks) {
+        Ok(tallies) => {
+            *counts = codes::narrow(tally::counts(tallies));
+            0
+        }
+        Err(refusal) => {
+            *counts = [0; 16];
+            codes::code(refusal)
+        }
+    }
 }
 
 // A fresh kept run: reads the list, writes results and, after each fix, the track.
@@ -116,7 +121,7 @@ pub extern "C" fn sillfeather_keep(
         × (kept_of list.now results.new track.new
         ≡ keep_of (is_inverse inverse) s.now (kept_of list.now results.old track.old)) }
 {
-    codes::code(kept::keep(inverse != 0, s, list, results, track))
+    codes::answer(kept::keep(inverse != 0, s, list, results, track))
 }
 
 // Corrects one fix of a kept run: writes it into the list and redoes from there; `redone` gets how
@@ -135,18 +140,17 @@ pub extern "C" fn sillfeather_correct(
     ensures { corrected result redone.new (kept_of list.new results.new track.new)
         ≡ corrected_of (correct_of (is_inverse inverse) s.now (kept_of list.old results.old track.old) index (tuple_of fix.now)) }
 {
-    let answer = kept::correct(
-        inverse != 0,
-        s,
-        list,
-        results,
-        track,
-        index,
-        arrays::tuple_of(fix),
-    );
-    let refusal = answer.refusal;
-    *redone = answer.redone;
-    codes::code(refusal)
+    let fix = arrays::tuple_of(fix);
+    match kept::correct(inverse != 0, s, list, results, track, index, fix) {
+        Ok(fixes) => {
+            *redone = fixes;
+            0
+        }
+        Err(refusal) => {
+            *redone = 0;
+            codes::code(refusal)
+        }
+    }
 }
 
 // ----- making a sheet -------------------------------------------------------------------------
@@ -155,10 +159,13 @@ pub extern "C" fn sillfeather_correct(
 fn add(room: &mut [u8], len: &mut u64, inverted: u32, step: Step) -> u32
     ensures { made result len.new room.new ≡ made_of (added_of room.old len.old inverted step) }
 {
-    let added = making::add(room, *len as usize, inverted, step);
-    let refusal = added.refusal;
-    *len = added.length as u64;
-    codes::code(refusal)
+    match making::add(room, *len as usize, inverted, step) {
+        Ok(length) => {
+            *len = length as u64;
+            0
+        }
+        Err(refusal) => codes::code(refusal),
+    }
 }
 
 // The 30 numbers in the order of the body.
@@ -290,8 +297,14 @@ pub extern "C" fn sillfeather_rescue(
     ensures { mended result changed.new room.new changes.new
         ≡ mended_of (rescue_of damaged.now room.old changes.old) }
 {
-    let answer = rescue::rescue(damaged, room, changes);
-    let refusal = answer.refusal;
-    *changed = words::long(answer.changed);
-    codes::code(refusal)
+    match rescue::rescue(damaged, room, changes) {
+        Ok(words) => {
+            *changed = words::long(words);
+            0
+        }
+        Err(refusal) => {
+            *changed = 0;
+            codes::code(refusal)
+        }
+    }
 }

@@ -1,9 +1,9 @@
--- Calls are replaced by what they ensure; the definition is left. Assumes nothing.
-use mathlib.Core.Path.{ap, ◌∙◌}
-use Rattle.badekas_entries.specs.Made.{made_of}
+-- One case for each answer of `add` (`done-made`, `refused-made`). Assumes nothing.
+use Rattle.badekas_entries.proofs.Adding.{done-made, refused-made}
 use Rattle.badekas_entries.proofs.sillfeather_add_badekas.Goals as goal
 
-pub returns : goal.returns
-returns c =
-    rw c.code.ensures
-    (ap made_of c.add-added.ensures ∙ rw c.badekas_of.ensures)
+pub returns-in-Ok : goal.returns-in-Ok
+returns-in-Ok c = done-made _ _ _ _ (rw c.badekas_of.ensures at c.add.ensures) c.in-Ok.is
+
+pub returns-in-Err : goal.returns-in-Err
+returns-in-Err c = rw c.code.ensures (refused-made _ _ _ _ (rw c.badekas_of.ensures at c.add.ensures) c.in-Err.is)

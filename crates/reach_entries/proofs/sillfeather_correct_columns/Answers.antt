@@ -1,9 +1,9 @@
--- The answer's parts are handed over one by one. Assumes nothing.
-use mathlib.Core.Path.{ap, ◌∙◌}
-use Rattle.reach_entries.specs.Codes.{correct_columns_told_of}
+-- One case for each answer of the correction (`columns-done`, `columns-refused`). Assumes nothing.
+use Rattle.reach_entries.proofs.Keeping.{columns-done, columns-refused}
 use Rattle.reach_entries.proofs.sillfeather_correct_columns.Goals as goal
 
-pub returns : goal.returns
-returns c =
-    let e = c.correct-answer.ensures in
-    rw c.code.ensures (ap correct_columns_told_of e ∙ rw c.tuple_of.ensures)
+pub returns-in-Ok : goal.returns-in-Ok
+returns-in-Ok c = columns-done _ _ _ _ _ (rw c.tuple_of-fix.ensures at c.correct.ensures) c.in-Ok.is
+
+pub returns-in-Err : goal.returns-in-Err
+returns-in-Err c = rw c.code.ensures (columns-refused _ _ _ _ _ (rw c.tuple_of-fix.ensures at c.correct.ensures) c.in-Err.is)

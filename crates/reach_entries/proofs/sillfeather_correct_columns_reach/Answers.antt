@@ -1,10 +1,9 @@
--- The answer's parts are handed over one by one. Assumes nothing.
-use mathlib.Core.Path.{ap, ◌∙◌}
-use Rattle.reach_entries.specs.Codes.{correct_columns_told_of}
+-- One case for each answer of the correction (`columns-reach-done`, `columns-reach-refused`). Assumes nothing.
+use Rattle.reach_entries.proofs.Keeping.{columns-reach-done, columns-reach-refused}
 use Rattle.reach_entries.proofs.sillfeather_correct_columns_reach.Goals as goal
 
-pub returns : goal.returns
-returns c =
-    let e = c.correct_reach-answer.ensures in
-    let fix = c.tuple_of.ensures in
-    (rw c.code.ensures (ap correct_columns_told_of e.0 ∙ rw fix), e.1 ∙ rw fix)
+pub returns-in-Ok : goal.returns-in-Ok
+returns-in-Ok c = columns-reach-done _ _ _ _ _ (rw c.tuple_of-fix.ensures at c.correct_reach.ensures) c.in-Ok.is
+
+pub returns-in-Err : goal.returns-in-Err
+returns-in-Err c = rw c.code.ensures (columns-reach-refused _ _ _ _ _ (rw c.tuple_of-fix.ensures at c.correct_reach.ensures) c.in-Err.is)

@@ -1,9 +1,9 @@
--- The answer's parts are handed over one by one. Assumes nothing.
-use mathlib.Core.Path.{ap}
-use Rattle.reach_entries.specs.Codes.{correct_told_of}
+-- One case for each answer of the correction (`correct-done`, `correct-refused`). Assumes nothing.
+use Rattle.reach_entries.proofs.Keeping.{correct-done, correct-refused}
 use Rattle.reach_entries.proofs.sillfeather_correct_reach.Goals as goal
 
-pub returns : goal.returns
-returns c =
-    let e = rw c.tuple_of.ensures at c.correct_reach-told.ensures in
-    (rw c.code.ensures (ap correct_told_of e.0), e.1)
+pub returns-in-Ok : goal.returns-in-Ok
+returns-in-Ok c = correct-done _ _ _ _ _ (rw c.tuple_of-fix.ensures at c.correct_reach.ensures) c.in-Ok.is
+
+pub returns-in-Err : goal.returns-in-Err
+returns-in-Err c = rw c.code.ensures (correct-refused _ _ _ _ _ (rw c.tuple_of-fix.ensures at c.correct_reach.ensures) c.in-Err.is)

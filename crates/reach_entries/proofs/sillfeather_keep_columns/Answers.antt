@@ -1,9 +1,10 @@
--- The answer's parts are handed over one by one. Assumes nothing.
-use mathlib.Core.Path.{ap, ◌∙◌}
-use Rattle.codes.specs.Codes.{code_of}
+-- The word of what `keep` answers, and what it leaves. Assumes nothing.
+use mathlib.Core.Path.{◌∙◌}
+use Rattle.codes.proofs.Clear.{answered}
+use Rattle.reach_entries.proofs.Keeping.{clear_keep_columns}
 use Rattle.reach_entries.proofs.sillfeather_keep_columns.Goals as goal
 
 pub returns : goal.returns
 returns c =
     let e = c.keep.ensures in
-    (c.code.ensures ∙ ap code_of e.0, e.1)
+    (c.answer.ensures ∙ answered _ (clear_keep_columns c.args.s.now _) e.0, e.1)

@@ -1,10 +1,15 @@
--- The answer's parts are handed over one by one. Assumes nothing.
-use mathlib.Core.Path.{ap, ◌∙◌}
-use Rattle.tally.specs.declared.Tally.{Tally}
-use Rattle.codes.specs.Codes.{code_of}
+-- One case for each answer of the run (`keep-columns-done`, `keep-columns-refused`). Assumes nothing.
+use Rattle.reach_entries.proofs.Keeping.{keep-columns-done, keep-columns-refused}
 use Rattle.reach_entries.proofs.sillfeather_keep_columns_reach.Goals as goal
 
-pub returns : goal.returns
-returns c =
-    let e = c.keep_reach-told.ensures in
-    (c.code.ensures ∙ ap code_of e.0, ap (λ (a : Tally). a.count) e.1, ap (λ (a : Tally). a.met) e.1, e.2)
+pub returns-in-Ok : goal.returns-in-Ok
+returns-in-Ok c =
+    let e = c.keep_reach.ensures in
+    let told = keep-columns-done _ _ _ e.0 c.in-Ok.is in
+    (told.0, told.1.0, told.1.1, e.1)
+
+pub returns-in-Err : goal.returns-in-Err
+returns-in-Err c =
+    let e = c.keep_reach.ensures in
+    let told = keep-columns-refused _ _ _ e.0 c.in-Err.is in
+    (rw c.code.ensures told.0, told.1.0, told.1.1, e.1)

@@ -1,13 +1,12 @@
--- The answer's parts are handed over one by one, and no number is cut (`columns-fit`). Assumes
--- nothing.
-use mathlib.Core.Path.{ap}
-use Rattle.codes.proofs.Counts.{narrow_small}
-use Rattle.reach_entries.specs.Codes.{columns_told_of}
-use Rattle.reach_entries.proofs.Fit.{columns-fit}
+-- One case for each answer of the shift: the tallies are handed over, and no number is cut
+-- (`columns-ran-told`); refused, zeros are (`columns-refused-told`). Assumes nothing.
+use Rattle.reach_entries.proofs.Fit.{columns-ran-told, columns-refused-told}
 use Rattle.reach_entries.proofs.sillfeather_shift_columns.Goals as goal
 
-pub returns : goal.returns
-returns c =
-    let e = c.shift_columns-answer.ensures in
-    let fit = columns-fit _ _ _ _ _ _ e in
-    rw (c.code.ensures, c.narrow-2.ensures, c.mets.ensures, c.narrow.ensures, c.counts.ensures, narrow_small _ fit.0, narrow_small _ fit.1) (ap columns_told_of e)
+pub returns-in-Ok : goal.returns-in-Ok
+returns-in-Ok c =
+    rw (c.narrow-in-Ok.ensures, c.mets.ensures, c.narrow.ensures, c.counts.ensures)
+    (columns-ran-told _ _ _ _ _ c.shift_columns.ensures c.in-Ok.is)
+
+pub returns-in-Err : goal.returns-in-Err
+returns-in-Err c = rw c.code.ensures (columns-refused-told _ _ _ _ _ c.shift_columns.ensures c.in-Err.is)

@@ -1,12 +1,12 @@
--- The answer's parts are handed over one by one, and no number is cut (`shift_fits`). Assumes nothing.
-use mathlib.Core.Path.{ap}
-use Rattle.codes.proofs.Counts.{narrow_small}
-use Rattle.reach_entries.specs.Codes.{shift_told_of}
-use Rattle.reach_entries.proofs.Fit.{shift_fits}
+-- One case for each answer of the shift: the tallies are handed over, and no number is cut
+-- (`ran-told`); refused, zeros are (`refused-told`). Assumes nothing.
+use Rattle.reach_entries.proofs.Fit.{ran-told, refused-told}
 use Rattle.reach_entries.proofs.sillfeather_shift_reach.Goals as goal
 
-pub returns : goal.returns
-returns c =
-    let e = c.shift-answer.ensures in
-    let fit = shift_fits _ _ _ _ _ _ e in
-    rw (c.code.ensures, c.narrow-2.ensures, c.mets.ensures, c.narrow.ensures, c.counts.ensures, narrow_small _ fit.0, narrow_small _ fit.1) (ap shift_told_of e)
+pub returns-in-Ok : goal.returns-in-Ok
+returns-in-Ok c =
+    rw (c.narrow-in-Ok.ensures, c.mets.ensures, c.narrow.ensures, c.counts.ensures)
+    (ran-told _ _ _ _ _ c.shift.ensures c.in-Ok.is)
+
+pub returns-in-Err : goal.returns-in-Err
+returns-in-Err c = rw c.code.ensures (refused-told _ _ _ _ _ c.shift.ensures c.in-Err.is)

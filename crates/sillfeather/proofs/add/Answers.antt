@@ -1,7 +1,9 @@
--- Calls are replaced by what they ensure; the definition is left. Assumes nothing.
-use mathlib.Core.Path.{ap}
-use Rattle.sillfeather.specs.Codes.{made_of}
+-- One case for each answer of `add` (`done-made`, `refused-made`). Assumes nothing.
+use Rattle.sillfeather.proofs.Adding.{done-made, refused-made}
 use Rattle.sillfeather.proofs.add.Goals as goal
 
-pub returns : goal.returns
-returns c = rw c.code.ensures (ap made_of c.add-added.ensures)
+pub returns-in-Ok : goal.returns-in-Ok
+returns-in-Ok c = done-made _ _ _ _ c.add.ensures c.in-Ok.is
+
+pub returns-in-Err : goal.returns-in-Err
+returns-in-Err c = rw c.code.ensures (refused-made _ _ _ _ c.add.ensures c.in-Err.is)

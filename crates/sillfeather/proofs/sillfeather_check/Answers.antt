@@ -1,5 +1,7 @@
--- Calls are replaced by what they ensure; the definition is left. Assumes nothing.
+-- The word of what `check` answers. Assumes nothing.
+use mathlib.Core.Path.{◌∙◌}
+use Rattle.codes.proofs.Clear.{answered, clear_sheet}
 use Rattle.sillfeather.proofs.sillfeather_check.Goals as goal
 
 pub returns : goal.returns
-returns c = rw (c.code.ensures, c.check.ensures)
+returns c = c.answer.ensures ∙ answered _ (clear_sheet _) c.check.ensures

@@ -1,9 +1,9 @@
--- Calls are replaced by what they ensure; the definition is left. Assumes nothing.
-use mathlib.Core.Path.{ap, ◌∙◌}
-use Rattle.sillfeather.specs.Codes.{corrected_of}
+-- One case for each answer of `correct` (`done-corrected`, `refused-corrected`). Assumes nothing.
+use Rattle.sillfeather.proofs.Keeping.{done-corrected, refused-corrected}
 use Rattle.sillfeather.proofs.sillfeather_correct.Goals as goal
 
-pub returns : goal.returns
-returns c =
-    let e = c.correct-answer.ensures in
-    rw c.code.ensures (ap corrected_of e ∙ rw c.tuple_of.ensures)
+pub returns-in-Ok : goal.returns-in-Ok
+returns-in-Ok c = done-corrected _ _ _ _ _ (rw c.tuple_of-fix.ensures at c.correct.ensures) c.in-Ok.is
+
+pub returns-in-Err : goal.returns-in-Err
+returns-in-Err c = rw c.code.ensures (refused-corrected _ _ _ _ _ (rw c.tuple_of-fix.ensures at c.correct.ensures) c.in-Err.is)

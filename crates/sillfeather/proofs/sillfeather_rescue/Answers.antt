@@ -1,7 +1,9 @@
--- Calls are replaced by what they ensure; the definition is left. Assumes nothing.
-use mathlib.Core.Path.{ap}
-use Rattle.sillfeather.specs.Codes.{mended_of}
+-- One case for each answer of `rescue` (`done-mended`, `refused-mended`). Assumes nothing.
+use Rattle.sillfeather.proofs.Mending.{done-mended, refused-mended}
 use Rattle.sillfeather.proofs.sillfeather_rescue.Goals as goal
 
-pub returns : goal.returns
-returns c = rw (c.code.ensures, c.long.ensures) (ap mended_of c.rescue-answer.ensures)
+pub returns-in-Ok : goal.returns-in-Ok
+returns-in-Ok c = rw c.long.ensures (done-mended _ _ _ c.rescue.ensures c.in-Ok.is)
+
+pub returns-in-Err : goal.returns-in-Err
+returns-in-Err c = rw c.code.ensures (refused-mended _ _ _ c.rescue.ensures c.in-Err.is)

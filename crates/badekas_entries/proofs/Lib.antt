@@ -1,0 +1,2 @@
+-- What the proof of `badekas_entries` uses.
+pub mod Adding
