@@ -12,9 +12,11 @@ use Rattle.tuple.specs.declared.Tuple.{Tuple}
 use Rattle.sheet.specs.declared.Refusal.{Refusal}
 use Rattle.sheet.specs.Rules.{rule, accepted, of_call, first_broken, refusal_of}
 use Rattle.sheet.proofs.Order.{neither}
+use Rattle.sheet.proofs.Unless.{passed_value}
+use Rattle.std.specs.Prelude.{Result, Ok}
 use Rattle.chain.specs.Rules.{refusal9}
 use Rattle.stretch.specs.Kept.{Kept, Redone, fresh_of, corrected_of}
-use Rattle.kept.specs.Entries.{refusal12, refusal13, refusal14, order_by, kept_order, keep_refusal_of, correct_refusal_of, shift_in, reversed_in, keep_of, outcome, corrected_as, correct_of}
+use Rattle.kept.specs.Entries.{Corrected, CorrectOutcome, redone_in, refusal12, refusal13, refusal14, order_by, kept_order, keep_refusal_of, correct_refusal_of, shift_in, reversed_in, keep_of, outcome, corrected_as, correct_of}
 
 -- ---- the order
 
@@ -181,3 +183,9 @@ module _ (inverse : Bool) (s : List ℕ) (old : Kept) (index : ℕ) (fix : Tuple
       let z : before-14.number ≡ 0 = sym (ap (λ (q : Refusal). q.number) e) ∙ h in
       let same : r ≡ correct_refusal_of s old index = e ∙ accepted-before z ∙ sym (late z ∙ rw a) in
       rw (← same, eq-eqb _ _ h) (ap (λ (k : Redone). outcome (corrected_as r k.count) k.kept) d)
+
+-- what a correction hands out tells its answer: its outcome is that of how many fixes it redid
+pub handed : (o : CorrectOutcome) {out : Result ℕ Refusal} {n : ℕ} {new : Kept} → out ≡ redone_in o.answer → out ≡ Ok n → new ≡ o.kept
+    → outcome (corrected_as o.answer.refusal n) new ≡ o
+handed o {out} {n} {new} e ok k =
+    ap (λ (m : ℕ). outcome (corrected_as o.answer.refusal m) new) (passed_value o.answer.refusal o.answer.redone e ok) ∙ ap (λ (held : Kept). outcome o.answer held) k

@@ -20,7 +20,7 @@ use Rattle.lists.specs.Flat.{tuple_at, put_at}
 use Rattle.chain.specs.Rules.{refusal9}
 use Rattle.chain.specs.MarkedPoints.{bytes, helmert_sheet, fixes, xs, one, y2001, y2002}
 use Rattle.stretch.specs.Same.{alike_number_of, alike_of}
-use Rattle.kept.specs.declared.Corrected.{Corrected}
+use Rattle.kept.specs.Entries.{Corrected}
 use Rattle.stretch.specs.Kept.{kept_at, put_fix, Stretch, fresh_of, meets_of, stretch_from, stretch_of, redo_of, before_of, corrected_of}
 use Rattle.kept.specs.Entries.{refusal12, refusal13, refusal14, keep_refusal_of, correct_refusal_of, keep_of, correct_of}
 use Rattle.kept.specs.MarkedPoints.{p6-sheet, y2000, p6_lists, p6-kept, p6-fix, P6}

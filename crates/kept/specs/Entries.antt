@@ -1,6 +1,6 @@
 -- When a call is refused, by document 01's numbers, and what it answers and leaves. `refusal12`,
 -- `refusal13` and `refusal14` say when the rule of that number is broken.
-use Rattle.std.specs.Prelude.{ℕ, ◌/◌, Bool, not, cond, ◌||◌, List, [], ◌∷◌, eqb, ltb, length}
+use Rattle.std.specs.Prelude.{ℕ, ◌/◌, Bool, not, cond, ◌||◌, List, [], ◌∷◌, eqb, ltb, length, Result}
 use Rattle.tuple.specs.declared.Tuple.{Tuple}
 use Rattle.helmert.specs.declared.Shift.{Shift}
 use Rattle.helmert.specs.Record.{zero_helmert}
@@ -10,10 +10,9 @@ use Rattle.bodies.specs.declared.Step.{Step}
 use Rattle.bodies.specs.declared.Step.TheVariants as step
 use Rattle.sheet.specs.declared.Refusal.{Refusal}
 use Rattle.sheet.specs.Layout.{step_count_of, kind_at, entry_at}
-use Rattle.sheet.specs.Rules.{Rule, rule, of_call, first_broken, refusal_of}
+use Rattle.sheet.specs.Rules.{Rule, rule, of_call, first_broken, refusal_of, unless}
 use Rattle.chain.specs.Chain.{reversed_of}
 use Rattle.chain.specs.Rules.{refusal9}
-use Rattle.kept.specs.declared.Corrected.{Corrected}
 use Rattle.stretch.specs.Kept.{Kept, fresh_of, corrected_of}
 
 -- ---- the rules of a kept run
@@ -76,6 +75,15 @@ reversed_in inverse s = reversed_of inverse (entry_at s 0)
 -- what a fresh run leaves; on refusal all three lists as they were
 unfoldable pub keep_of : Bool → List ℕ → Kept → Kept
 keep_of inverse s old = cond (eqb (keep_refusal_of s old).number 0) (fresh_of (shift_in s) (reversed_in inverse s) old.list) old
+
+-- a refusal, or none and how many fixes were redone
+pub record Corrected : Type 0 where
+  pub refusal : Refusal
+  pub redone : ℕ
+
+-- what a function hands out of it: how many fixes were redone, or the refusal
+abbrev pub redone_in : Corrected → Result ℕ Refusal
+redone_in answer = unless answer.refusal answer.redone
 
 -- what a correction answers and leaves
 pub record CorrectOutcome : Type 0 where

@@ -15,9 +15,9 @@
 #![tactic(auto)]
 
 ghost use Rattle.std.specs.Prelude.{◌≡◌, []};
-ghost use Rattle.sheet.specs.Rules.{first_broken};
+ghost use Rattle.sheet.specs.Rules.{first_broken, unless};
 ghost use Rattle.stretch.specs.Kept.{kept_of};
-ghost use Rattle.kept.specs.Entries.{refusal12, refusal13, refusal14, order_by, kept_order, keep_refusal_of, shift_in, reversed_in, keep_of, step_shift_of, outcome, correct_of};
+ghost use Rattle.kept.specs.Entries.{refusal12, refusal13, refusal14, order_by, kept_order, keep_refusal_of, shift_in, reversed_in, keep_of, step_shift_of, redone_in, correct_of};
 ghost use Rattle.helmert.specs.Modes.{prepare_of};
 ghost use Rattle.helmert.specs.Record.{zero_helmert};
 
@@ -99,28 +99,25 @@ pub fn index_broken(list: usize, index: usize) -> bool
 }
 
 // The sheet's own, then 12, 9 and 13, of which the last two are asked of lengths.
-pub fn check_order(s: &[u8], nine: bool, thirteen: bool) -> Refusal
-    ensures { result ≡ first_broken (order_by s.now nine thirteen []) }
+pub fn check_order(s: &[u8], nine: bool, thirteen: bool) -> Result<(), Refusal>
+    ensures { result ≡ unless (first_broken (order_by s.now nine thirteen [])) tt }
 {
-    let own = sheet::check(s);
-    if own.number != 0 {
-        return own;
-    }
+    sheet::check(s)?;
     if step_broken(s) {
-        return Refusal::of_call(12);
+        return Err(Refusal::of_call(12));
     }
     if nine {
-        return Refusal::of_call(9);
+        return Err(Refusal::of_call(9));
     }
     if thirteen {
-        return Refusal::of_call(13);
+        return Err(Refusal::of_call(13));
     }
-    Refusal::none()
+    Ok(())
 }
 
 // The same by the lengths of three flat lists.
-fn check(s: &[u8], list: usize, results: usize, track: usize) -> Refusal
-    ensures { result ≡ first_broken (kept_order s.now list results track []) }
+fn check(s: &[u8], list: usize, results: usize, track: usize) -> Result<(), Refusal>
+    ensures { result ≡ unless (first_broken (kept_order s.now list results track [])) tt }
 {
     let nine = chain::list_broken(list);
     let thirteen = lengths_broken(list, results, track);
@@ -136,25 +133,15 @@ pub fn keep(
     list: &[f64],
     results: &mut [f64],
     track: &mut [f64],
-) -> Refusal
-    ensures { (result ≡ keep_refusal_of s.now (kept_of list.now results.old track.old))
+) -> Result<(), Refusal>
+    ensures { (result ≡ unless (keep_refusal_of s.now (kept_of list.now results.old track.old)) tt)
         × (kept_of list.now results.new track.new
         ≡ keep_of inverse s.now (kept_of list.now results.old track.old)) }
 {
-    let refusal = check(s, list.len(), results.len(), track.len());
-    if refusal.number != 0 {
-        return refusal;
-    }
+    check(s, list.len(), results.len(), track.len())?;
     let step = step_in(inverse, s);
     stretch_flat::fresh(step.shift, step.reversed, list, results, track);
-    refusal
-}
-
-// A refusal, or none and how many fixes were redone.
-#[derive(Clone, Copy)]
-pub struct Corrected {
-    pub refusal: Refusal,
-    pub redone: u64,
+    Ok(())
 }
 
 // Corrects one fix: writes it into the list and redoes from there until the carried state equals
@@ -167,28 +154,16 @@ pub fn correct(
     track: &mut [f64],
     index: usize,
     fix: Tuple,
-) -> Corrected
-    ensures { outcome result (kept_of list.new results.new track.new)
-        ≡ correct_of inverse s.now (kept_of list.old results.old track.old) index fix }
+) -> Result<u64, Refusal>
+    ensures { (result ≡ redone_in (correct_of inverse s.now (kept_of list.old results.old track.old) index fix).answer)
+        × (kept_of list.new results.new track.new
+        ≡ (correct_of inverse s.now (kept_of list.old results.old track.old) index fix).kept) }
 {
-    let refusal = check(s, list.len(), results.len(), track.len());
-    if refusal.number != 0 {
-        return Corrected {
-            refusal: refusal,
-            redone: 0, // a refused call redoes nothing
-        };
-    }
+    check(s, list.len(), results.len(), track.len())?;
     if index_broken(list.len(), index) {
-        let refused = Refusal::of_call(14);
-        return Corrected {
-            refusal: refused,
-            redone: 0,
-        };
+        return Err(Refusal::of_call(14)); // a refused call redoes nothing
     }
     let step = step_in(inverse, s);
     let n = stretch_flat::put_right(step.shift, step.reversed, list, results, track, index, fix);
-    Corrected {
-        refusal: refusal,
-        redone: n as u64,
-    }
+    Ok(n as u64)
 }
