@@ -20,14 +20,16 @@ use Rattle.helmert.specs.Turns.{helmert_turns}
 use Rattle.sheet.specs.declared.Refusal.{Refusal}
 use Rattle.sheet.specs.Rules.{rule, of_call, first_broken, refusal_of}
 use Rattle.sheet.proofs.Order.{neither}
+use Rattle.sheet.proofs.Unless.{passed_value}
+use Rattle.std.specs.Prelude.{Result, Ok}
 use Rattle.chain.specs.Rules.{refusal9}
 use Rattle.chain.proofs.Columns.{nine_kept, level_nine}
 use Rattle.stretch.specs.Kept.{tracked_of, Kept, kept_of, fresh_of, corrected_of}
 use Rattle.stretch.specs.KeptColumns.{KeptColumns, flat_list_of, flat_kept_of, kept_columns_of, AllLevel, fresh_columns_of, RedoneColumns, redone_columns, put_right_columns_of}
 use Rattle.stretch.proofs.Fits.{all_level_test}
 use Rattle.stretch.proofs.Meeting.{track_length}
-use Rattle.kept.specs.Entries.{order_by, refusal12, refusal13, refusal14, keep_refusal_of, correct_refusal_of, shift_in, reversed_in, keep_of, CorrectOutcome, outcome, corrected_as, correct_of}
-use Rattle.kept_columns.specs.Columns.{uneven, list_uneven, kept_uneven, keep_columns_refusal_of, correct_columns_refusal_of, keep_columns_of, columns_outcome, correct_columns_of}
+use Rattle.kept.specs.Entries.{redone_in, order_by, refusal12, refusal13, refusal14, keep_refusal_of, correct_refusal_of, shift_in, reversed_in, keep_of, CorrectOutcome, outcome, corrected_as, correct_of}
+use Rattle.kept_columns.specs.Columns.{CorrectColumnsOutcome, uneven, list_uneven, kept_uneven, keep_columns_refusal_of, correct_columns_refusal_of, keep_columns_of, columns_outcome, correct_columns_of}
 use Rattle.kept.proofs.Promises.{refused-alters-nothing, results-unwritten, track-unwritten, list-unwritten}
 use Rattle.kept.proofs.Answers.{first_stays, all_pass, below, keep-refused, keep-done, correct-done}
 
@@ -232,3 +234,9 @@ module _ (inverse : Bool) (s : List ℕ) (old : KeptColumns) (level : AllLevel o
     unfolding correct_columns_of
     the-correction-leaves-the-old-lists =
         rw (correct-refused-alike old level s index) (by-kept (eqb (correct_refusal_of s flat index).number 0) refl)
+
+-- what a correction hands out tells its answer: its outcome is that of how many fixes it redid
+pub columns-handed : (o : CorrectColumnsOutcome) {out : Result ℕ Refusal} {n : ℕ} {new : KeptColumns} → out ≡ redone_in o.answer → out ≡ Ok n → new ≡ o.kept
+    → columns_outcome (corrected_as o.answer.refusal n) new ≡ o
+columns-handed o {out} {n} {new} e ok k =
+    ap (λ (m : ℕ). columns_outcome (corrected_as o.answer.refusal m) new) (passed_value o.answer.refusal o.answer.redone e ok) ∙ ap (λ (held : KeptColumns). columns_outcome o.answer held) k

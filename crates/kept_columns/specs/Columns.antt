@@ -7,8 +7,7 @@ use Rattle.sheet.specs.declared.Refusal.{Refusal}
 use Rattle.sheet.specs.Rules.{rule, of_call, first_broken}
 use Rattle.chain.specs.Columns.{refusal9_columns}
 use Rattle.stretch.specs.KeptColumns.{KeptColumns, flat_kept_of, kept_columns_of}
-use Rattle.kept.specs.declared.Corrected.{Corrected}
-use Rattle.kept.specs.Entries.{order_by, refusal14, keep_of, corrected_as, correct_of}
+use Rattle.kept.specs.Entries.{Corrected, order_by, refusal14, keep_of, corrected_as, correct_of}
 
 -- ---- the rules
 

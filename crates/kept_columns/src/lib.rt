@@ -15,13 +15,12 @@
 
 ghost use Rattle.std.specs.Prelude.{◌≡◌, ◌||◌, []};
 ghost use Rattle.columns.specs.Columns.{columns};
-ghost use Rattle.sheet.specs.Rules.{first_broken};
+ghost use Rattle.sheet.specs.Rules.{first_broken, unless};
 ghost use Rattle.chain.specs.Columns.{refusal9_columns};
 ghost use Rattle.stretch.specs.KeptColumns.{kept_columns};
-ghost use Rattle.kept.specs.Entries.{order_by};
-ghost use Rattle.kept_columns.specs.Columns.{uneven, keep_columns_refusal_of, keep_columns_of, columns_outcome, correct_columns_of};
+ghost use Rattle.kept.specs.Entries.{order_by, redone_in};
+ghost use Rattle.kept_columns.specs.Columns.{uneven, keep_columns_refusal_of, keep_columns_of, correct_columns_of};
 
-use kept::Corrected;
 use sheet::Refusal;
 use tuple::Tuple;
 
@@ -47,8 +46,8 @@ fn check_lengths(
     ky: usize,
     kz: usize,
     kt: usize,
-) -> Refusal
-    ensures { result ≡ first_broken (order_by s.now (refusal9_columns x y z t) (uneven x rx ry rz rt || uneven x kx ky kz kt) []) }
+) -> Result<(), Refusal>
+    ensures { result ≡ unless (first_broken (order_by s.now (refusal9_columns x y z t) (uneven x rx ry rz rt || uneven x kx ky kz kt) [])) tt }
 {
     let nine = chain::columns_broken(x, y, z, t);
     let results = uneven_rows(x, rx, ry, rz, rt);
@@ -75,10 +74,10 @@ pub fn keep(
     ky: &mut [f64],
     kz: &mut [f64],
     kt: &mut [f64],
-) -> Refusal
-    ensures { (result ≡ keep_columns_refusal_of s.now (kept_columns (columns x.now y.now z.now t.now)
+) -> Result<(), Refusal>
+    ensures { (result ≡ unless (keep_columns_refusal_of s.now (kept_columns (columns x.now y.now z.now t.now)
         (columns rx.old ry.old rz.old rt.old)
-        (columns kx.old ky.old kz.old kt.old)))
+        (columns kx.old ky.old kz.old kt.old))) tt)
         × (kept_columns (columns x.now y.now z.now t.now)
         (columns rx.new ry.new rz.new rt.new)
         (columns kx.new ky.new kz.new kt.new)
@@ -86,7 +85,7 @@ pub fn keep(
         (columns rx.old ry.old rz.old rt.old)
         (columns kx.old ky.old kz.old kt.old))) }
 {
-    let refusal = check_lengths(
+    check_lengths(
         s,
         x.len(),
         y.len(),
@@ -100,10 +99,7 @@ pub fn keep(
         ky.len(),
         kz.len(),
         kt.len(),
-    );
-    if refusal.number != 0 {
-        return refusal;
-    }
+    )?;
     let step = kept::step_in(inverse, s);
     stretch_columns::fresh(
         step.reversed, // the fresh run's direction
@@ -121,7 +117,7 @@ pub fn keep(
         kz,
         kt,
     );
-    refusal
+    Ok(())
 }
 
 // Corrects one fix of a kept run over columns.
@@ -142,15 +138,18 @@ pub fn correct(
     kt: &mut [f64],
     index: usize,
     fix: Tuple,
-) -> Corrected
-    ensures { columns_outcome result (kept_columns (columns x.new y.new z.new t.new)
-        (columns rx.new ry.new rz.new rt.new)
-        (columns kx.new ky.new kz.new kt.new))
-        ≡ correct_columns_of inverse s.now (kept_columns (columns x.old y.old z.old t.old)
+) -> Result<u64, Refusal>
+    ensures { (result ≡ redone_in (correct_columns_of inverse s.now (kept_columns (columns x.old y.old z.old t.old)
         (columns rx.old ry.old rz.old rt.old)
-        (columns kx.old ky.old kz.old kt.old)) index fix }
+        (columns kx.old ky.old kz.old kt.old)) index fix).answer)
+        × (kept_columns (columns x.new y.new z.new t.new)
+        (columns rx.new ry.new rz.new rt.new)
+        (columns kx.new ky.new kz.new kt.new)
+        ≡ (correct_columns_of inverse s.now (kept_columns (columns x.old y.old z.old t.old)
+        (columns rx.old ry.old rz.old rt.old)
+        (columns kx.old ky.old kz.old kt.old)) index fix).kept) }
 {
-    let refusal = check_lengths(
+    check_lengths(
         s,
         x.len(),
         y.len(),
@@ -164,19 +163,9 @@ pub fn correct(
         ky.len(),
         kz.len(),
         kt.len(),
-    );
-    if refusal.number != 0 {
-        return Corrected {
-            refusal: refusal,
-            redone: 0, // a refused call redoes nothing
-        };
-    }
+    )?;
     if kept::index_broken(4 * x.len(), index) {
-        let refused = Refusal::of_call(14);
-        return Corrected {
-            refusal: refused,
-            redone: 0,
-        };
+        return Err(Refusal::of_call(14)); // a refused call redoes nothing
     }
     let step = kept::step_in(inverse, s);
     let n = stretch_columns::put_right(
@@ -197,8 +186,5 @@ pub fn correct(
         index,
         fix,
     );
-    Corrected {
-        refusal: refusal,
-        redone: n as u64,
-    }
+    Ok(n as u64)
 }

@@ -20,8 +20,7 @@ use Rattle.tally.specs.Tallies.{no_tally}
 use Rattle.plans.specs.Passes.{tally_of}
 use Rattle.stretch.specs.Kept.{before_of}
 use Rattle.stretch.specs.KeptColumns.{KeptColumns, flat_list_of, flat_kept_of, kept_columns_of, LevelColumns, AllLevel}
-use Rattle.kept.specs.declared.Corrected.{Corrected}
-use Rattle.kept.specs.Entries.{refusal12, refusal14, shift_in, reversed_in, keep_refusal_of, CorrectOutcome, outcome, corrected_as, correct_of}
+use Rattle.kept.specs.Entries.{Corrected, refusal12, refusal14, shift_in, reversed_in, keep_refusal_of, CorrectOutcome, outcome, corrected_as, correct_of}
 use Rattle.kept.proofs.Answers.{passed, first_stays}
 use Rattle.kept_columns.specs.Columns.{list_uneven, kept_uneven, keep_columns_refusal_of, correct_columns_refusal_of, CorrectColumnsOutcome, columns_outcome, correct_columns_of}
 use Rattle.kept_columns.proofs.Columns.{keep-refused-alike, passes-level, the-correction-gives-the-old-answer, the-correction-leaves-the-old-lists}

@@ -12,13 +12,15 @@
 ghost use Rattle.std.specs.Prelude.{◌≡◌, ◌+◌, ◌≤◌, length};
 ghost use Rattle.columns.specs.Columns.{columns, Level, flat_of};
 ghost use Rattle.plans.specs.Passes.{tally_of};
+ghost use Rattle.sheet.specs.Rules.{unless};
 ghost use Rattle.stretch.specs.KeptColumns.{kept_columns};
-ghost use Rattle.kept_columns.specs.Columns.{keep_columns_refusal_of, keep_columns_of, columns_outcome, correct_columns_of};
-ghost use Rattle.kept_reach.specs.Reach.{fixes_from, time_pass};
+ghost use Rattle.kept_columns.specs.Columns.{keep_columns_refusal_of, keep_columns_of, correct_columns_of};
+ghost use Rattle.kept_reach.specs.Reach.{fixes_from, told_in, time_pass};
 ghost use Rattle.kept_columns_reach.specs.Reach.{keep_columns_tally_of, stretch_columns_met_of};
 
 use helmert::{Shift, State};
-use kept_reach::{CorrectedReach, KeptTally};
+use kept_reach::CorrectedReach;
+use sheet::Refusal;
 use stretch::ColumnRows;
 use tally::Tally;
 use tuple::Tuple;
@@ -39,33 +41,17 @@ pub fn keep_reach(
     ky: &mut [f64],
     kz: &mut [f64],
     kt: &mut [f64],
-) -> KeptTally
-    ensures { (result.refusal ≡ keep_columns_refusal_of s.now (kept_columns (columns x.now y.now z.now t.now) (columns rx.old ry.old rz.old rt.old) (columns kx.old ky.old kz.old kt.old)))
-        × (result.tally ≡ keep_columns_tally_of inverse s.now (kept_columns (columns x.now y.now z.now t.now) (columns rx.old ry.old rz.old rt.old) (columns kx.old ky.old kz.old kt.old)))
+) -> Result<Tally, Refusal>
+    ensures { (result ≡ unless (keep_columns_refusal_of s.now (kept_columns (columns x.now y.now z.now t.now) (columns rx.old ry.old rz.old rt.old) (columns kx.old ky.old kz.old kt.old))) (keep_columns_tally_of inverse s.now (kept_columns (columns x.now y.now z.now t.now) (columns rx.old ry.old rz.old rt.old) (columns kx.old ky.old kz.old kt.old))))
         × (kept_columns (columns x.now y.now z.now t.now) (columns rx.new ry.new rz.new rt.new) (columns kx.new ky.new kz.new kt.new)
         ≡ keep_columns_of inverse s.now (kept_columns (columns x.now y.now z.now t.now) (columns rx.old ry.old rz.old rt.old) (columns kx.old ky.old kz.old kt.old))) }
 {
-    let refusal = kept_columns::keep(inverse, s, x, y, z, t, rx, ry, rz, rt, kx, ky, kz, kt);
-    if refusal.number != 0 {
-        let none = tally::none(); // a refused call counts nothing
-        return KeptTally {
-            refusal: refusal,
-            tally: none,
-        };
-    }
+    kept_columns::keep(inverse, s, x, y, z, t, rx, ry, rz, rt, kx, ky, kz, kt)?;
     let shift = kept::step_in(inverse, s).shift;
     let start = helmert::start(shift);
-    let rows = ColumnRows {
-        x: x,
-        y: y,
-        z: z,
-        t: t,
-    };
+    let rows = ColumnRows { x, y, z, t };
     let tally = kept_reach::pass(shift, start, &rows);
-    KeptTally {
-        refusal: refusal,
-        tally: tally,
-    }
+    Ok(tally)
 }
 
 // What `kept_reach::pass` tells of n rows from one on.
@@ -110,21 +96,14 @@ pub fn correct_reach(
     kt: &mut [f64],
     index: usize,
     fix: Tuple,
-) -> CorrectedReach
-    ensures { (columns_outcome result.corrected (kept_columns (columns x.new y.new z.new t.new) (columns rx.new ry.new rz.new rt.new) (columns kx.new ky.new kz.new kt.new))
-        ≡ correct_columns_of inverse s.now (kept_columns (columns x.old y.old z.old t.old) (columns rx.old ry.old rz.old rt.old) (columns kx.old ky.old kz.old kt.old)) index fix)
-        × (result.met ≡ stretch_columns_met_of inverse s.now (kept_columns (columns x.old y.old z.old t.old) (columns rx.old ry.old rz.old rt.old) (columns kx.old ky.old kz.old kt.old)) index fix) }
+) -> Result<CorrectedReach, Refusal>
+    ensures { (result ≡ told_in (correct_columns_of inverse s.now (kept_columns (columns x.old y.old z.old t.old) (columns rx.old ry.old rz.old rt.old) (columns kx.old ky.old kz.old kt.old)) index fix).answer (stretch_columns_met_of inverse s.now (kept_columns (columns x.old y.old z.old t.old) (columns rx.old ry.old rz.old rt.old) (columns kx.old ky.old kz.old kt.old)) index fix))
+        × (kept_columns (columns x.new y.new z.new t.new) (columns rx.new ry.new rz.new rt.new) (columns kx.new ky.new kz.new kt.new)
+        ≡ (correct_columns_of inverse s.now (kept_columns (columns x.old y.old z.old t.old) (columns rx.old ry.old rz.old rt.old) (columns kx.old ky.old kz.old kt.old)) index fix).kept) }
 {
-    let corrected = kept_columns::correct(
+    let redone = kept_columns::correct(
         inverse, s, x, y, z, t, rx, ry, rz, rt, kx, ky, kz, kt, index, fix,
-    );
-    let refusal = corrected.refusal;
-    if refusal.number != 0 {
-        return CorrectedReach {
-            corrected: corrected,
-            met: 0, // a refused call redoes nothing
-        };
-    }
+    )?;
     let shift = kept::step_in(inverse, s).shift;
     let track = ColumnRows {
         x: kx,
@@ -133,9 +112,9 @@ pub fn correct_reach(
         t: kt,
     };
     let from = stretch::before(shift, &track, index);
-    let told = pass_rows(shift, from, x, y, z, t, index, corrected.redone as usize);
-    CorrectedReach {
-        corrected: corrected,
+    let told = pass_rows(shift, from, x, y, z, t, index, redone as usize);
+    Ok(CorrectedReach {
+        redone,
         met: told.met as u64,
-    }
+    })
 }

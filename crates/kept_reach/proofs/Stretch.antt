@@ -20,10 +20,11 @@ use Rattle.plans.specs.Passes.{meets, tally_of}
 use Rattle.stretch.specs.Kept.{Kept, Redone, before_of, redo_of, corrected_of}
 use Rattle.stretch.specs.Unwritten.{Unwritten}
 use Rattle.stretch.proofs.Laws.{redone_is_the_stretch, track-outside, list-outside}
-use Rattle.kept.specs.declared.Corrected.{Corrected}
-use Rattle.kept.specs.Entries.{correct_refusal_of, keep_refusal_of, shift_in, reversed_in, CorrectOutcome, outcome, corrected_as, correct_of}
+use Rattle.std.specs.Prelude.{Ok}
+use Rattle.sheet.proofs.Unless.{accepts}
+use Rattle.kept.specs.Entries.{Corrected, correct_refusal_of, keep_refusal_of, shift_in, reversed_in, CorrectOutcome, outcome, corrected_as, correct_of}
 use Rattle.kept.proofs.Answers.{Passed, passed, below, taken}
-use Rattle.kept_reach.specs.Reach.{pass_in, fixes_from, met_from, stretch_met_of, time_pass}
+use Rattle.kept_reach.specs.Reach.{reached, told_in, pass_in, fixes_from, met_from, stretch_met_of, time_pass}
 use Rattle.kept_reach.proofs.Along.{by-times-met}
 
 -- ---- the state before an index goes by the track before it
@@ -154,3 +155,7 @@ module _ (inverse : Bool) (s : List ℕ) (old : Kept) (index : ℕ) (fix : Tuple
       unfolding stretch_met_of
       stretch-met en =
           en ∙ by-times-met reversed shift 0 index (before_of shift new.track index) part ∙ (λ i. count_of (meets (pass_in inverse s)) index (before-is i) (part-is i))
+
+-- what is handed out of a correction that is not refused
+pub told-is : {n met : ℕ} (answer : Corrected) (m : ℕ) → answer.refusal.number ≡ 0 → n ≡ answer.redone → met ≡ m → Ok (reached n met) ≡ told_in answer m
+told-is answer m none en em = rw (en, em) (sym (accepts answer.refusal (reached answer.redone m) none))

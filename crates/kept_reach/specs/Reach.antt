@@ -1,6 +1,6 @@
 -- What a fresh kept run and a correction tell beside what they leave: how many tuples the step
 -- counted, and how many met an angle out of reach of sine and cosine; a correction over its stretch.
-use Rattle.std.specs.Prelude.{ℕ, ◌*◌, Bool, cond, List, eqb, take, drop, Float}
+use Rattle.std.specs.Prelude.{ℕ, ◌*◌, Bool, cond, List, eqb, take, drop, Float, Result}
 use Rattle.tuple.specs.declared.Tuple.{Tuple}
 use Rattle.helmert.specs.declared.Shift.{Shift}
 use Rattle.helmert.specs.declared.State.{State}
@@ -14,7 +14,10 @@ use Rattle.tally.specs.Tallies.{no_tally}
 use Rattle.plans.specs.Passes.{Pass, meets, tally_of}
 use Rattle.stretch.specs.Kept.{Kept, before_of}
 use Rattle.stretch.specs.Track.{moved_of}
-use Rattle.kept.specs.Entries.{keep_refusal_of, shift_in, reversed_in, correct_of}
+use Rattle.sheet.specs.declared.Refusal.{Refusal}
+use Rattle.sheet.specs.Rules.{unless}
+use Rattle.kept.specs.Entries.{Corrected, keep_refusal_of, shift_in, reversed_in, correct_of}
+use Rattle.kept_reach.specs.declared.CorrectedReach.{CorrectedReach}
 
 -- the sheet's one step
 abbrev pub pass_in : Bool → List ℕ → Pass
@@ -39,6 +42,14 @@ unfoldable pub stretch_met_of : Bool → List ℕ → Kept → ℕ → Tuple →
 stretch_met_of inverse s old index fix =
     met_from inverse s index (before_of (shift_in s) old.track index)
     (fixes_from (put_at old.list (4 * index) fix) index (correct_of inverse s old index fix).answer.redone)
+
+-- what a function hands out of a correction: how many fixes were redone and how many of them met
+-- such an angle, or the refusal
+abbrev pub reached : ℕ → ℕ → CorrectedReach
+reached redone met = record { redone = redone; met = met }
+
+abbrev pub told_in : Corrected → ℕ → Result CorrectedReach Refusal
+told_in answer met = unless answer.refusal (reached answer.redone met)
 
 -- ---- the pass over a list
 

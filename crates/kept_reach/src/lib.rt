@@ -13,12 +13,12 @@
 ghost use Rattle.std.specs.Prelude.{◌≡◌};
 ghost use Rattle.plans.specs.Passes.{tally_of};
 ghost use Rattle.stretch.specs.Kept.{kept_of};
-ghost use Rattle.kept.specs.Entries.{keep_refusal_of, keep_of, outcome, correct_of};
-ghost use Rattle.kept_reach.specs.Reach.{keep_tally_of, stretch_met_of, time_pass};
+ghost use Rattle.sheet.specs.Rules.{unless};
+ghost use Rattle.kept.specs.Entries.{keep_refusal_of, keep_of, correct_of};
+ghost use Rattle.kept_reach.specs.Reach.{keep_tally_of, stretch_met_of, told_in, time_pass};
 
 use blocks::one_if;
 use helmert::{Shift, State};
-use kept::Corrected;
 use sheet::Refusal;
 use stretch::{FlatRows, Rows};
 use tally::Tally;
@@ -48,47 +48,29 @@ pub fn pass<R: Rows>(shift: Shift, from: State, list: &R) -> Tally
 
 // ----- the entries -------------------------------------------------------------------------------
 
-// A refusal and zeros, or none and the step's tally.
-#[derive(Clone, Copy)]
-pub struct KeptTally {
-    pub refusal: Refusal,
-    pub tally: Tally,
-}
-
-// A fresh kept run, as `kept::keep`.
+// A fresh kept run, as `kept::keep`, and the step's tally.
 pub fn keep_reach(
     inverse: bool,
     s: &[u8],
     list: &[f64],
     results: &mut [f64],
     track: &mut [f64],
-) -> KeptTally
-    ensures { (result.refusal ≡ keep_refusal_of s.now (kept_of list.now results.old track.old))
-        × (result.tally ≡ keep_tally_of inverse s.now (kept_of list.now results.old track.old))
+) -> Result<Tally, Refusal>
+    ensures { (result ≡ unless (keep_refusal_of s.now (kept_of list.now results.old track.old)) (keep_tally_of inverse s.now (kept_of list.now results.old track.old)))
         × (kept_of list.now results.new track.new
         ≡ keep_of inverse s.now (kept_of list.now results.old track.old)) }
 {
-    let refusal = kept::keep(inverse, s, list, results, track);
-    if refusal.number != 0 {
-        let none = tally::none(); // a refused call counts nothing
-        return KeptTally {
-            refusal: refusal,
-            tally: none,
-        };
-    }
+    kept::keep(inverse, s, list, results, track)?;
     let shift = kept::step_in(inverse, s).shift;
     let start = helmert::start(shift);
-    let tally = pass(shift, start, &FlatRows { list: list });
-    KeptTally {
-        refusal: refusal,
-        tally: tally,
-    }
+    let tally = pass(shift, start, &FlatRows { list });
+    Ok(tally)
 }
 
-// What a correction answers, and how many of the fixes that it redid met an angle out of reach.
+// How many fixes a correction redid, and how many of them met an angle out of reach.
 #[derive(Clone, Copy)]
 pub struct CorrectedReach {
-    pub corrected: Corrected,
+    pub redone: u64,
     pub met: u64,
 }
 
@@ -101,27 +83,20 @@ pub fn correct_reach(
     track: &mut [f64],
     index: usize,
     fix: Tuple,
-) -> CorrectedReach
-    ensures { (outcome result.corrected (kept_of list.new results.new track.new)
-        ≡ correct_of inverse s.now (kept_of list.old results.old track.old) index fix)
-        × (result.met ≡ stretch_met_of inverse s.now (kept_of list.old results.old track.old) index fix) }
+) -> Result<CorrectedReach, Refusal>
+    ensures { (result ≡ told_in (correct_of inverse s.now (kept_of list.old results.old track.old) index fix).answer (stretch_met_of inverse s.now (kept_of list.old results.old track.old) index fix))
+        × (kept_of list.new results.new track.new
+        ≡ (correct_of inverse s.now (kept_of list.old results.old track.old) index fix).kept) }
 {
-    let corrected = kept::correct(inverse, s, list, results, track, index, fix);
-    let refusal = corrected.refusal;
-    if refusal.number != 0 {
-        return CorrectedReach {
-            corrected: corrected,
-            met: 0, // a refused call redoes nothing
-        };
-    }
+    let redone = kept::correct(inverse, s, list, results, track, index, fix)?;
     let shift = kept::step_in(inverse, s).shift;
     let from = stretch::before(shift, &FlatRows { list: track }, index);
     let a = 4 * index;
-    let e = 4 * (index + corrected.redone as usize); // the stretch, and no more
-    let redone = FlatRows { list: &list[a..e] };
-    let told = pass(shift, from, &redone);
-    CorrectedReach {
-        corrected: corrected,
+    let e = 4 * (index + redone as usize); // the stretch, and no more
+    let fixes = FlatRows { list: &list[a..e] };
+    let told = pass(shift, from, &fixes);
+    Ok(CorrectedReach {
+        redone,
         met: told.met as u64,
-    }
+    })
 }

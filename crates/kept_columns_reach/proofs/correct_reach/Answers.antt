@@ -1,40 +1,47 @@
--- One case for each way through the test: none of a refused call (`columns-refused-met`), else what
--- the pass over the stretch tells (`columns-met`), which lies in the rows (`rows_fit`). Assumes
--- nothing.
+-- A refused call hands on the refusal; what one that is not has made is its outcome
+-- (`columns-handed`), of which the pass over the stretch tells (`columns-met`), which lies in the rows
+-- (`rows_fit`). Assumes nothing.
 use native.Mathlib.Omega.{arith}
-use mathlib.Core.Path.{ap}
+use mathlib.Core.Path.{sym, ap, ◌∙◌}
+use Rattle.sheet.proofs.Unless.{refuses, passed, passed_value, failed, hands_on}
 use Rattle.tally.specs.declared.Tally.{Tally}
 use Rattle.columns.specs.Columns.{columns, Level}
 use Rattle.stretch.specs.KeptColumns.{kept_columns}
-use Rattle.kept_columns_reach.proofs.Rows.{columns-refused-met, list_level, rows_fit, columns-met}
+use Rattle.kept_columns.specs.Columns.{correct_columns_of}
+use Rattle.kept_columns.proofs.Columns.{columns-handed}
+use Rattle.kept_reach.proofs.Stretch.{told-is}
+use Rattle.kept_columns_reach.proofs.Rows.{list_level, rows_fit, columns-met}
 use Rattle.kept_columns_reach.proofs.correct_reach.Goals as goal
 
-pub returns-then-refusal-ne0 : goal.returns-then-refusal-ne0
-returns-then-refusal-ne0 c =
-    let a = c.args in
-    let old = kept_columns (columns a.x.now a.y.now a.z.now a.t.now) (columns a.rx.now a.ry.now a.rz.now a.rt.now) (columns a.kx.now a.ky.now a.kz.now a.kt.now) in
-    let e = c.correct-corrected.ensures in
-    (e, columns-refused-met a.inverse a.s.now old a.index a.fix e c.if-refusal-ne0.true)
+pub returns-in_err-redone : goal.returns-in_err-redone
+returns-in_err-redone c =
+    let e = c.correct-redone.ensures in
+    (hands_on _ _ e.0 c.in_err-redone.was c.from_residual.ensures.1 ∙ sym (refuses _ _ (failed _ _ e.0 c.in_err-redone.was)), e.1)
 
 pub pass_rows-told-requires : goal.pass_rows-told-requires
 pass_rows-told-requires c =
     let a = c.args in
     let old = kept_columns (columns a.x.now a.y.now a.z.now a.t.now) (columns a.rx.now a.ry.now a.rz.now a.rt.now) (columns a.kx.now a.ky.now a.kz.now a.kt.now) in
-    let e = c.correct-corrected.ensures in
-    let left = c.if-refusal-ne0.false in
-    let same = c.correct-corrected.auto in
-    let was = list_level a.inverse a.s.now old a.index a.fix e left in
-    let n = c.correct-corrected.new in
+    let o = correct_columns_of a.inverse a.s.now old a.index a.fix in
+    let e = c.correct-redone.ensures in
+    let left = passed o.answer.refusal o.answer.redone e.0 c.in_ok-redone.was in
+    let made = columns-handed o e.0 c.in_ok-redone.was e.1 in
+    let same = c.correct-redone.auto in
+    let was = list_level a.inverse a.s.now old a.index a.fix made left in
+    let n = c.correct-redone.new in
     let level : Level n.x n.y n.z n.t = (omega (arith, was.0, same.x, same.y), omega (arith, was.1, same.x, same.z), omega (arith, was.2, same.x, same.t)) in
-    (level, rows_fit a.inverse a.s.now old a.index a.fix e left level)
+    (level, rows_fit a.inverse a.s.now old a.index a.fix made left level)
 
 pub returns : goal.returns
 returns c =
     let a = c.args in
     let old = kept_columns (columns a.x.now a.y.now a.z.now a.t.now) (columns a.rx.now a.ry.now a.rz.now a.rt.now) (columns a.kx.now a.ky.now a.kz.now a.kt.now) in
-    let e = c.correct-corrected.ensures in
-    let left = c.if-refusal-ne0.false in
-    let same = c.correct-corrected.auto in
-    let was = list_level a.inverse a.s.now old a.index a.fix e left in
+    let o = correct_columns_of a.inverse a.s.now old a.index a.fix in
+    let e = c.correct-redone.ensures in
+    let left = passed o.answer.refusal o.answer.redone e.0 c.in_ok-redone.was in
+    let made = columns-handed o e.0 c.in_ok-redone.was e.1 in
+    let same = c.correct-redone.auto in
+    let was = list_level a.inverse a.s.now old a.index a.fix made left in
     let told = rw (c.before-from.ensures, c.step_in.ensures.0) at c.pass_rows-told.ensures in
-    (e, columns-met a.inverse a.s.now old a.index a.fix e left (omega (arith, was.0, same.x, same.y), omega (arith, was.1, same.x, same.z), omega (arith, was.2, same.x, same.t)) (ap (λ (t : Tally). t.met) told))
+    let met = columns-met a.inverse a.s.now old a.index a.fix made left (omega (arith, was.0, same.x, same.y), omega (arith, was.1, same.x, same.z), omega (arith, was.2, same.x, same.t)) (ap (λ (t : Tally). t.met) told) in
+    (told-is o.answer _ left (passed_value o.answer.refusal o.answer.redone e.0 c.in_ok-redone.was) met, e.1)

@@ -1,18 +1,19 @@
--- One case for each way through the test: zeros of a refused call (`keep-none`), else what the pass
--- over the list tells (`keep-tally`). Assumes nothing.
+-- A refused call hands on the refusal; one that is not tells what the pass over the list tells
+-- (`keep-tally`). Assumes nothing.
 use mathlib.Core.Path.{sym, ap, ◌∙◌}
-use Rattle.sheet.specs.declared.Refusal.{Refusal}
-use Rattle.kept_reach.proofs.Along.{keep-none, keep-tally}
+use Rattle.std.specs.Prelude.{Ok}
+use Rattle.sheet.proofs.Unless.{accepts, refuses, passed, failed, hands_on}
+use Rattle.kept_reach.proofs.Along.{keep-tally}
 use Rattle.kept_reach.proofs.keep_reach.Goals as goal
 
-pub returns-then-refusal-ne0 : goal.returns-then-refusal-ne0
-returns-then-refusal-ne0 c =
-    let e = c.keep-refusal.ensures in
-    (e.0, keep-none _ _ _ c.none-none.ensures (λ z. c.if-refusal-ne0.true (ap (λ (r : Refusal). r.number) e.0 ∙ z)), e.1)
+pub returns-in_err-keep : goal.returns-in_err-keep
+returns-in_err-keep c =
+    let e = c.keep.ensures in
+    (hands_on _ _ e.0 c.in_err-keep.was c.from_residual.ensures.1 ∙ sym (refuses _ _ (failed _ _ e.0 c.in_err-keep.was)), e.1)
 
 pub returns : goal.returns
 returns c =
-    let e = c.keep-refusal.ensures in
-    let none = sym (ap (λ (r : Refusal). r.number) e.0) ∙ c.if-refusal-ne0.false in
+    let e = c.keep.ensures in
+    let none = passed _ _ e.0 c.in_ok-keep.was in
     let told = rw (c.start-start.ensures, c.step_in.ensures.0) at c.pass-tally.ensures in
-    (e.0, keep-tally _ _ _ none told, e.1)
+    (ap Ok (keep-tally _ _ _ none told) ∙ sym (accepts _ _ none), e.1)
