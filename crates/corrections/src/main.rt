@@ -14,7 +14,6 @@ ghost use Rattle.std.specs.Prelude.{◌≡◌, ◌<◌, ◌≤◌, length};
 ghost use Rattle.corrections.specs.Room.{Roomy};
 
 use blocks::one_if;
-use kept::Corrected;
 use sheet::Refusal;
 use std::{fmt, io};
 use tuple::Tuple;
@@ -262,21 +261,22 @@ struct Tally {
     parted: usize,
 }
 
-// Index below the count: taken, by the stretch. Else 14, and nothing redone.
+// Index below the count: taken, and redone by the stretch. Else refused by 14.
 fn judged(
     was: Tally,
     fixes: usize,
     index: usize,
-    answer: Corrected,
+    answer: Result<u64, Refusal>,
     right: usize,
     apart: usize,
 ) -> Tally {
-    let refusal = answer.refusal;
     let here = index < fixes;
-    let number = if here { 0 } else { 14 };
-    let wrong = one_if(refusal.number != number)
-        .wrapping_add(one_if(refusal.step != 0))
-        .wrapping_add(one_if(answer.redone != right as u64));
+    let wanted = if here {
+        Ok(right as u64)
+    } else {
+        Err(Refusal::of_call(14))
+    };
+    let wrong = one_if(answer != wanted);
     Tally {
         seed: next(next(next(next(next(was.seed))))),
         taken: was.taken.wrapping_add(one_if(here)),
@@ -297,14 +297,14 @@ fn compared(
     fresh_results: &[f64],
     fresh_track: &[f64],
     index: usize,
-    answer: Corrected,
-    again: Refusal,
+    answer: Result<u64, Refusal>,
+    again: Result<(), Refusal>,
     was: Tally,
 ) -> Tally {
     let apart = differing(list, own)
         .wrapping_add(differing(results, fresh_results))
         .wrapping_add(differing(track, fresh_track))
-        .wrapping_add(one_if(again.number != 0));
+        .wrapping_add(one_if(again.is_err()));
     judged(
         was,
         list.len() / 4,
@@ -409,7 +409,7 @@ fn case(
     fill(own, seed, calm);
     let first = kept::keep(inverse, s, list, results, track);
     let mut now = was;
-    now.parted = was.parted.wrapping_add(one_if(first.number != 0));
+    now.parted = was.parted.wrapping_add(one_if(first.is_err()));
     several(
         inverse,
         s,
@@ -509,12 +509,12 @@ fn print_tally(out: &impl Print, t: Tally) -> io::Result<()> {
 
 fn begun(seed: usize, parted: usize) -> Tally {
     Tally {
-        seed: seed,
+        seed,
         taken: 0,
         refused: 0,
         redone: 0,
         longer: 0,
-        parted: parted,
+        parted,
     }
 }
 

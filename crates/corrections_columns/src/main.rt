@@ -12,7 +12,6 @@
 ghost use Rattle.std.specs.Prelude.{◌<◌, ◌≤◌};
 
 use blocks::one_if;
-use kept::Corrected;
 use sheet::Refusal;
 use std::io;
 use tuple::Tuple;
@@ -161,12 +160,7 @@ fn columns_of(list: &[f64]) -> Columns {
     let mut z = [0.0; 72];
     let mut t = [0.0; 72];
     columns::to_columns(list, &mut x, &mut y, &mut z, &mut t);
-    Columns {
-        x: x,
-        y: y,
-        z: z,
-        t: t,
-    }
+    Columns { x, y, z, t }
 }
 
 fn same4(x: f64, y: f64, z: f64, t: f64, v: Tuple) -> bool {
@@ -192,7 +186,7 @@ fn parted(c: Columns, list: &[f64]) -> usize {
 // A fresh run's answer and what it writes.
 #[derive(Clone, Copy)]
 struct Fresh {
-    refusal: Refusal,
+    answer: Result<(), Refusal>,
     results: Columns,
     track: Columns,
 }
@@ -210,7 +204,7 @@ fn keep(inverse: bool, s: &[u8], list: Columns) -> Fresh {
     let mut ky = [1.0; 72];
     let mut kz = [1.0; 72];
     let mut kt = [1.0; 72];
-    let refusal = kept_columns::keep(
+    let answer = kept_columns::keep(
         inverse, s, &x, &y, &z, &t, &mut rx, &mut ry, &mut rz, &mut rt, &mut kx, &mut ky, &mut kz,
         &mut kt,
     );
@@ -227,16 +221,16 @@ fn keep(inverse: bool, s: &[u8], list: Columns) -> Fresh {
         t: kt,
     };
     Fresh {
-        refusal: refusal,
-        results: results,
-        track: track,
+        answer,
+        results,
+        track,
     }
 }
 
 // A correction's answer and what it leaves.
 #[derive(Clone, Copy)]
 struct After {
-    answer: Corrected,
+    answer: Result<u64, Refusal>,
     list: Columns,
     results: Columns,
     track: Columns,
@@ -267,12 +261,7 @@ fn correct(
         inverse, s, &mut x, &mut y, &mut z, &mut t, &mut rx, &mut ry, &mut rz, &mut rt, &mut kx,
         &mut ky, &mut kz, &mut kt, index, fix,
     );
-    let list = Columns {
-        x: x,
-        y: y,
-        z: z,
-        t: t,
-    };
+    let list = Columns { x, y, z, t };
     let results = Columns {
         x: rx,
         y: ry,
@@ -286,10 +275,10 @@ fn correct(
         t: kt,
     };
     After {
-        answer: answer,
-        list: list,
-        results: results,
-        track: track,
+        answer,
+        list,
+        results,
+        track,
     }
 }
 
@@ -316,26 +305,28 @@ fn keep_both(
 ) -> usize {
     let columns = keep(inverse, s, columns_of(list));
     let flat = kept::keep(inverse, s, list, results, track);
-    let refusal = columns.refusal;
-    one_if((flat.number != 0) | (refusal.number != 0))
+    one_if(flat.is_err() | columns.answer.is_err())
         .wrapping_add(parted(columns.results, results))
         .wrapping_add(parted(columns.track, track))
 }
 
-// Both answers: the same refusal, and as many fixes redone.
-fn judged(was: Tally, flat: Corrected, columns: Corrected, apart: usize) -> Tally {
-    let one = flat.refusal;
-    let other = columns.refusal;
-    let taken = other.number == 0;
-    let alike = (one.number == other.number)
-        & (one.step == other.step)
-        & (flat.redone == columns.redone);
+// Both answers: the same refusal, or as many fixes redone.
+fn judged(
+    was: Tally,
+    flat: Result<u64, Refusal>,
+    columns: Result<u64, Refusal>,
+    apart: usize,
+) -> Tally {
+    let taken = columns.is_ok();
     Tally {
         seed: next(next(next(next(next(was.seed))))),
         taken: was.taken.wrapping_add(one_if(taken)),
         refused: was.refused.wrapping_add(one_if(!taken)),
-        redone: was.redone.wrapping_add(columns.redone as usize),
-        parted: was.parted.wrapping_add(one_if(!alike)).wrapping_add(apart),
+        redone: was.redone.wrapping_add(columns.unwrap_or(0) as usize),
+        parted: was
+            .parted
+            .wrapping_add(one_if(flat != columns))
+            .wrapping_add(apart),
     }
 }
 
