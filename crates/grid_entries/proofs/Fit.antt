@@ -67,4 +67,5 @@ module _ (inverse : Bool) (s : List ℕ) (l velocities : List Float) (marks grid
     ran-told ok = rw (passed_value _ _ e.0 ok, e.1, narrow_small _ fits.0, narrow_small _ fits.1, done _ _ fair.clear e.0 ok)
 
     pub refused-told : {r : Refusal} → out ≡ Err r → grid_told (code_of r) (replicate 16 0) (replicate 16 0) after ≡ grid_told_of o
+    unfolding each_of
     refused-told err = rw (refused _ _ e.0 err, e.1, fair.zeros (failed _ _ e.0 err))

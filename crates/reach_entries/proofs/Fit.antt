@@ -76,6 +76,7 @@ module _ (inverse : Bool) (s : List ℕ) (l velocities : List Float) (marks : Li
     ran-told ok = rw (passed_value _ _ e.0 ok, e.1, narrow_small _ flat-fits.0, narrow_small _ flat-fits.1, done _ _ flat-fair.clear e.0 ok)
 
     pub refused-told : {r : Refusal} → out ≡ Err r → shift_told (code_of r) (replicate 16 0) (replicate 16 0) after ≡ shift_told_of flat
+    unfolding each_of
     refused-told err = rw (refused _ _ e.0 err, e.1, flat-fair.zeros (failed _ _ e.0 err))
 
 -- ---- columns
@@ -122,4 +123,5 @@ module _ (inverse : Bool) (s : List ℕ) (c : Columns) (velocities : List Float)
     columns-ran-told ok = rw (passed_value _ _ e.0 ok, e.1, narrow_small _ columns-fits.0, narrow_small _ columns-fits.1, done _ _ columns-fair.clear e.0 ok)
 
     pub columns-refused-told : {r : Refusal} → out ≡ Err r → columns_told (code_of r) (replicate 16 0) (replicate 16 0) after ≡ columns_told_of told
+    unfolding each_of
     columns-refused-told err = rw (refused _ _ e.0 err, e.1, columns-fair.zeros (failed _ _ e.0 err))

@@ -55,4 +55,5 @@ module _ (inverse : Bool) (s : List ℕ) (l velocities : List Float) (marks : Li
     ran-handed ok = rw (passed_value _ _ e.0 ok, e.1, narrow_small _ fits, done _ _ fair.clear e.0 ok)
 
     pub refused-handed : {r : Refusal} → out ≡ Err r → handed (code_of r) (replicate 16 0) after ≡ handed_of o
+    unfolding each_of
     refused-handed err = rw (refused _ _ e.0 err, e.1, fair.zeros (failed _ _ e.0 err))
