@@ -159,7 +159,7 @@ fn shift(
     y: &mut [f64],
     z: &mut [f64],
     t: &mut [f64],
-) -> Refusal
+) -> Result<(), Refusal>
     requires { (marks_at head ≤ length job.now) × (head.velocities ≤ 512) }
 {
     let a = job::tuples_at(head);
@@ -168,7 +168,7 @@ fn shift(
     let m = 3 * words::wide(head.velocities);
     let mut velocities = [0.0; 1536];
     job::numbers(&job[b..], &mut velocities);
-    let answer = chain::shift_columns(
+    chain::shift_columns(
         head.direction == 1,
         &job[16..a],
         x,
@@ -177,8 +177,8 @@ fn shift(
         t,
         &velocities[..m],
         &job[c..],
-    );
-    answer.refusal
+    )?;
+    Ok(())
 }
 
 // The job's n fixes where they came from, and where their columns have them then.
@@ -193,18 +193,17 @@ fn draw(room: &mut [u8], job: &[u8], head: Head, n: usize) -> usize
     let mut y = y0;
     let mut z = column(&job[a..], 2);
     let mut t = column(&job[a..], 3);
-    let refusal = shift(
+    match shift(
         job,
         head,
         &mut x[..n],
         &mut y[..n],
         &mut z[..n],
         &mut t[..n],
-    );
-    if refusal.number != 0 {
-        return report::refused(room, 0, refusal.number, refusal.step);
+    ) {
+        Ok(()) => put_picture(room, &x0[..n], &y0[..n], &x[..n], &y[..n]),
+        Err(refusal) => report::refused(room, 0, refusal.number, refusal.step),
     }
-    put_picture(room, &x0[..n], &y0[..n], &x[..n], &y[..n])
 }
 
 fn display(job: &[u8], room: &mut [u8]) -> usize

@@ -106,7 +106,8 @@ fn spread(list: &mut [f64]) {
     }
 }
 
-// A sheet over a list: the refusal, the counts, the first and the last tuple.
+// A sheet over a list: the refusal, the counts, the first and the last tuple. With no refusal its
+// numbers are printed as 0, and with one the counts.
 fn run(
     out: &impl Print,
     s: &[u8],
@@ -114,12 +115,16 @@ fn run(
     velocities: &[f64],
     marks: &[u8],
 ) -> io::Result<()> {
-    let said = chain::shift(false, s, list, velocities, marks);
-    let refusal = said.refusal;
-    print_refusal(out, refusal.number, refusal.step)?;
-    let tallies = said.tallies;
-    let counts = tally::counts(tallies);
-    print_counts(out, counts)?;
+    match chain::shift(false, s, list, velocities, marks) {
+        Ok(tallies) => {
+            print_refusal(out, 0, 0)?;
+            print_counts(out, tally::counts(tallies))?;
+        }
+        Err(refusal) => {
+            print_refusal(out, refusal.number, refusal.step)?;
+            print_counts(out, [0; 16])?;
+        }
+    }
     print!(out; "  first")?;
     print_tuple(out, lists::read4(list, 0))?;
     print!(out; "  last ")?;

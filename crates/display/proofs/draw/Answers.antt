@@ -18,5 +18,5 @@ slice_bounds-shift-end-3 c = sym (length-take-le _ _ (search rules))
 pub slice_bounds-shift-end-4 : goal.slice_bounds-shift-end-4
 slice_bounds-shift-end-4 c = sym (length-take-le _ _ (search rules))
 
-pub returns-then-refusal-ne0 : goal.returns-then-refusal-ne0
-returns-then-refusal-ne0 c = place_within _ _ c.refused.ensures
+pub returns-in-Err : goal.returns-in-Err
+returns-in-Err c = place_within _ _ c.refused.ensures
