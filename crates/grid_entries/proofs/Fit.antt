@@ -3,7 +3,7 @@
 -- no promise cites: `Fair`. Assumes nothing.
 use Prim.Native.Nat.{ℕ, ◌≤◌}
 use native.Mathlib.Omega.{arith}
-use mathlib.Core.Path.{◌≡◌, refl}
+use mathlib.Core.Path.{◌≡◌, refl, sym, subst}
 use mathlib.Core.Bool.{Bool, true, false, cond}
 use mathlib.Core.List.{List}
 use borrow.Author.Tests.{eqb-false}
@@ -11,7 +11,6 @@ use lib.Dec.{eqb}
 use lib.ListN.{length, get_or, replicate}
 use lib.Ieee.{Float}
 use Rattle.std.specs.Prelude.{Result, Ok, Err}
-use Rattle.sheet.specs.declared.Entry.{Entry}
 use Rattle.sheet.specs.declared.Refusal.{Refusal}
 use Rattle.sheet.specs.Layout.{step_count_of, entry_at}
 use Rattle.sheet.specs.Rules.{refusal_of}
@@ -34,8 +33,12 @@ use Rattle.grid_entries.specs.Codes.{grid_told, grid_told_of}
 small_each : (number : Tally → ℕ) → number no_tally ≡ 0 → (tallies : List Tally) → ((i : ℕ) → number (get_or tallies i no_tally) ≤ 2048) → Small (each_of number tallies)
 small_each number zero-there tallies few i = omega (arith, each_at number tallies i zero-there, few i)
 
-abbrev Fits : List Tally → Type 0
-Fits tallies = Small (counts_of tallies) × Small (mets_of tallies)
+pub shift_fits : (o : Outcome) (inverse : Bool) (s : List ℕ) (l velocities : List Float) (marks grid : List ℕ)
+    → o ≡ shift_grid_of inverse s l velocities marks grid → Small (counts_of o.answer.tallies) × Small (mets_of o.answer.tallies)
+shift_fits o inverse s l velocities marks grid e =
+    let few = shift_grid_tells_few inverse s l velocities marks grid in
+    subst (λ (x : Outcome). Small (counts_of x.answer.tallies) × Small (mets_of x.answer.tallies)) (sym e)
+    (small_each (λ (a : Tally). a.count) refl _ (λ i. (few i).0), small_each (λ (a : Tally). a.met) refl _ (λ i. (few i).1))
 
 -- ---- run or refused
 
@@ -51,10 +54,8 @@ module _ (inverse : Bool) (s : List ℕ) (l velocities : List Float) (marks grid
   abbrev o : Outcome
   o = shift_grid_of inverse s l velocities marks grid
 
-  fits : Fits o.answer.tallies
-  fits =
-      let few = shift_grid_tells_few inverse s l velocities marks grid in
-      (small_each (λ (a : Tally). a.count) refl _ (λ i. (few i).0), small_each (λ (a : Tally). a.met) refl _ (λ i. (few i).1))
+  fits : Small (counts_of o.answer.tallies) × Small (mets_of o.answer.tallies)
+  fits = shift_fits _ inverse s l velocities marks grid refl
 
   fair : Fair o.answer
   unfolding shift_grid_of grid_outcome_of

@@ -42,6 +42,11 @@ Fits tallies = Small (counts_of tallies) × Small (mets_of tallies)
 both_fit : (tallies : List Tally) → ((i : ℕ) → SmallTally (get_or tallies i no_tally)) → Fits tallies
 both_fit tallies few = (small_each (λ (a : Tally). a.count) refl tallies (λ i. (few i).0), small_each (λ (a : Tally). a.met) refl tallies (λ i. (few i).1))
 
+pub shift_fits : (o : Outcome) (inverse : Bool) (s : List ℕ) (l velocities : List Float) (marks : List ℕ)
+    → o ≡ shift_of inverse s l velocities marks → Fits o.answer.tallies
+shift_fits o inverse s l velocities marks e =
+    subst (λ (x : Outcome). Fits x.answer.tallies) (sym e) (both_fit _ (shift_tells_few inverse s l velocities marks))
+
 -- ---- run or refused
 
 record Fair (a : Answer) : Type 0 where
@@ -63,7 +68,7 @@ module _ (inverse : Bool) (s : List ℕ) (l velocities : List Float) (marks : Li
   flat = shift_of inverse s l velocities marks
 
   flat-fits : Fits flat.answer.tallies
-  flat-fits = both_fit _ (shift_tells_few inverse s l velocities marks)
+  flat-fits = shift_fits _ inverse s l velocities marks refl
 
   flat-fair : Fair flat.answer
   unfolding shift_of outcome_of
@@ -109,19 +114,28 @@ module _ (inverse : Bool) (s : List ℕ) (c : Columns) (velocities : List Float)
   few : (i : ℕ) → SmallTally (get_or told.answer.tallies i no_tally)
   few = by-test _ _ refl refl
 
-  columns-fits : Fits told.answer.tallies
-  columns-fits = both_fit _ few
+pub columns-fit : (o : ColumnsOutcome) (inverse : Bool) (s : List ℕ) (c : Columns) (velocities : List Float) (marks : List ℕ)
+    → o ≡ shift_columns_of inverse s c velocities marks → Fits o.answer.tallies
+columns-fit o inverse s c velocities marks e =
+    subst (λ (x : ColumnsOutcome). Fits x.answer.tallies) (sym e) (both_fit _ (few inverse s c velocities marks))
 
-  columns-fair : Fair told.answer
+module _ (inverse : Bool) (s : List ℕ) (c : Columns) (velocities : List Float) (marks : List ℕ) where
+  abbrev told_of : ColumnsOutcome
+  told_of = shift_columns_of inverse s c velocities marks
+
+  columns-fits : Fits told_of.answer.tallies
+  columns-fits = columns-fit _ inverse s c velocities marks refl
+
+  columns-fair : Fair told_of.answer
   unfolding shift_columns_of columns_outcome_of
   columns-fair = columns-test (eqb (columns_refusal_of (refusal_of s) (has_deformation (kind_at s) (step_count_of s)) c velocities marks).number 0)
       (columns_refusal_of (refusal_of s) (has_deformation (kind_at s) (step_count_of s)) c velocities marks)
       (chain_of inverse (lent_of velocities marks []) (entries_of (entry_at s) (step_count_of s) 0) (flat_of c.x c.y c.z c.t)) c refl
 
-  module _ {out : Result (List Tally) Refusal} {after : Columns} (e : (out ≡ handed_out told.answer) × (after ≡ told.columns)) where
-    pub columns-ran-told : {tallies : List Tally} → out ≡ Ok tallies → columns_told 0 (narrow_of (counts_of tallies)) (narrow_of (mets_of tallies)) after ≡ columns_told_of told
+  module _ {out : Result (List Tally) Refusal} {after : Columns} (e : (out ≡ handed_out told_of.answer) × (after ≡ told_of.columns)) where
+    pub columns-ran-told : {tallies : List Tally} → out ≡ Ok tallies → columns_told 0 (narrow_of (counts_of tallies)) (narrow_of (mets_of tallies)) after ≡ columns_told_of told_of
     columns-ran-told ok = rw (passed_value _ _ e.0 ok, e.1, narrow_small _ columns-fits.0, narrow_small _ columns-fits.1, done _ _ columns-fair.clear e.0 ok)
 
-    pub columns-refused-told : {r : Refusal} → out ≡ Err r → columns_told (code_of r) (replicate 16 0) (replicate 16 0) after ≡ columns_told_of told
+    pub columns-refused-told : {r : Refusal} → out ≡ Err r → columns_told (code_of r) (replicate 16 0) (replicate 16 0) after ≡ columns_told_of told_of
     unfolding each_of
     columns-refused-told err = rw (refused _ _ e.0 err, e.1, columns-fair.zeros (failed _ _ e.0 err))

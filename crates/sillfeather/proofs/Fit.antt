@@ -3,7 +3,7 @@
 -- `Fair`. Assumes nothing.
 use Prim.Native.Nat.{ℕ}
 use native.Mathlib.Omega.{arith}
-use mathlib.Core.Path.{◌≡◌, refl}
+use mathlib.Core.Path.{◌≡◌, refl, ap}
 use mathlib.Core.Bool.{Bool, true, false, cond}
 use mathlib.Core.List.{List, []}
 use borrow.Author.Tests.{eqb-false}
@@ -27,6 +27,12 @@ use Rattle.codes.proofs.Clear.{Clear, done, refused}
 use Rattle.codes.proofs.Counts.{narrow_small}
 use Rattle.sillfeather.specs.Codes.{handed, handed_of}
 
+pub shift-counts-fit : (o : Outcome) (inverse : Bool) (s : List ℕ) (l velocities : List Float) (marks : List ℕ)
+    → o ≡ shift_of inverse s l velocities marks → Small (counts_of o.answer.tallies)
+shift-counts-fit o inverse s l velocities marks e i =
+    let few = shift_tells_few inverse s l velocities marks i in
+    omega (arith, each_at (λ (a : Tally). a.count) o.answer.tallies i refl, ap (λ (x : Outcome). (get_or x.answer.tallies i no_tally).count) e, few.0)
+
 record Fair (a : Answer) : Type 0 where
   clear : Clear a.refusal
   zeros : (a.refusal.number ≡ 0 → ⊥) → a.tallies ≡ replicate 16 no_tally
@@ -39,11 +45,6 @@ module _ (inverse : Bool) (s : List ℕ) (l velocities : List Float) (marks : Li
   abbrev o : Outcome
   o = shift_of inverse s l velocities marks
 
-  fits : Small (counts_of o.answer.tallies)
-  fits i =
-      let few = shift_tells_few inverse s l velocities marks i in
-      omega (arith, each_at (λ (a : Tally). a.count) o.answer.tallies i refl, few.0)
-
   fair : Fair o.answer
   unfolding shift_of outcome_of
   fair = by-test (eqb (shift_refusal_of (refusal_of s) (has_deformation (kind_at s) (step_count_of s)) l velocities marks).number 0)
@@ -52,7 +53,7 @@ module _ (inverse : Bool) (s : List ℕ) (l velocities : List Float) (marks : Li
 
   module _ {out : Result (List Tally) Refusal} {after : List Float} (e : (out ≡ handed_out o.answer) × (after ≡ o.list)) where
     pub ran-handed : {tallies : List Tally} → out ≡ Ok tallies → handed 0 (narrow_of (counts_of tallies)) after ≡ handed_of o
-    ran-handed ok = rw (passed_value _ _ e.0 ok, e.1, narrow_small _ fits, done _ _ fair.clear e.0 ok)
+    ran-handed ok = rw (passed_value _ _ e.0 ok, e.1, narrow_small _ (shift-counts-fit _ inverse s l velocities marks refl), done _ _ fair.clear e.0 ok)
 
     pub refused-handed : {r : Refusal} → out ≡ Err r → handed (code_of r) (replicate 16 0) after ≡ handed_of o
     unfolding each_of
