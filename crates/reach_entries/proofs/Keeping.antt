@@ -66,18 +66,18 @@ module _ (inverse : Bool) (s : List ℕ) (old : Kept) where
     pub keep-refused : {x : Refusal} → out ≡ Err x → Tells (code_of x) 0 0 (keep_refusal_of s old) (keep_tally_of inverse s old)
     keep-refused err = refused-tells _ _ e none-counted err
 
-module _ (inverse : Bool) (s : List ℕ) (old : KeptColumns) where
-  pub clear_keep_columns : Clear (keep_columns_refusal_of s old)
-  unfolding keep_columns_refusal_of
-  clear_keep_columns = clear_first _ (numbered s _ _ [] Without.none)
+pub clear_keep_columns : (s : List ℕ) (old : KeptColumns) → Clear (keep_columns_refusal_of s old)
+unfolding keep_columns_refusal_of
+clear_keep_columns s old = clear_first _ (numbered s _ _ [] Without.none)
 
+module _ (inverse : Bool) (s : List ℕ) (old : KeptColumns) where
   none-counted-columns : ((keep_columns_refusal_of s old).number ≡ 0 → ⊥) → no_tally ≡ keep_columns_tally_of inverse s old
   unfolding keep_columns_tally_of
   none-counted-columns h = rw (ne_eqb _ _ h)
 
   module _ {out : Result Tally Refusal} (e : out ≡ unless (keep_columns_refusal_of s old) (keep_columns_tally_of inverse s old)) where
     pub keep-columns-done : {t : Tally} → out ≡ Ok t → Tells 0 t.count t.met (keep_columns_refusal_of s old) (keep_columns_tally_of inverse s old)
-    keep-columns-done ok = kept-tells _ _ e clear_keep_columns ok
+    keep-columns-done ok = kept-tells _ _ e (clear_keep_columns s old) ok
 
     pub keep-columns-refused : {x : Refusal} → out ≡ Err x → Tells (code_of x) 0 0 (keep_columns_refusal_of s old) (keep_columns_tally_of inverse s old)
     keep-columns-refused err = refused-tells _ _ e none-counted-columns err

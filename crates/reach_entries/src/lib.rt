@@ -238,7 +238,22 @@ pub extern "C" fn sillfeather_keep_columns_reach(
         (columns rx.old ry.old rz.old rt.old)
         (columns kx.old ky.old kz.old kt.old))) }
 {
-    match kept_columns_reach::keep_reach(inverse != 0, s, x, y, z, t, rx, ry, rz, rt, kx, ky, kz, kt) {
+    match kept_columns_reach::keep_reach(
+        inverse != 0,
+        s,
+        x,
+        y,
+        z,
+        t,
+        rx,
+        ry,
+        rz,
+        rt,
+        kx,
+        ky,
+        kz,
+        kt,
+    ) {
         Ok(rows) => {
             *counted = rows.count as u64;
             *met = rows.met as u64;
@@ -281,7 +296,24 @@ pub extern "C" fn sillfeather_correct_columns(
         (columns kx.old ky.old kz.old kt.old)) index (tuple_of fix.now)) }
 {
     let fix = arrays::tuple_of(fix);
-    match kept_columns::correct(inverse != 0, s, x, y, z, t, rx, ry, rz, rt, kx, ky, kz, kt, index, fix) {
+    match kept_columns::correct(
+        inverse != 0,
+        s,
+        x,
+        y,
+        z,
+        t,
+        rx,
+        ry,
+        rz,
+        rt,
+        kx,
+        ky,
+        kz,
+        kt,
+        index,
+        fix,
+    ) {
         Ok(count) => {
             *redone = count;
             0
@@ -326,7 +358,24 @@ pub extern "C" fn sillfeather_correct_columns_reach(
         (columns kx.old ky.old kz.old kt.old)) index (tuple_of fix.now)) }
 {
     let fix = arrays::tuple_of(fix);
-    match kept_columns_reach::correct_reach(inverse != 0, s, x, y, z, t, rx, ry, rz, rt, kx, ky, kz, kt, index, fix) {
+    match kept_columns_reach::correct_reach(
+        inverse != 0,
+        s,
+        x,
+        y,
+        z,
+        t,
+        rx,
+        ry,
+        rz,
+        rt,
+        kx,
+        ky,
+        kz,
+        kt,
+        index,
+        fix,
+    ) {
         Ok(rows) => {
             *redone = rows.redone;
             *met = rows.met;

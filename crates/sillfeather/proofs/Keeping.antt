@@ -11,11 +11,11 @@ use lib.ListN.{length}
 use Rattle.std.specs.Prelude.{Result, Ok, Err}
 use Rattle.tuple.specs.declared.Tuple.{Tuple}
 use Rattle.sheet.specs.declared.Refusal.{Refusal}
-use Rattle.sheet.specs.Rules.{Rule, rule, of_call}
+use Rattle.sheet.specs.Rules.{Rule}
 use Rattle.sheet.proofs.Order.{Without, Numbered, without_rule, own_without}
 use Rattle.sheet.proofs.Unless.{passed_value, failed}
 use Rattle.stretch.specs.Kept.{Kept}
-use Rattle.kept.specs.Entries.{refusal14, kept_order, keep_refusal_of, correct_refusal_of, CorrectOutcome, correct_of, redone_in}
+use Rattle.kept.specs.Entries.{kept_order, keep_refusal_of, correct_refusal_of, CorrectOutcome, correct_of, redone_in}
 use Rattle.codes.specs.Codes.{code_of}
 use Rattle.codes.proofs.Clear.{Clear, clear_first, done, refused}
 use Rattle.sillfeather.specs.Codes.{corrected, corrected_of}

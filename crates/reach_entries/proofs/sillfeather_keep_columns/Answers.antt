@@ -7,4 +7,4 @@ use Rattle.reach_entries.proofs.sillfeather_keep_columns.Goals as goal
 pub returns : goal.returns
 returns c =
     let e = c.keep.ensures in
-    (c.answer.ensures ∙ answered _ (clear_keep_columns c.args.s.now _) e.0, e.1)
+    (c.answer.ensures ∙ answered _ (clear_keep_columns _ _) e.0, e.1)

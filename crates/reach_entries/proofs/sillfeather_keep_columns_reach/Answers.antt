@@ -6,10 +6,10 @@ pub returns-in-Ok : goal.returns-in-Ok
 returns-in-Ok c =
     let e = c.keep_reach.ensures in
     let told = keep-columns-done _ _ _ e.0 c.in-Ok.is in
-    (told.0, told.1.0, told.1.1, e.1)
+    (told.0, told.1, told.2, e.1)
 
 pub returns-in-Err : goal.returns-in-Err
 returns-in-Err c =
     let e = c.keep_reach.ensures in
     let told = keep-columns-refused _ _ _ e.0 c.in-Err.is in
-    (rw c.code.ensures told.0, told.1.0, told.1.1, e.1)
+    (rw c.code.ensures told.0, told.1, told.2, e.1)
