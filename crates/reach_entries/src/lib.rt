@@ -319,7 +319,7 @@ pub extern "C" fn sillfeather_correct_columns(
             0
         }
         Err(refusal) => {
-            *redone = 0;
+            *redone = 0; // a refused call redoes nothing
             codes::code(refusal)
         }
     }
