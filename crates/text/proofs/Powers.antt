@@ -1,14 +1,17 @@
 -- What a digit is worth, and how many digits a number has. Assumes nothing.
-use mathlib.Core.Path.{◌≡◌, refl}
+use mathlib.Core.Path.{◌≡◌, refl, ap, ◌∙◌}
 use Prim.Native.Nat.{ℕ, zero, suc, ◌+◌, ◌-◌, ◌*◌, ◌/◌, ◌%◌, ◌^◌, ◌<◌, ◌≤◌}
 use mathlib.Core.Bool.{Bool, true, false}
 use mathlib.Core.List.{[], ◌∷◌, ◌++◌}
 use native.Mathlib.Omega.{arith}
-use native.Mathlib.Nat.{pow-suc, one-le-pow, mul-le-mul_right}
+use native.Mathlib.Nat.{pow-suc, mul-div_cancel, one-le-pow, mul-le-mul_right}
 use native.Mathlib.Numerals.{add-one, unary_clauses}
 use lib.Dec.{leb}
 use borrow.Author.Tests.{le-leb, lt-leb, leb-true, leb-false}
 use Rattle.text.specs.Digits.{digit, digits_of, places_of}
+
+pub below : (base k : ℕ) → 0 < base → base ^ suc k / base ≡ base ^ k
+below base k h = ap (λ (n : ℕ). n / base) (pow-suc base k) ∙ mul-div_cancel (base ^ k) h
 
 -- a digit is worth something
 pub worth_something : (base k : ℕ) → 0 < base → 0 < base ^ k
@@ -19,6 +22,15 @@ pub worth_more : (base i j : ℕ) → 0 < base → i ≤ j → base ^ i ≤ base
 worth_more base zero j h l = simp unary_clauses (one-le-pow j base h)
 worth_more base (suc i) zero h l = absurd (omega arith)
 worth_more base (suc i) (suc j) h l = rw (pow-suc, pow-suc) (mul-le-mul_right base (worth_more base i j h (omega arith)))
+
+-- the next digit is worth the base'th part
+pub next_worth : (base k : ℕ) → 0 < base → 0 < k - 1 → base ^ (k - 1) / base ≡ base ^ (k - 1 - 1)
+next_worth base zero h p = absurd (omega arith)
+next_worth base (suc zero) h p = absurd (omega arith)
+next_worth base (suc (suc k)) h p =
+    let o : suc (suc k) - 1 ≡ suc k = omega arith in
+    let o' : suc k - 1 ≡ k = omega arith in
+    rw (o, o') (below base k h)
 
 -- the highest of k digits, then the others
 pub highest_first : (base k n : ℕ) → 0 < k → digits_of base k n ≡ (digit (n / base ^ (k - 1) % base) ∷ []) ++ digits_of base (k - 1) n

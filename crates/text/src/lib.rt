@@ -49,8 +49,10 @@ fn put_digits(room: &mut [u8], at: usize, base: u64, k: u32, n: u64) -> usize
     ensures { text room.new result ≡ appended (text room.old at) (digits_of base k n) }
 {
     let mut place = at.min(room.len());
+    let mut worth = base.pow(k.saturating_sub(1)); // what the highest digit is worth
     for left in (0..k).rev() {
-        place = put_byte(room, place, digit(n / base.pow(left) % base));
+        place = put_byte(room, place, digit(n / worth % base));
+        worth /= base;
     }
     place
 }
