@@ -151,6 +151,7 @@ fn short(inverse: bool, s: &[u8], n: usize, list: &mut [f64], lent: Loan<'_>) ->
 }
 
 // A sheet of one step over a long list: its plan alone is made.
+#[inline(never)]
 fn alone(inverse: bool, s: &[u8], list: &mut [f64], lent: Loan<'_>) -> [Tally; 16]
     requires { 0 < step_count_of s.now }
     ensures { (list.new ≡ (chain_of inverse (lent_in lent.entry) (entries_of (entry_at s.now) 1 0) list.old).list)
@@ -161,6 +162,19 @@ fn alone(inverse: bool, s: &[u8], list: &mut [f64], lent: Loan<'_>) -> [Tally; 1
     let mut tallies = [tally::none(); 16];
     tallies[0] = tally;
     tallies
+}
+
+// A sheet's steps over a long list: the plans of all are made first. In a function of its own that is
+// not inlined, as `alone` is not: a list that needs no room for plans or windows pays for none.
+#[inline(never)]
+fn planned(inverse: bool, s: &[u8], n: usize, list: &mut [f64], lent: Loan<'_>) -> [Tally; 16]
+    requires { (n ≤ 16) × (n ≡ step_count_of s.now) }
+    ensures { (list.new ≡ (chain_of inverse (lent_in lent.entry) (entries_of (entry_at s.now) n 0) list.old).list)
+        × (result ≡ places_of (chain_of inverse (lent_in lent.entry) (entries_of (entry_at s.now) n 0) list.old).tallies) }
+{
+    let mut plans = [sheet_plans::NO_PLAN; 16];
+    sheet_plans::plans_of(inverse, s, n, &mut plans);
+    windows::over(inverse, &plans, n, list, lent)
 }
 
 // A list of whole tuples of any length in rule.
@@ -175,9 +189,7 @@ fn over_list(inverse: bool, s: &[u8], n: usize, list: &mut [f64], lent: Loan<'_>
     if n == 1 {
         return alone(inverse, s, list, lent);
     }
-    let mut plans = [sheet_plans::NO_PLAN; 16];
-    sheet_plans::plans_of(inverse, s, n, &mut plans);
-    windows::over(inverse, &plans, n, list, lent)
+    planned(inverse, s, n, list, lent)
 }
 
 // ----- without a grid --------------------------------------------------------------------------
@@ -224,7 +236,8 @@ pub fn lent_broken(deforms: bool, numbers: usize, velocities: &[f64], marks: &[u
     ensures { result ≡ refusal10 deforms numbers velocities.now marks.now }
 {
     let tuples = lent_for(deforms, numbers);
-    (velocities.len() != 3 * tuples) | (marks.len() != tuples) | over_one(marks)
+    let lengths = (velocities.len() != 3 * tuples) | (marks.len() != tuples);
+    lengths || over_one(marks) // marks of a wrong length are not read
 }
 
 // Whether one of the first n steps is a deformation step.

@@ -1,11 +1,7 @@
--- One case for each way through the tests: a short list, and a sheet of one step, from what the calls
--- ensure; else the plans stand for the sheet's steps, and by `windows_are_the_chain`. Assumes
--- nothing.
+-- One case for each way through the tests: a short list, a sheet of one step, and any other, each from
+-- what the call ensures. Assumes nothing.
 use native.Mathlib.Omega.{arith}
-use mathlib.Core.Path.{◌≡◌, ◌∙◌}
-use Rattle.plans.proofs.Arrays.{sixteen_or_fewer}
-use Rattle.plans.specs.Lent.{lent_in}
-use Rattle.chain.proofs.Windows.{windows_are_the_chain}
+use mathlib.Core.Path.{◌≡◌}
 use Rattle.chain.proofs.over_list.Goals as goal
 
 pub short-requires : goal.short-requires
@@ -23,9 +19,4 @@ returns-then-n-eq1 c =
     rw one c.alone.ensures
 
 pub returns : goal.returns
-returns c =
-    let e = c.over.ensures in
-    let a = c.args in
-    let ready = rw (sixteen_or_fewer a.n c.requires.0) at c.plans_of.ensures in
-    let law = windows_are_the_chain a.inverse (lent_in a.lent) a.s.now _ a.n a.list.now (omega (arith, c.requires.1)) c.requires.0 ready in
-    (e.0 ∙ law.0, e.1 ∙ law.1)
+returns c = c.planned.ensures
