@@ -1,15 +1,18 @@
 -- A slice takes fewer than 2^63 bytes, so no velocity and no mark is lent from index 2^63 on. Any
 -- two indices from there on find the same: a part of a list that begins at one may be moved as if
--- it began at the other (`lent_alike`). Assumes nothing.
-use Prim.Native.Nat.{ℕ, ◌+◌, ◌/◌, ◌^◌, ◌≤◌, ◌<◌}
+-- it began at the other (`lent_alike`), and a sum of two indices that is held within a machine's
+-- numbers and then by `lent_from` finds what the sum itself finds (`lent_there`). Assumes nothing.
+use Prim.Native.Nat.{ℕ, ◌+◌, ◌-◌, ◌/◌, ◌^◌, ◌≤◌, ◌<◌, min}
 use native.Mathlib.Omega.{arith}
 use mathlib.Core.Path.{◌≡◌, refl, sym, ap, ◌∙◌, fun_ext}
 use mathlib.Core.Bool.{Bool, true, false, cond}
 use mathlib.Core.List.{List}
-use borrow.Author.Tests.{ltb-false, le-ltb}
+use borrow.Author.Tests.{ltb-true, ltb-false, le-ltb}
+use native.Mathlib.Nat.{add-zero}
 use lib.Dec.{ltb}
 use lib.ListN.{length, get_or-eq_default}
 use lib.Ieee.{Float, nan}
+use Rattle.std.proofs.Math.Nat.{le-min, min-eq_left}
 use Rattle.tuple.specs.declared.Tuple.{Tuple}
 use Rattle.deformation.specs.declared.Motion.{Motion}
 use Rattle.lists.specs.Run.{Turns, ran_of, count_of}
@@ -31,6 +34,28 @@ module _ (op : Motion) (inverse : Bool) (velocities : List Float) (marks : List 
 
   no-mark : (k : ℕ) → 2 ^ 63 ≤ k → mark_at marks k ≡ 0
   no-mark k h = get_or-eq_default marks 0 (omega (arith, h, hm))
+
+  pub lent_there : (n s j : ℕ) → s ≡ min n (2 ^ 64 - 1)
+      → (velocity_at velocities (cap_of s + j) ≡ velocity_at velocities (n + j)) × (mark_at marks (cap_of s + j) ≡ mark_at marks (n + j))
+  lent_there n s j held = by (ltb n (2 ^ 63)) refl
+    where
+      by : (b : Bool) → ltb n (2 ^ 63) ≡ b
+          → (velocity_at velocities (cap_of s + j) ≡ velocity_at velocities (n + j)) × (mark_at marks (cap_of s + j) ≡ mark_at marks (n + j))
+      by true e =
+          let same : s ≡ n = held ∙ min-eq_left (omega (arith, ltb-true n (2 ^ 63) e)) in
+          let index : cap_of s ≡ n = rw same (rw e refl) in
+          (ap (λ (k : ℕ). velocity_at velocities (k + j)) index, ap (λ (k : ℕ). mark_at marks (k + j)) index)
+      by false e =
+          let far = ltb-false n (2 ^ 63) e in
+          let held_far : 2 ^ 63 ≤ s = rw held (le-min far (omega arith)) in
+          let index : cap_of s ≡ 2 ^ 63 = rw (le-ltb s (2 ^ 63) held_far) refl in
+          (ap (λ (k : ℕ). velocity_at velocities (k + j)) index ∙ no-velocity (2 ^ 63 + j) (omega arith) ∙ sym (no-velocity (n + j) (omega (arith, far))), ap (λ (k : ℕ). mark_at marks (k + j)) index ∙ no-mark (2 ^ 63 + j) (omega arith) ∙ sym (no-mark (n + j) (omega (arith, far))))
+
+  pub lent_at : (n s : ℕ) → s ≡ min n (2 ^ 64 - 1)
+      → (velocity_at velocities (cap_of s) ≡ velocity_at velocities n) × (mark_at marks (cap_of s) ≡ mark_at marks n)
+  lent_at n s held =
+      let e = lent_there n s 0 held in
+      (rw (add-zero (cap_of s), add-zero n) at e.0, rw (add-zero (cap_of s), add-zero n) at e.1)
 
   -- the turns of two parts from there on are the same, and those that count who meets an angle out
   -- of reach

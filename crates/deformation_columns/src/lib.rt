@@ -118,7 +118,7 @@ impl<'a> FixStep for Lent<'a> {
     ghost met = { λ step i v. moved_met step.op (mark_at step.marks.now (step.first + i)) v };
 
     fn one(self, i: usize, v: Tuple) -> Fix {
-        let k = self.first + i;
+        let k = lent_from(self.first.saturating_add(i)); // for any index, so none is asked for
         let velocity = turns::velocity_at(self.velocities, k);
         let mark = turns::mark_at(self.marks, k);
         let r = reach::moved(self.op, self.inverse, velocity, mark, v);
@@ -148,7 +148,7 @@ impl<'a> FixStep for Lent<'a> {
         let mut north = [0.0; WIDTH];
         let mut up = [0.0; WIDTH];
         let mut m = [0u8; WIDTH];
-        let k = self.first + i;
+        let k = lent_from(self.first.saturating_add(i));
         velocity_block(self.velocities, k, &mut east, &mut north, &mut up);
         mark_block(self.marks, k, &mut m);
         let n = deformation_block::moved_block(

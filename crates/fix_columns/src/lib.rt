@@ -11,7 +11,7 @@
 // but the step's own. Used by deformation over columns.
 #![tactic(auto)]
 
-ghost use Rattle.std.specs.Prelude.{◌≡◌, Bool, ℕ, ◌+◌, ◌^◌, ◌≤◌, ◌<◌, length};
+ghost use Rattle.std.specs.Prelude.{◌≡◌, Bool, ℕ, ◌+◌, ◌≤◌, ◌<◌, length};
 ghost use Rattle.blocks.specs.Each.{Each, count_to};
 ghost use Rattle.tuple.specs.declared.Tuple.{Tuple};
 ghost use Rattle.tuple.specs.declared.Shifted.{Shifted};
@@ -48,7 +48,6 @@ pub trait FixStep: Copy {
     ghost met: { Self → ℕ → Tuple → Bool };
 
     fn one(self, i: usize, v: Tuple) -> Fix
-        requires { i < 2 ^ 63 }
         ensures { (result.tuple ≡ (shifted self i v).tuple)
             × (result.counted ≡ (shifted self i v).counted)
             × (result.met ≡ met self i v) };
@@ -66,7 +65,6 @@ pub trait FixStep: Copy {
         oz: &mut [f64; WIDTH],
         ot: &mut [f64; WIDTH],
     ) -> Counts
-        requires { i + 16 < 2 ^ 63 }
         ensures { Each ox.new (λ (j : ℕ). (shifted self (i + j) (row_of x.now y.now z.now t.now j)).tuple.x)
             × Each oy.new (λ (j : ℕ). (shifted self (i + j) (row_of x.now y.now z.now t.now j)).tuple.y)
             × Each oz.new (λ (j : ℕ). (shifted self (i + j) (row_of x.now y.now z.now t.now j)).tuple.z)
