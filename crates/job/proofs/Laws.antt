@@ -24,14 +24,13 @@ unfolding number_at word64 word32
 number_in_rest bs at = simp (get_or-drop, add-zero, zero-add, add_assoc)
 
 -- one more number put into a list: what is done and what is to come
-pub one_more : (l : List Float) (i n : ℕ) (bs : List ℕ) (whole : List Float) → i < length l → length l ≡ n
-    → take i l ++ numbers_of (n - i) (drop (8 * i) bs) ≡ whole
-    → take (i + 1) (set l i (number_at bs (8 * i))) ++ numbers_of (n - (i + 1)) (drop (8 * (i + 1)) bs) ≡ whole
+pub one_more : (l : List Float) (i n at : ℕ) (bs : List ℕ) (whole : List Float) → i < length l → length l ≡ n
+    → take i l ++ numbers_of (n - i) (drop at bs) ≡ whole
+    → take (i + 1) (set l i (number_at bs at)) ++ numbers_of (n - (i + 1)) (drop (at + 8) bs) ≡ whole
 unfolding numbers_of
-one_more l i n bs whole h e w =
+one_more l i n at bs whole h e w =
     let p : n - i ≡ suc (n - suc i) = omega arith in
-    let q : 8 * (i + 1) ≡ 8 * i + 8 = omega arith in
-    rw (q, ← drop-drop 8 (8 * i) bs, ← number_in_rest bs (8 * i), add-one i, take-suc-set l i (number_at (drop (8 * i) bs) 0) h, append_snoc) (rw p at w)
+    rw (← drop-drop 8 at bs, ← number_in_rest bs at, add-one i, take-suc-set l i (number_at (drop at bs) 0) h, append_snoc) (rw p at w)
 
 -- before the first, and past the last
 pub none_yet : (l : List Float) (bs : List ℕ) → take 0 l ++ numbers_of (length l - 0) (drop (8 * 0) bs) ≡ numbers_of (length l) bs

@@ -118,19 +118,18 @@ module _ (inverse : Bool) (s : List ℕ) (old : KeptColumns) (index : ℕ) (fix 
       pub list_level : LevelColumns old.list
       list_level = even.0
 
-      -- the columns are of one length after the call too
-      module _ (level : LevelColumns new.list) where
-        -- the stretch lies in the columns
-        pub rows_fit : index + done.redone ≤ length new.list.x
-        rows_fit =
-            let fits : 4 * (index + done.redone) ≤ length (flat_list_of new.list) = stretch-fits inverse s (flat_kept_of old) index fix told h in
-            let long = flat-length _ _ _ _ level in
-            omega (arith, fits, long)
+      -- the stretch lies in the list
+      pub rows_fit : 4 * (index + done.redone) ≤ length (flat_list_of new.list)
+      rows_fit = stretch-fits inverse s (flat_kept_of old) index fix told h
 
-        -- what the pass finds in the stretch
-        pub columns-met : {n : ℕ} → n ≡ (tally_of (time_pass (shift_in s)) 0 (before_of (shift_in s) (flat_list_of new.track) index) (fixes_from (flat_list_of new.list) index done.redone)).met
-            → n ≡ stretch_columns_met_of inverse s old index fix
-        columns-met en =
-            let size : 4 * (index + done.redone) - 4 * index ≡ 4 * done.redone = omega arith in
-            stretch-met inverse s (flat_kept_of old) index fix told h (rw size en)
-            ∙ same_number (ap (λ (c : Corrected). c.redone) (the-correction-gives-the-old-answer inverse s old even index fix))
+      -- and in the columns where they are of one length after the call too
+      pub rows_in : LevelColumns new.list → index + done.redone ≤ length new.list.x
+      rows_in level = let long = flat-length _ _ _ _ level in omega (arith, rows_fit, long)
+
+      -- what the pass finds in the stretch
+      pub columns-met : {n : ℕ} → n ≡ (tally_of (time_pass (shift_in s)) 0 (before_of (shift_in s) (flat_list_of new.track) index) (fixes_from (flat_list_of new.list) index done.redone)).met
+          → n ≡ stretch_columns_met_of inverse s old index fix
+      columns-met en =
+          let size : 4 * (index + done.redone) - 4 * index ≡ 4 * done.redone = omega arith in
+          stretch-met inverse s (flat_kept_of old) index fix told h (rw size en)
+          ∙ same_number (ap (λ (c : Corrected). c.redone) (the-correction-gives-the-old-answer inverse s old even index fix))
