@@ -49,6 +49,16 @@ fn judge(
     Ok(())
 }
 
+// A list's numbers into a room as long.
+fn copy(from: &[f64], to: &mut [f64])
+    requires { length to.old ≡ length from.now }
+    ensures { to.new ≡ from.now }
+{
+    for i in 0..from.len() {
+        to[i] = from[i];
+    }
+}
+
 // A list forward and then inverse, in place. Neither way is refused where the rules are kept.
 fn there_and_back(s: &[u8], list: &mut [f64], velocities: &[f64], marks: &[u8])
     requires { ((refusal_of s.now).number ≡ 0) × (refusal9 (length list.old) ≡ false)
@@ -74,7 +84,7 @@ fn close(
     ensures { (room.new ≡ there_and_back_of s.now velocities.now marks.now list.now)
         × (result ≡ added_of report list.now (there_and_back_of s.now velocities.now marks.now list.now)) }
 {
-    room.copy_from_slice(list); // the list as it was
+    copy(list, room); // the list as it was
     there_and_back(s, room, velocities, marks);
     closure_report::add(report, list, room)
 }
@@ -152,7 +162,7 @@ fn grid_close(
     ensures { (room.new ≡ grid_there_and_back_of s.now velocities.now marks.now grid.now list.now)
         × (result ≡ added_of report list.now (grid_there_and_back_of s.now velocities.now marks.now grid.now list.now)) }
 {
-    room.copy_from_slice(list);
+    copy(list, room);
     grid_there_and_back(s, room, velocities, marks, grid);
     closure_report::add(report, list, room)
 }

@@ -18,6 +18,16 @@ ghost use Rattle.stretch.specs.KeptColumns.{rows_beside_of};
 
 use helmert::{Shift, State};
 
+// A column's numbers into another as long.
+fn copy(from: &[f64], to: &mut [f64])
+    requires { length to.old ≡ length from.now }
+    ensures { to.new ≡ from.now }
+{
+    for i in 0..from.len() {
+        to[i] = from[i];
+    }
+}
+
 // Four columns into four others.
 fn copy_columns(
     x: &[f64],
@@ -33,10 +43,10 @@ fn copy_columns(
     ensures { flat_of rx.new ry.new rz.new rt.new
         ≡ flat_of x.now y.now z.now t.now }
 {
-    rx.copy_from_slice(x);
-    ry.copy_from_slice(y);
-    rz.copy_from_slice(z);
-    rt.copy_from_slice(t);
+    copy(x, rx);
+    copy(y, ry);
+    copy(z, rz);
+    copy(t, rt);
 }
 
 // The list's rows copied into the results, and the step run over them from a state on.
