@@ -67,6 +67,9 @@ pub fn add(room: &mut [u8], len: usize, inverted: u32, step: Step) -> Result<usi
     ensures { let o = added_of room.old len inverted step in
         (result ≡ unless o.answer.refusal o.answer.length) × (room.new ≡ o.room) }
 {
-    let sheet = standing(room, len)?;
-    written(with_step(sheet, inverted, step), room)
+    // A `match`, since `?` copies the record of 4 kB once more.
+    match standing(room, len) {
+        Ok(sheet) => written(with_step(sheet, inverted, step), room),
+        Err(refusal) => Err(refusal),
+    }
 }
