@@ -1,13 +1,12 @@
 -- What a fresh run and a correction over columns tell, by the laws of the flat lists that the columns
 -- stand for. Assumes nothing.
-use Prim.Native.Nat.{ℕ, ◌+◌, ◌*◌, ◌-◌, ◌≤◌, ◌<◌}
+use Prim.Native.Nat.{ℕ, ◌+◌, ◌*◌, ◌-◌, ◌≤◌}
 use native.Mathlib.Omega.{arith}
 use mathlib.Core.Path.{◌≡◌, refl, sym, ap, ◌∙◌}
 use mathlib.Core.Bool.{Bool, true, false, cond}
 use mathlib.Core.List.{List, [], ◌∷◌}
 use lib.Dec.{eqb}
 use lib.ListN.{length}
-use lib.Ieee.{Float}
 use borrow.Author.Tests.{eq-eqb, ne_eqb, eqb-true, eqb-false}
 use Rattle.tuple.specs.declared.Tuple.{Tuple}
 use Rattle.helmert.specs.Modes.{start_of}
@@ -20,10 +19,10 @@ use Rattle.tally.specs.Tallies.{no_tally}
 use Rattle.plans.specs.Passes.{tally_of}
 use Rattle.stretch.specs.Kept.{before_of}
 use Rattle.stretch.specs.KeptColumns.{KeptColumns, flat_list_of, flat_kept_of, kept_columns_of, LevelColumns, AllLevel}
-use Rattle.kept.specs.Entries.{Corrected, refusal12, refusal14, shift_in, reversed_in, keep_refusal_of, CorrectOutcome, outcome, corrected_as, correct_of}
-use Rattle.kept.proofs.Answers.{passed, first_stays}
+use Rattle.kept.specs.Entries.{Corrected, refusal12, refusal14, shift_in, reversed_in, CorrectOutcome, outcome, corrected_as, correct_of}
+use Rattle.kept.proofs.Answers.{first_stays}
 use Rattle.kept_columns.specs.Columns.{list_uneven, kept_uneven, keep_columns_refusal_of, correct_columns_refusal_of, CorrectColumnsOutcome, columns_outcome, correct_columns_of}
-use Rattle.kept_columns.proofs.Columns.{keep-refused-alike, passes-level, the-correction-gives-the-old-answer, the-correction-leaves-the-old-lists}
+use Rattle.kept_columns.proofs.Columns.{passes-level, the-correction-gives-the-old-answer, the-correction-leaves-the-old-lists}
 use Rattle.kept_reach.specs.Reach.{fixes_from, met_from, stretch_met_of, time_pass}
 use Rattle.kept_reach.proofs.Along.{by-times}
 use Rattle.kept_reach.proofs.Stretch.{refused-met, stretch-fits, stretch-met}

@@ -1,7 +1,7 @@
 -- The plans stand for the sheet's steps, and by `windows_are_the_chain` what they make of the list in
 -- windows is the chain. Assumes nothing.
 use native.Mathlib.Omega.{arith}
-use mathlib.Core.Path.{◌≡◌, ◌∙◌}
+use mathlib.Core.Path.{◌∙◌}
 use Rattle.plans.proofs.Arrays.{sixteen_or_fewer}
 use Rattle.plans.specs.Lent.{lent_in}
 use Rattle.chain.proofs.Windows.{windows_are_the_chain}

@@ -2,10 +2,9 @@
 -- the step's own index finds (`lent_there`). Assumes nothing.
 use Prim.Native.Nat.{ℕ, ◌+◌}
 use native.Mathlib.Omega.{arith}
-use mathlib.Core.Path.{ap, ◌∙◌}
+use mathlib.Core.Path.{ap}
 use Rattle.blocks.proofs.Laws.{told}
 use Rattle.deformation.specs.declared.Velocity.{Velocity}
-use Rattle.turns.specs.Turns.{velocity_at, mark_at}
 use Rattle.deformation_columns.proofs.Beyond.{lent_there}
 use Rattle.deformation_columns.proofs.Sixteen.{moved-made}
 use Rattle.deformation_columns.proofs.LentFixStep.sixteen.Goals as goal
